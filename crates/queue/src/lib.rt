@@ -1,4 +1,5 @@
 use sizes::QUEUE;
+
 pub struct Item {
     pub event: i32,
     pub arg: i32,
@@ -7,4 +8,15 @@ pub struct Item {
 pub struct Queue {
     pub len: usize,
     pub items: [Item; QUEUE],
+}
+
+pub struct Queued {
+    pub done: bool,
+    pub queue: Queue,
+}
+
+pub struct Removed {
+    pub done: bool,
+    pub front: Item,
+    pub queue: Queue,
 }

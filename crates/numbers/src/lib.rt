@@ -1,0 +1,4 @@
+pub enum Place {
+    Empty,
+    At(usize),
+}
