@@ -4,3 +4,11 @@ pub mod Chart
 pub mod Value
 pub mod Tree
 pub mod Rules
+pub mod Widget
+pub mod Effects
+pub mod Entry
+pub mod Reaction
+pub mod Foreign
+pub mod Calls
+pub mod Examples
+pub mod Open
