@@ -1,11 +1,18 @@
 // The sizes of document 01, "Sizes": one name each, and no other place in the code has the number.
 pub const STATES: usize = 64;
+
 pub const VARIABLES: usize = 16;
+
 pub const EVENTS: usize = 32;
+
 pub const TRANSITIONS: usize = 128;
+
 pub const ACTIONS: usize = 256;
+
 pub const QUEUE: usize = 16;
+
 pub const NULL_STEPS: usize = 32;
+
 pub const TEXT: usize = 32768;
 // Every constant, argument and range end lies within plus or minus this.
 pub const MOST: i32 = 1000000000;

@@ -1,0 +1,5 @@
+pub mod Equal
+pub mod Range
+pub mod Hold
+pub mod Place
+pub mod Reference
