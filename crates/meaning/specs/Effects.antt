@@ -22,8 +22,9 @@ use Rattle.meaning.specs.Widget.{Entry, left, entered, changed, sent, to
 unfoldable pub held : VarRow → ℤ → ℤ
 held r x = holdZ x (r .low) (r .high)
 
-unfoldable pub assign : List VarRow → ℕ → ℤ → Step Ctx
-assign vs v x = let y = held (var-row vs v) x in emit (changed v y) then change (set-value v y)
+-- the variable v, whose row is r, takes the value x
+unfoldable pub assign : VarRow → ℕ → ℤ → Step Ctx
+assign r v x = emit (changed v (held r x)) then change (set-value v (held r x))
 
 -- the queue after an append, or 9
 unfoldable pub take-queue : Queued → Step Ctx
@@ -33,13 +34,24 @@ take-queue q = require 9 (q .done) then change (set-queue (q .queue))
 unfoldable pub enqueue : ℤ → ℤ → Step Ctx
 enqueue e x = look (λ k. take-queue (appended (k .state .queue) e x))
 
--- an act with the argument a of the event
+-- an act with the argument a of the event, over the row of its variable
+unfoldable pub act-on : VarRow → ℤ → Act → Step Ctx
+act-on r a (set-to v x) = assign r v x
+act-on r a (add-to v x) = look (λ k. assign r v (value-of (k .state) v +ℤ x))
+act-on r a (take-to v) = assign r v a
+act-on r a (send e x) = emit (sent e x) then enqueue (pos e) x
+act-on r a (tell x) = emit (told x)
+
+-- the variable of an act; send and tell have none
+unfoldable pub act-var : Act → ℕ
+act-var (set-to v x) = v
+act-var (add-to v x) = v
+act-var (take-to v) = v
+act-var (send e x) = 0
+act-var (tell x) = 0
+
 unfoldable pub perform : List VarRow → ℤ → Act → Step Ctx
-perform vs a (set-to v x) = assign vs v x
-perform vs a (add-to v x) = look (λ k. assign vs v (value-of (k .state) v +ℤ x))
-perform vs a (take-to v) = assign vs v a
-perform vs a (send e x) = emit (sent e x) then enqueue (pos e) x
-perform vs a (tell x) = emit (told x)
+perform vs a x = act-on (var-row vs (act-var x)) a x
 
 -- ---- an owner's actions, "in line order"
 
@@ -101,5 +113,5 @@ enter c a s = mark-entered s then perform-all c a (entry-of s)
 
 -- everything above, opened: for statements that compute
 unfoldable pub effects-open : ℕ
-unfolding held assign take-queue enqueue perform same-owner acts-in acts-of perform-all o-parent store-in mark-left leave mark-entered enter
+unfolding held assign take-queue enqueue act-on act-var perform same-owner acts-in acts-of perform-all o-parent store-in mark-left leave mark-entered enter
 effects-open = 0

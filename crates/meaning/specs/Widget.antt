@@ -9,6 +9,10 @@ use lib.Dec.{leb}
 use Rattle.queue.specs.declared.Queue.{Queue}
 use Rattle.meaning.specs.declared.State.{State}
 use Rattle.meaning.specs.Steps.{Res, ok, refuse, Step, _then_, require}
+-- "An empty slot is -1": a slot is empty, or holds a state; no number below 0 is a state
+pub use Rattle.numbers.specs.declared.Place.{Place as Slot}
+pub use Rattle.numbers.specs.declared.Place.the-variants.{Empty as empty, At as holds}
+pub use Rattle.numbers.specs.Place.{placeOf as as-slot}
 
 -- the state, the trace numbers so far, and how many more numbers there is room for
 pub record Ctx : Type 0 where
@@ -21,15 +25,7 @@ pub record Ctx : Type 0 where
 unfoldable pub is-active : State → ℕ → Bool
 is-active u s = getD (u .active) s false
 
--- what a slot holds: "An empty slot is -1", and no number below 0 is ever taken for a state
-pub data Slot : Type 0 where
-  empty : Slot
-  holds : ℕ → Slot
-
-unfoldable pub as-slot : ℤ → Slot
-as-slot (pos n) = holds n
-as-slot (negsuc n) = empty
-
+-- what a slot holds; a slot is told from a state by its own type, so that no marker is ever taken for a state
 unfoldable pub slot : State → ℕ → Slot
 slot u s = as-slot (getD (u .slots) s (negsuc 0))
 
@@ -95,5 +91,5 @@ begin u n = record { state = u; out = []; room = n }
 
 -- everything above, opened: for statements that compute
 unfoldable pub widget-open : ℕ
-unfolding is-active as-slot slot is-empty is-filled value-of set-active set-slot set-value set-queue change numbers written emit begin
+unfolding is-active slot is-empty is-filled value-of set-active set-slot set-value set-queue change numbers written emit begin
 widget-open = 0
