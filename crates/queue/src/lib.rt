@@ -56,12 +56,13 @@ impl Queue {
                 queue: self,
             };
         }
+        let end = at + 1;
         let mut next = self;
         next.items[at] = Item {
             event: event,
             arg: arg,
         };
-        next.len = at + 1;
+        next.len = end;
         Queued {
             done: true,
             queue: next,
