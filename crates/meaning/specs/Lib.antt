@@ -10,5 +10,9 @@ pub mod Entry
 pub mod Reaction
 pub mod Foreign
 pub mod Calls
+pub mod Plan
+pub mod Compile
+pub mod WellFormed
+pub mod Machine
 pub mod Examples
 pub mod Open
