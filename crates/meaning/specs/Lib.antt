@@ -4,3 +4,8 @@ pub mod Chart
 pub mod Value
 pub mod Tree
 pub mod Rules
+pub mod Number
+pub mod Split
+pub mod Line
+pub mod Text
+pub mod TextExamples
