@@ -10,5 +10,10 @@ pub mod Entry
 pub mod Reaction
 pub mod Foreign
 pub mod Calls
+pub mod Number
+pub mod Split
+pub mod Line
+pub mod Text
+pub mod Program
 pub mod Examples
 pub mod Open

@@ -14,8 +14,13 @@ use Rattle.meaning.specs.Entry.{entry-open}
 use Rattle.meaning.specs.Reaction.{reaction-open}
 use Rattle.meaning.specs.Foreign.{foreign-open}
 use Rattle.meaning.specs.Calls.{calls-open}
+use Rattle.meaning.specs.Number.{number-open}
+use Rattle.meaning.specs.Split.{split-open}
+use Rattle.meaning.specs.Line.{line-open}
+use Rattle.meaning.specs.Text.{text-open}
+use Rattle.meaning.specs.Program.{program-open}
 use Rattle.meaning.specs.Examples.{examples-open}
 
 unfoldable pub all-open : ℕ
-unfolding inRange within holdZ empty-queue appended removed steps-open lists-open value-open tree-open rules-open widget-open effects-open entry-open reaction-open foreign-open calls-open examples-open
+unfolding inRange within holdZ empty-queue appended removed steps-open lists-open value-open tree-open rules-open widget-open effects-open entry-open reaction-open foreign-open calls-open number-open split-open line-open text-open program-open examples-open
 all-open = 0
