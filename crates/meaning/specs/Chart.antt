@@ -1,64 +1,32 @@
 -- The chart as rows (01, "Chart text"): what the records S, V, E, T and A state. Assumes nothing.
--- A number that refers to a state, a variable, an event or a transition is a natural one here; one below 0
--- names nothing and is NOWHERE, which no chart has.
+-- The rows and their fields are the types declared in src/chart.rt, by the names that the definitions use. A number that refers to a
+-- state, a variable, an event or a transition is a natural one; one below 0 names nothing and is NOWHERE, which no chart has.
 use Prim.Native.Nat.{ℕ}
 use mathlib.Core.List.{List}
 use lib.IntN.{ℤ, pos}
-
 -- kind (o, a, b)
-pub data Kind : Type 0 where
-  kind-o kind-a kind-b : Kind
-
+pub use Rattle.meaning.specs.declared.chart.Kind.{Kind}
+pub use Rattle.meaning.specs.declared.chart.Kind.the-variants.{O as kind-o, A as kind-a, B as kind-b}
 -- guard sign (=, <, >)
-pub data Sign : Type 0 where
-  equal less more : Sign
-
+pub use Rattle.meaning.specs.declared.chart.Sign.{Sign}
+pub use Rattle.meaning.specs.declared.chart.Sign.the-variants.{Equal as equal, Less as less, More as more}
 -- "The three guard fields are all - or none is": variable, sign, constant
-pub data Guard : Type 0 where
-  always : Guard
-  compares : ℕ → Sign → ℤ → Guard
-
+pub use Rattle.meaning.specs.declared.chart.Guard.{Guard}
+pub use Rattle.meaning.specs.declared.chart.Guard.the-variants.{Always as always, Compares as compares}
 -- a state, the history of a state, or a reaction in place
-pub data Target : Type 0 where
-  to : ℕ → Target
-  history : ℕ → Target
-  in-place : Target
-
+pub use Rattle.meaning.specs.declared.chart.Target.{Target}
+pub use Rattle.meaning.specs.declared.chart.Target.the-variants.{To as to, History as history, InPlace as in-place}
 -- acts s, a, k, q, o: set, add, take, send, tell
-pub data Act : Type 0 where
-  set-to : ℕ → ℤ → Act
-  add-to : ℕ → ℤ → Act
-  take-to : ℕ → Act
-  send : ℕ → ℤ → Act
-  tell : ℤ → Act
-
+pub use Rattle.meaning.specs.declared.chart.Act.{Act}
+pub use Rattle.meaning.specs.declared.chart.Act.the-variants.{SetTo as set-to, AddTo as add-to, TakeTo as take-to, Send as send, Tell as tell}
 -- owner kinds e, x, d, t
-pub data Owner : Type 0 where
-  entry-of exit-of default-of transition-of : ℕ → Owner
-
--- S, number, parent, kind, default; "-" is 0
-pub record StateRow : Type 0 where
-  pub parent : ℕ
-  pub kind : Kind
-  pub default : ℕ
-
--- V, number, low, high, first value
-pub record VarRow : Type 0 where
-  pub low : ℤ
-  pub high : ℤ
-  pub first : ℤ
-
--- T, number, source, trigger, guard, target
-pub record TransRow : Type 0 where
-  pub source : ℕ
-  pub trigger : ℕ
-  pub guard : Guard
-  pub target : Target
-
--- A, owner, act
-pub record ActRow : Type 0 where
-  pub owner : Owner
-  pub act : Act
+pub use Rattle.meaning.specs.declared.chart.Owner.{Owner}
+pub use Rattle.meaning.specs.declared.chart.Owner.the-variants.{EntryOf as entry-of, ExitOf as exit-of, DefaultOf as default-of, TransitionOf as transition-of}
+-- S: parent, kind, default; V: low, high, first; T: source, trigger, guard, target; A: owner, act
+pub use Rattle.meaning.specs.declared.chart.StateRow.{StateRow}
+pub use Rattle.meaning.specs.declared.chart.VarRow.{VarRow}
+pub use Rattle.meaning.specs.declared.chart.TransRow.{TransRow}
+pub use Rattle.meaning.specs.declared.chart.ActRow.{ActRow}
 
 -- the records of a chart in their order; events are the count of E
 pub record Chart : Type 0 where
@@ -77,3 +45,6 @@ no-var = record { low = pos 0; high = pos 0; first = pos 0 }
 
 abbrev pub no-trans : TransRow
 no-trans = record { source = 0; trigger = 0; guard = always; target = in-place }
+
+abbrev pub no-action : ActRow
+no-action = record { owner = entry-of 0; act = tell (pos 0) }

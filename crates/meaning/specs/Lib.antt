@@ -4,8 +4,16 @@ pub mod Chart
 pub mod Value
 pub mod Tree
 pub mod Rules
+pub mod Widget
+pub mod Effects
+pub mod Entry
+pub mod Reaction
+pub mod Foreign
+pub mod Calls
 pub mod Number
 pub mod Split
 pub mod Line
 pub mod Text
-pub mod TextExamples
+pub mod Program
+pub mod Examples
+pub mod Open

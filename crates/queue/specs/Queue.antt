@@ -4,7 +4,7 @@ use mathlib.Core.List.{List, [], _∷_, _++_}
 use Prim.Native.Nat.{ℕ, _+_, _-_}
 use lib.Dec.{ltb, eqb}
 use lib.IntN.{ℤ, pos}
-use lib.ListN.{getD, set, take, drop, replicate}
+use lib.ListN.{length, getD, set, take, drop, replicate}
 use Rattle.sizes.specs.Sizes.{QUEUE}
 use Rattle.queue.specs.declared.Item.{Item}
 use Rattle.queue.specs.declared.Queue.{Queue}
@@ -26,6 +26,10 @@ empty-queue = record { len = 0; items = replicate QUEUE none }
 -- the events that wait, the front one first
 abbrev pub waiting : Queue → List Item
 waiting q = take (q .len) (q .items)
+
+-- the queue in which these wait, with every place not in use free
+unfoldable pub queue-of : List Item → Queue
+queue-of w = record { len = length w; items = w ++ replicate (QUEUE - length w) none }
 
 -- 01: post appends an event with an argument; the queue stays as it was where it is full
 unfoldable pub appended : Queue → ℤ → ℤ → Queued

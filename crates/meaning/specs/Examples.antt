@@ -1,0 +1,68 @@
+-- Charts and widgets to compute with: chart K of 01 ("Checked by example") and the chart of two null components. Assumes nothing.
+use Prim.Native.Nat.{ℕ, zero, suc}
+use mathlib.Core.Bool.{Bool, true, false}
+use mathlib.Core.List.{List, [], _∷_}
+use lib.IntN.{ℤ, pos, negsuc}
+use Rattle.meaning.specs.declared.State.{State}
+use Rattle.meaning.specs.Chart.{Kind, kind-o, kind-a, kind-b, Guard, always, compares, equal, Target, to, history, in-place, set-to, add-to, tell, entry-of, exit-of, default-of, transition-of}
+use Rattle.meaning.specs.Chart.{StateRow, VarRow, TransRow, ActRow, Act, Owner, Chart}
+use Rattle.meaning.specs.Calls.{Outcome, start, run, post}
+
+unfoldable pub st : ℕ → Kind → ℕ → StateRow
+st p k d = record { parent = p; kind = k; default = d }
+
+unfoldable pub tr : ℕ → ℕ → Guard → Target → TransRow
+tr s e g t = record { source = s; trigger = e; guard = g; target = t }
+
+unfoldable pub ac : Owner → Act → ActRow
+ac o a = record { owner = o; act = a }
+
+-- chart K
+unfoldable pub chart-K : Chart
+chart-K = record {
+  states = st 0 kind-o 1 ∷ st 0 kind-b 0 ∷ st 0 kind-o 3 ∷ st 2 kind-b 0 ∷ st 2 kind-b 0 ∷ [];
+  vars = record { low = negsuc 99; high = pos 100; first = pos 0 } ∷ [];
+  events = 2;
+  transitions = tr 1 1 always (history 2) ∷ tr 3 2 always (to 4) ∷ tr 2 1 always (to 1) ∷ [];
+  actions = ac (entry-of 4) (tell (pos 7)) ∷ ac (exit-of 2) (add-to 0 (pos 60)) ∷ ac (default-of 2) (tell (pos 9)) ∷ [];
+}
+
+-- "Two components, null transitions: the higher source sets v to 1, the lower has guard v = 0, v is 0"
+unfoldable pub chart-two : Chart
+chart-two = record {
+  states =
+      st 0 kind-o 1 ∷ st 0 kind-a 0 ∷ st 1 kind-o 3 ∷ st 2 kind-b 0 ∷ st 2 kind-b 0 ∷ st 1 kind-o 6 ∷ st 5 kind-b 0 ∷ st 5 kind-b 0 ∷ [];
+  vars = record { low = negsuc 99; high = pos 100; first = pos 0 } ∷ [];
+  events = 0;
+  transitions = tr 3 0 (compares 0 equal (pos 0)) (to 4) ∷ tr 6 0 always (to 7) ∷ [];
+  actions = ac (transition-of 1) (set-to 0 (pos 1)) ∷ [];
+}
+
+-- a component that is its own source and target: its scope lies above its a parent, so every component is left and entered
+unfoldable pub chart-self : Chart
+chart-self = record {
+  states =
+      st 0 kind-o 1 ∷ st 0 kind-a 0 ∷ st 1 kind-o 3 ∷ st 2 kind-b 0 ∷ st 1 kind-o 5 ∷ st 4 kind-b 0 ∷ [];
+  vars = [];
+  events = 1;
+  transitions = tr 2 1 always (to 2) ∷ [];
+  actions = [];
+}
+
+-- a history entered from inside its own owner: it restores what that very firing has just left
+unfoldable pub chart-inside : Chart
+chart-inside = record {
+  states = st 0 kind-o 1 ∷ st 0 kind-o 2 ∷ st 1 kind-b 0 ∷ st 1 kind-b 0 ∷ [];
+  vars = [];
+  events = 2;
+  transitions = tr 2 1 always (to 3) ∷ tr 3 2 always (history 1) ∷ [];
+  actions = ac (default-of 1) (tell (pos 9)) ∷ [];
+}
+
+-- post the event with argument 0 and run it, with room for n trace numbers
+unfoldable pub react-to : Chart → ℕ → ℕ → State → Outcome
+react-to c n e u = run c (post c u (pos e) (pos 0) .after) n
+
+unfoldable pub examples-open : ℕ
+unfolding st tr ac chart-K chart-two chart-self chart-inside react-to
+examples-open = 0

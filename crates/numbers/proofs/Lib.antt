@@ -1,0 +1,4 @@
+pub mod Laws
+pub mod Ranges
+pub mod Offset
+pub mod Elements
