@@ -7,8 +7,8 @@ use lib.IntN.{ℤ, pos, negsuc}
 use Rattle.meaning.specs.Open.{all-open}
 use Rattle.meaning.specs.Lists.{concat-map}
 use Rattle.meaning.specs.Widget.{Entry, taken, left, entered, changed, told, numbers}
-use Rattle.meaning.specs.Calls.{Outcome, start}
-use Rattle.meaning.specs.Examples.{chart-K, chart-two, chart-self, chart-inside, unstarted, react-to}
+use Rattle.meaning.specs.Calls.{Outcome, unstarted, start}
+use Rattle.meaning.specs.Examples.{chart-K, chart-two, chart-self, chart-inside, react-to}
 
 unfoldable pub k-started : Outcome
 k-started = start chart-K unstarted 3000

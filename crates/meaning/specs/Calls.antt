@@ -50,6 +50,10 @@ lent n o = padded n (pos 0) (o .trace)
 
 -- ---- start
 
+-- a widget not yet started
+unfoldable pub unstarted : State
+unstarted = record { started = false; active = replicate STATES false; slots = replicate STATES (negsuc 0); vars = replicate VARIABLES (pos 0); queue = empty-queue }
+
 -- "no state active before, places not in use as above, all slots empty, all variables at their first value and an empty queue"
 unfoldable pub fresh-by : List VarRow → State
 fresh-by vs = record {
@@ -124,5 +128,5 @@ discard-of v u = elim (failing-rule-of v) [
 
 -- everything above, opened: for statements that compute
 unfoldable pub calls-open : ℕ
-unfolding refused outcome called lent fresh-by fresh start-steps start tests take-front react run post discard start-of run-of post-of discard-of
+unfolding refused outcome called lent unstarted fresh-by fresh start-steps start tests take-front react run post discard start-of run-of post-of discard-of
 calls-open = 0

@@ -2,10 +2,7 @@
 use Prim.Native.Nat.{ℕ, zero, suc}
 use mathlib.Core.Bool.{Bool, true, false}
 use mathlib.Core.List.{List, [], _∷_}
-use lib.ListN.{replicate}
 use lib.IntN.{ℤ, pos, negsuc}
-use Rattle.sizes.specs.Sizes.{STATES, VARIABLES}
-use Rattle.queue.specs.Queue.{empty-queue}
 use Rattle.meaning.specs.declared.State.{State}
 use Rattle.meaning.specs.Chart.{Kind, kind-o, kind-a, kind-b, Guard, always, compares, equal, Target, to, history, in-place, set-to, add-to, tell, entry-of, exit-of, default-of, transition-of}
 use Rattle.meaning.specs.Chart.{StateRow, VarRow, TransRow, ActRow, Act, Owner, Chart}
@@ -62,14 +59,10 @@ chart-inside = record {
   actions = ac (default-of 1) (tell (pos 9)) ∷ [];
 }
 
--- a widget not yet started
-unfoldable pub unstarted : State
-unstarted = record { started = false; active = replicate STATES false; slots = replicate STATES (negsuc 0); vars = replicate VARIABLES (pos 0); queue = empty-queue }
-
 -- post the event with argument 0 and run it, with room for n trace numbers
 unfoldable pub react-to : Chart → ℕ → ℕ → State → Outcome
 react-to c n e u = run c (post c u (pos e) (pos 0) .after) n
 
 unfoldable pub examples-open : ℕ
-unfolding st tr ac chart-K chart-two chart-self chart-inside unstarted react-to
+unfolding st tr ac chart-K chart-two chart-self chart-inside react-to
 examples-open = 0

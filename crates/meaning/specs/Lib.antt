@@ -14,5 +14,10 @@ pub mod Plan
 pub mod Compile
 pub mod WellFormed
 pub mod Machine
+pub mod Number
+pub mod Split
+pub mod Line
+pub mod Text
+pub mod Program
 pub mod Examples
 pub mod Open

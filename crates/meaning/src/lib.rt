@@ -27,3 +27,38 @@ pub struct Called {
     pub state: State,
     pub entries: usize,
 }
+
+// A number field of a text (01, "Chart text"): a number of the range, one beyond it, or no number.
+pub enum Num {
+    Is(i32),
+    Beyond,
+    Not,
+}
+
+// The same without a sign.
+pub enum Nat {
+    Is(u64),
+    Beyond,
+    Not,
+}
+
+// One field as it is read: its mark is the answer number that it gives (0, 1 or 2), its value stands in the chart.
+pub struct Cell {
+    pub mark: usize,
+    pub value: i32,
+}
+
+// How far a text was read: the stage in the order S, V, one E, T, A, and the number in turn of each kind of record.
+pub struct Turns {
+    pub stage: usize,
+    pub states: usize,
+    pub vars: usize,
+    pub transitions: usize,
+    pub actions: usize,
+}
+
+// What writing a chart's text gives: the answer, and how many bytes were written.
+pub struct Written {
+    pub answer: Answer,
+    pub length: usize,
+}
