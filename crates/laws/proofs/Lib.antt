@@ -1,0 +1,4 @@
+pub mod Steps
+pub mod Tree
+pub mod Preorder
+pub mod Descent
