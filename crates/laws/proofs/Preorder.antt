@@ -8,8 +8,9 @@ use mathlib.Core.Bool.{Bool, false, true, true≢false}
 use mathlib.Core.List.{List, [], _++_, _∷_}
 use lib.ListN.{length}
 use borrow.Author.Tests.{eq-eqb, eqb-true}
-use Rattle.laws.proofs.Tree.{Ordered, Under, child, deeper, from-add, has-under, is-false, keep-append, keep-cut, keep-none, step-down, under-has}
-use Rattle.laws.proofs.Tree.{under-lt, under-trans}
+use Rattle.laws.proofs.Lists.{is-false}
+use Rattle.laws.proofs.Tree.{Ordered, Under, child, deeper, from-add, has-under, keep-append, keep-cut, keep-none, step-down, under-has, under-lt}
+use Rattle.laws.proofs.Tree.{under-trans}
 use Rattle.meaning.specs.Chart.{Chart}
 use Rattle.meaning.specs.Lists.{concat-map, from, has, keep}
 use Rattle.meaning.specs.Tree.{all-states, ancestors, children, descendants, is-child, parent-of}

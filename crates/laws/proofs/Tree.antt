@@ -4,11 +4,12 @@ use mathlib.Core.Logic.{_⊎_, inl, inr, ⊎-elim}
 use Prim.Native.Nat.{_+_, _-_, _<_, _≤_, suc, zero, ℕ}
 use native.Mathlib.Omega.{arith}
 use native.Mathlib.Nat.{add-suc, add-zero, suc-add, zero-add}
-use mathlib.Core.Bool.{Bool, _||_, cond, false, true, true≢false}
+use mathlib.Core.Bool.{Bool, cond, false, true, true≢false}
 use mathlib.Core.List.{List, [], _++_, _∷_}
 use lib.ListN.{length}
 use lib.Dec.{T, eqb, eqb→eq}
 use borrow.Author.Tests.{eq-eqb}
+use Rattle.laws.proofs.Lists.{is-false, or-cases, or-left, or-right}
 use Rattle.meaning.specs.Chart.{Chart}
 use Rattle.meaning.specs.Lists.{from, has, keep}
 use Rattle.meaning.specs.Tree.{all-states, ancestors, climb, descendants, parent-of}
@@ -39,17 +40,6 @@ module _ (c : Chart) (o : Ordered c) where
 
 T-true : (b : Bool) → b ≡ true → T b
 T-true b e = subst T (sym e) tt
-
-or-cases : (a b : Bool) → (a || b) ≡ true → (a ≡ true) ⊎ (b ≡ true)
-or-cases true b e = inl refl
-or-cases false b e = inr e
-
-or-left : (a b : Bool) → a ≡ true → (a || b) ≡ true
-or-left a b e = rw e refl
-
-or-right : (a b : Bool) → b ≡ true → (a || b) ≡ true
-or-right true b e = refl
-or-right false b e = e
 
 pub climb-under : (c : Chart) (s f d : ℕ) → has s (climb c f d) ≡ true → Under c s d
 unfolding climb has
@@ -96,10 +86,6 @@ pub keep-none : (p : ℕ → Bool) (a n : ℕ) → ((x : ℕ) → a ≤ x → x 
 unfolding keep from
 keep-none p a zero h = refl
 keep-none p a (suc n) h = rw (h a (omega arith) (omega arith)) (keep-none p (suc a) n (λ x l g. h x (omega arith) (omega arith)))
-
-pub is-false : (b : Bool) → (b ≡ true → ⊥) → b ≡ false
-is-false true n = absurd (n refl)
-is-false false n = refl
 
 -- where p, once false, stays so, what is kept is the first part
 abbrev Closed : (ℕ → Bool) → ℕ → ℕ → Type 0
