@@ -19,7 +19,7 @@ use Rattle.meaning.specs.declared.chart.Act.the-variants.{SetTo as set-to, AddT
 use Rattle.meaning.specs.Effects.{held, assign, act-on, take-queue, enqueue, store-in, mark-left, mark-entered}
 use Rattle.widget.specs.declared.Wrote.{Wrote}
 use Rattle.widget.specs.declared.Went.{Went}
-use Rattle.widget.specs.View.{tracing, ctx, said, went, note, Noted, Did}
+use Rattle.widget.specs.View.{tracing, ctx, said, went, note, Noted, Within, Did}
 use Rattle.widget.specs.Acts.{stored, sending}
 use Rattle.widget.proofs.Noting.{emit-notes}
 use Rattle.widget.proofs.Going.{then-on, then-stop, said-any}
@@ -116,6 +116,11 @@ module _ {t : List ℤ} {at : ℕ} {w : Wrote} {t′ : List ℤ} where
       → Did (emit (told x)) a s vs q t at (wrote-went w q) a s vs t′
   unfolding numbers
   told-on {x} d = notes (told x) d
+
+-- the place and the length, from a promise over arrays of any kind
+pub within : {D : Step Ctx} {a : List Bool} {s vs : List ℤ} {q : Queue} {t : List ℤ} {at : ℕ} {r : Went} {a′ : List Bool} {s′ vs′ t′ : List ℤ}
+    → Did D a s vs q t at r a′ s′ vs′ t′ → Within t r t′
+within d = record { fits = d .fits; kept = d .kept }
 
 -- ---- the acts
 

@@ -37,6 +37,11 @@ unfoldable pub went : Went → List Bool → List ℤ → List ℤ → List ℤ 
 unfolding said ctx
 went r active slots vars trace = said (r .number) (ctx active slots vars (r .queue) trace (r .at))
 
+-- the next free place stays within the lent slice, whose length never changes; stated apart where a promise is over arrays of any kind
+pub record Within (trace : List ℤ) (r : Went) (trace′ : List ℤ) : Type 0 where
+  pub fits : r .at ≤ length trace′
+  pub kept : length trace′ ≡ length trace
+
 -- the promise of a step function: from the arrays before it, its result and the arrays after it are what the step gives
 pub record Did (D : Step Ctx) (active : List Bool) (slots vars : List ℤ) (queue : Queue) (trace : List ℤ) (at : ℕ)
     (r : Went) (active′ : List Bool) (slots′ vars′ trace′ : List ℤ) : Type 0 where

@@ -21,7 +21,7 @@ ghost use Rattle.sizes.specs.Sizes.{STATES as states, VARIABLES as variables};
 ghost use Rattle.numbers.specs.Reference.{NOWHERE};
 ghost use Rattle.meaning.specs.Widget.{emit as emits, taken, told};
 ghost use Rattle.meaning.specs.Effects.{act-on, mark-left, mark-entered};
-ghost use Rattle.widget.specs.View.{Noted, Did};
+ghost use Rattle.widget.specs.View.{Noted, Within, Did};
 ghost use Rattle.widget.specs.Acts.{stored, sending, Named, Below};
 
 // How many numbers an entry has.
@@ -72,7 +72,7 @@ pub fn clear_from(trace: &mut [i32], at: usize)
 // 01, "Trace": 1, transition taken.
 pub fn mark_taken(t: usize, queue: Queue, trace: &mut [i32], at: usize) -> Went
     requires { ⌜ (t < NOWHERE) × (at ≤ length (now trace)) ⌝ }
-    ensures { λ r. ⌜ ((active : List Bool) (slots vars : List ℤ) → Did (emits (taken t)) active slots vars queue (now (trace .entry)) at r active slots vars (now (trace .exit))) ⌝ }
+    ensures { λ r. ⌜ Within (now (trace .entry)) r (now (trace .exit)) × ((active : List Bool) (slots vars : List ℤ) → Did (emits (taken t)) active slots vars queue (now (trace .entry)) at r active slots vars (now (trace .exit))) ⌝ }
 {
     let named = number(t);
     let wrote = emit(trace, at, 1, named, 0);
@@ -86,7 +86,7 @@ pub fn mark_taken(t: usize, queue: Queue, trace: &mut [i32], at: usize) -> Went
 // 01, "Trace": 6, number told.
 pub fn tell(x: i32, queue: Queue, trace: &mut [i32], at: usize) -> Went
     requires { ⌜ at ≤ length (now trace) ⌝ }
-    ensures { λ r. ⌜ ((active : List Bool) (slots vars : List ℤ) → Did (emits (told x)) active slots vars queue (now (trace .entry)) at r active slots vars (now (trace .exit))) ⌝ }
+    ensures { λ r. ⌜ Within (now (trace .entry)) r (now (trace .exit)) × ((active : List Bool) (slots vars : List ℤ) → Did (emits (told x)) active slots vars queue (now (trace .entry)) at r active slots vars (now (trace .exit))) ⌝ }
 {
     let wrote = emit(trace, at, 6, x, 0);
     Went {
@@ -106,7 +106,7 @@ pub fn store(
     at: usize,
 ) -> Went
     requires { ⌜ (v < variables) × (at ≤ length (now trace)) ⌝ }
-    ensures { λ r. ⌜ ((active : List Bool) (slots : List ℤ) → Did (stored v value) active slots (now (vars .entry)) queue (now (trace .entry)) at r active slots (now (vars .exit)) (now (trace .exit))) ⌝ }
+    ensures { λ r. ⌜ Within (now (trace .entry)) r (now (trace .exit)) × ((active : List Bool) (slots : List ℤ) → Did (stored v value) active slots (now (vars .entry)) queue (now (trace .entry)) at r active slots (now (vars .exit)) (now (trace .exit))) ⌝ }
 {
     let named = number(v);
     let wrote = emit(trace, at, 4, named, value);
@@ -128,7 +128,7 @@ pub fn store(
 // 01, "Trace": 5, event sent and its argument; at a send 11 before 9.
 pub fn send(e: usize, x: i32, queue: Queue, trace: &mut [i32], at: usize) -> Went
     requires { ⌜ (e < NOWHERE) × (at ≤ length (now trace)) ⌝ }
-    ensures { λ r. ⌜ ((active : List Bool) (slots vars : List ℤ) → Did (sending e x) active slots vars queue (now (trace .entry)) at r active slots vars (now (trace .exit))) ⌝ }
+    ensures { λ r. ⌜ Within (now (trace .entry)) r (now (trace .exit)) × ((active : List Bool) (slots vars : List ℤ) → Did (sending e x) active slots vars queue (now (trace .entry)) at r active slots vars (now (trace .exit))) ⌝ }
 {
     let event = number(e);
     let wrote = emit(trace, at, 5, event, x);
@@ -167,7 +167,7 @@ pub fn perform(
     at: usize,
 ) -> Went
     requires { ⌜ Named act × (at ≤ length (now trace)) ⌝ }
-    ensures { λ r. ⌜ ((active : List Bool) (slots : List ℤ) → Did (act-on row arg act) active slots (now (vars .entry)) queue (now (trace .entry)) at r active slots (now (vars .exit)) (now (trace .exit))) ⌝ }
+    ensures { λ r. ⌜ Within (now (trace .entry)) r (now (trace .exit)) × ((active : List Bool) (slots : List ℤ) → Did (act-on row arg act) active slots (now (vars .entry)) queue (now (trace .entry)) at r active slots (now (vars .exit)) (now (trace .exit))) ⌝ }
 {
     match act {
         Act::SetTo(v, x) => {
@@ -198,7 +198,7 @@ pub fn mark_left(
     at: usize,
 ) -> Went
     requires { ⌜ Below states p × (s < states) × (at ≤ length (now trace)) ⌝ }
-    ensures { λ r. ⌜ ((vars : List ℤ) → Did (mark-left p s) (now (active .entry)) (now (slots .entry)) vars queue (now (trace .entry)) at r (now (active .exit)) (now (slots .exit)) vars (now (trace .exit))) ⌝ }
+    ensures { λ r. ⌜ Within (now (trace .entry)) r (now (trace .exit)) × ((vars : List ℤ) → Did (mark-left p s) (now (active .entry)) (now (slots .entry)) vars queue (now (trace .entry)) at r (now (active .exit)) (now (slots .exit)) vars (now (trace .exit))) ⌝ }
 {
     let named = number(s);
     let wrote = emit(trace, at, 2, named, 0);
@@ -227,7 +227,7 @@ pub fn mark_entered(
     at: usize,
 ) -> Went
     requires { ⌜ (s < states) × (at ≤ length (now trace)) ⌝ }
-    ensures { λ r. ⌜ ((slots vars : List ℤ) → Did (mark-entered s) (now (active .entry)) slots vars queue (now (trace .entry)) at r (now (active .exit)) slots vars (now (trace .exit))) ⌝ }
+    ensures { λ r. ⌜ Within (now (trace .entry)) r (now (trace .exit)) × ((slots vars : List ℤ) → Did (mark-entered s) (now (active .entry)) slots vars queue (now (trace .entry)) at r (now (active .exit)) slots vars (now (trace .exit))) ⌝ }
 {
     let named = number(s);
     let wrote = emit(trace, at, 3, named, 0);

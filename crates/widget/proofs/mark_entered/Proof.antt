@@ -15,7 +15,7 @@ same-length : tie.Need-same-length
 same-length c = search needs
 
 returns : tie.Need-returns
-returns c slots vars = entered-stop (rw (back32 (c .before .before .before .before .before .number .result) (c .before .before .before .before .before .number .ok), c .before .before .before .before .before .number .ensures) at (c .before .before .before .emit .ensures)) (c .if1 .taken)
+returns c = (search needs, λ slots vars. entered-stop (rw (back32 (c .before .before .before .before .before .number .result) (c .before .before .before .before .before .number .ok), c .before .before .before .before .before .number .ensures) at (c .before .before .before .emit .ensures)) (c .if1 .taken))
 
 element-write-active : tie.Need-element-write-active
 element-write-active c = search needs
@@ -24,7 +24,7 @@ same-length-2 : tie.Need-same-length-2
 same-length-2 c = search needs
 
 returns-2 : tie.Need-returns-2
-returns-2 c slots vars = entered-on (rw (back32 (c .before .before .before .before .before .number .result) (c .before .before .before .before .before .number .ok), c .before .before .before .before .before .number .ensures) at (c .before .before .before .emit .ensures)) (c .if1 .left)
+returns-2 c = (search needs, λ slots vars. entered-on (rw (back32 (c .before .before .before .before .before .number .result) (c .before .before .before .before .before .number .ok), c .before .before .before .before .before .number .ensures) at (c .before .before .before .emit .ensures)) (c .if1 .left))
 
 pub mark-entered-spec : {M : Type 1} → statement M
 mark-entered-spec =

@@ -16,7 +16,7 @@ same-length : tie.Need-same-length
 same-length c = search needs
 
 returns : tie.Need-returns
-returns c vars = left-stop (c .before .before .before .before .before .before .args .p) (rw (back32 (c .before .before .before .before .before .number .result) (c .before .before .before .before .before .number .ok), c .before .before .before .before .before .number .ensures) at (c .before .before .before .emit .ensures)) (c .if1 .taken)
+returns c = (search needs, λ vars. left-stop (c .before .before .before .before .before .before .args .p) (rw (back32 (c .before .before .before .before .before .number .result) (c .before .before .before .before .before .number .ok), c .before .before .before .before .before .number .ensures) at (c .before .before .before .emit .ensures)) (c .if1 .taken))
 
 element-write-active : tie.Need-element-write-active
 element-write-active c = search needs
@@ -31,7 +31,7 @@ same-length-2 : tie.Need-same-length-2
 same-length-2 c = search needs
 
 returns-2 : tie.Need-returns-2
-returns-2 c vars = left-alone (rw (back32 (c .before .before .before .before .before .before .before .number .result) (c .before .before .before .before .before .before .before .number .ok), c .before .before .before .before .before .before .before .number .ensures) at (c .before .before .before .before .before .emit .ensures)) (c .before .before .if1 .left) (c .enum-told .given .1)
+returns-2 c = (search needs, λ vars. left-alone (rw (back32 (c .before .before .before .before .before .before .before .number .result) (c .before .before .before .before .before .before .before .number .ok), c .before .before .before .before .before .before .before .number .ensures) at (c .before .before .before .before .before .emit .ensures)) (c .before .before .if1 .left) (c .enum-told .given .1))
 
 mul-named : tie.Need-mul-named
 mul-named c = let o = rw (c .before .p .given .1) at (c .before .before .before .before .before .before .before .before .before .pre .0) in omega arith
@@ -43,7 +43,7 @@ same-length-3 : tie.Need-same-length-3
 same-length-3 c = search needs
 
 returns-3 : tie.Need-returns-3
-returns-3 c vars = rw (back32 (c .before .before .before .before .before .before .before .before .number .result) (c .before .before .before .before .before .before .before .before .number .ok), c .before .before .before .before .before .before .before .before .number .ensures) (left-in (rw (back32 (c .before .before .before .before .before .before .before .before .number .result) (c .before .before .before .before .before .before .before .before .number .ok), c .before .before .before .before .before .before .before .before .number .ensures) at (c .before .before .before .before .before .before .emit .ensures)) (c .before .before .before .if1 .left) (c .before .p .given .1))
+returns-3 c = (search needs, λ vars. rw (back32 (c .before .before .before .before .before .before .before .before .number .result) (c .before .before .before .before .before .before .before .before .number .ok), c .before .before .before .before .before .before .before .before .number .ensures) (left-in (rw (back32 (c .before .before .before .before .before .before .before .before .number .result) (c .before .before .before .before .before .before .before .before .number .ok), c .before .before .before .before .before .before .before .before .number .ensures) at (c .before .before .before .before .before .before .emit .ensures)) (c .before .before .before .if1 .left) (c .before .p .given .1)))
 
 pub mark-left-spec : {M : Type 1} → statement M
 mark-left-spec =

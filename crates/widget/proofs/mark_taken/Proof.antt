@@ -15,7 +15,7 @@ same-length : tie.Need-same-length
 same-length c = search needs
 
 returns : tie.Need-returns
-returns c active slots vars = taken-on (rw (back32 (c .before .before .before .number .result) (c .before .before .before .number .ok), c .before .before .before .number .ensures) at (c .before .emit .ensures))
+returns c = (search needs, λ active slots vars. taken-on (rw (back32 (c .before .before .before .number .result) (c .before .before .before .number .ok), c .before .before .before .number .ensures) at (c .before .emit .ensures)))
 
 pub mark-taken-spec : {M : Type 1} → statement M
 mark-taken-spec = tie.close (tie.spec number-requires emit-requires same-length returns)

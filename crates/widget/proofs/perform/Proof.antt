@@ -66,42 +66,62 @@ same-length : tie.Need-same-length
 same-length c = search needs
 
 returns : tie.Need-returns
-returns c active slots = let fx : SFits w32 (c .before .before .before .before .before .before .before .before .before .act .given .0 .1 .0) = search needs in
-    let fl : SFits w32 (c .before .before .before .before .before .before .before .before .before .before .before .args .row .low) = search needs in
-    let fh : SFits w32 (c .before .before .before .before .before .before .before .before .before .before .before .args .row .high) = search needs in
-    act-set (c .before .before .before .before .before .before .before .before .before .before .before .args .row) (c .before .before .before .before .before .before .before .before .before .before .before .args .arg) (c .before .before .before .before .before .before .before .before .before .act .given .1) (rw (back32 (c .before .before .before .before .hold .result) (c .before .before .before .before .hold .ok), c .before .before .before .before .hold .ensures, back64 (c .before .before .before .before .before .before .before .wide .result) (c .before .before .before .before .before .before .before .wide .ok), c .before .before .before .before .before .before .before .wide .ensures, toZ-ofZ fx, toZ-ofZ fl, toZ-ofZ fh) at (c .before .store .ensures active slots))
+returns c = (
+  search needs,
+  λ active slots.
+      let fx : SFits w32 (c .before .before .before .before .before .before .before .before .before .act .given .0 .1 .0) = search needs in
+      let fl : SFits w32 (c .before .before .before .before .before .before .before .before .before .before .before .args .row .low) = search needs in
+      let fh : SFits w32 (c .before .before .before .before .before .before .before .before .before .before .before .args .row .high) = search needs in
+      act-set (c .before .before .before .before .before .before .before .before .before .before .before .args .row) (c .before .before .before .before .before .before .before .before .before .before .before .args .arg) (c .before .before .before .before .before .before .before .before .before .act .given .1) (rw (back32 (c .before .before .before .before .hold .result) (c .before .before .before .before .hold .ok), c .before .before .before .before .hold .ensures, back64 (c .before .before .before .before .before .before .before .wide .result) (c .before .before .before .before .before .before .before .wide .ok), c .before .before .before .before .before .before .before .wide .ensures, toZ-ofZ fx, toZ-ofZ fl, toZ-ofZ fh) at (c .before .store .ensures .1 active slots)),
+)
 
 same-length-2 : tie.Need-same-length-2
 same-length-2 c = search needs
 
 returns-2 : tie.Need-returns-2
-returns-2 c active slots = let fx : SFits w32 (c .before .before .before .before .before .before .before .before .before .act2 .given .0 .1 .0) = search needs in
-    let fv : SFits w32 (getD (c .before .before .before .before .before .before .before .before .before .before .before .args .vars .now) (c .before .before .before .before .before .before .before .before .before .act2 .given .0 .0) (pos 0)) = search needs in
-    let fl : SFits w32 (c .before .before .before .before .before .before .before .before .before .before .before .args .row .low) = search needs in
-    let fh : SFits w32 (c .before .before .before .before .before .before .before .before .before .before .before .args .row .high) = search needs in
-    act-add (c .before .before .before .before .before .before .before .before .before .before .before .args .row) (c .before .before .before .before .before .before .before .before .before .before .before .args .arg) (c .before .before .before .before .before .before .before .before .before .act2 .given .1) (rw (back32 (c .before .before .before .before .add-held .result) (c .before .before .before .before .add-held .ok), c .before .before .before .before .add-held .ensures, toZ-ofZ fv, toZ-ofZ fx, toZ-ofZ fl, toZ-ofZ fh) at (c .before .store2 .ensures active slots))
+returns-2 c = (
+  search needs,
+  λ active slots.
+      let fx : SFits w32 (c .before .before .before .before .before .before .before .before .before .act2 .given .0 .1 .0) = search needs in
+      let fv : SFits w32 (getD (c .before .before .before .before .before .before .before .before .before .before .before .args .vars .now) (c .before .before .before .before .before .before .before .before .before .act2 .given .0 .0) (pos 0)) = search needs in
+      let fl : SFits w32 (c .before .before .before .before .before .before .before .before .before .before .before .args .row .low) = search needs in
+      let fh : SFits w32 (c .before .before .before .before .before .before .before .before .before .before .before .args .row .high) = search needs in
+      act-add (c .before .before .before .before .before .before .before .before .before .before .before .args .row) (c .before .before .before .before .before .before .before .before .before .before .before .args .arg) (c .before .before .before .before .before .before .before .before .before .act2 .given .1) (rw (back32 (c .before .before .before .before .add-held .result) (c .before .before .before .before .add-held .ok), c .before .before .before .before .add-held .ensures, toZ-ofZ fv, toZ-ofZ fx, toZ-ofZ fl, toZ-ofZ fh) at (c .before .store2 .ensures .1 active slots)),
+)
 
 same-length-3 : tie.Need-same-length-3
 same-length-3 c = search needs
 
 returns-3 : tie.Need-returns-3
-returns-3 c active slots = let fl : SFits w32 (c .before .before .before .before .before .before .before .before .before .before .before .args .row .low) = search needs in
-    let fh : SFits w32 (c .before .before .before .before .before .before .before .before .before .before .before .args .row .high) = search needs in
-    act-take (c .before .before .before .before .before .before .before .before .before .before .before .args .row) (c .before .before .before .before .before .before .before .before .before .before .before .args .arg) (c .before .before .before .before .before .before .before .before .before .act3 .given .1) (rw (back32 (c .before .before .before .before .hold2 .result) (c .before .before .before .before .hold2 .ok), c .before .before .before .before .hold2 .ensures, back64 (c .before .before .before .before .before .before .before .wide2 .result) (c .before .before .before .before .before .before .before .wide2 .ok), c .before .before .before .before .before .before .before .wide2 .ensures, toZ-ofZ (c .before .before .before .before .before .before .before .before .before .before .before .fits .arg), toZ-ofZ fl, toZ-ofZ fh) at (c .before .store3 .ensures active slots))
+returns-3 c = (
+  search needs,
+  λ active slots.
+      let fl : SFits w32 (c .before .before .before .before .before .before .before .before .before .before .before .args .row .low) = search needs in
+      let fh : SFits w32 (c .before .before .before .before .before .before .before .before .before .before .before .args .row .high) = search needs in
+      act-take (c .before .before .before .before .before .before .before .before .before .before .before .args .row) (c .before .before .before .before .before .before .before .before .before .before .before .args .arg) (c .before .before .before .before .before .before .before .before .before .act3 .given .1) (rw (back32 (c .before .before .before .before .hold2 .result) (c .before .before .before .before .hold2 .ok), c .before .before .before .before .hold2 .ensures, back64 (c .before .before .before .before .before .before .before .wide2 .result) (c .before .before .before .before .before .before .before .wide2 .ok), c .before .before .before .before .before .before .before .wide2 .ensures, toZ-ofZ (c .before .before .before .before .before .before .before .before .before .before .before .fits .arg), toZ-ofZ fl, toZ-ofZ fh) at (c .before .store3 .ensures .1 active slots)),
+)
 
 same-length-4 : tie.Need-same-length-4
 same-length-4 c = search needs
 
 returns-4 : tie.Need-returns-4
-returns-4 c active slots = let fx : SFits w32 (c .before .before .before .before .act4 .given .0 .1 .0) = search needs in
-    act-send (c .before .before .before .before .before .before .args .row) (c .before .before .before .before .before .before .args .arg) (c .before .before .before .before .act4 .given .1) (rw (toZ-ofZ fx) at (c .before .send .ensures active slots (c .before .before .before .before .before .before .args .vars .now)))
+returns-4 c = (
+  search needs,
+  λ active slots.
+      let fx : SFits w32 (c .before .before .before .before .act4 .given .0 .1 .0) = search needs in
+      act-send (c .before .before .before .before .before .before .args .row) (c .before .before .before .before .before .before .args .arg) (c .before .before .before .before .act4 .given .1) (rw (toZ-ofZ fx) at (c .before .send .ensures .1 active slots (c .before .before .before .before .before .before .args .vars .now))),
+)
 
 same-length-5 : tie.Need-same-length-5
 same-length-5 c = search needs
 
 returns-5 : tie.Need-returns-5
-returns-5 c active slots = let fx : SFits w32 (c .before .before .before .before .act5 .given .0 .0) = search needs in
-    act-tell (c .before .before .before .before .before .before .args .row) (c .before .before .before .before .before .before .args .arg) (c .before .before .before .before .act5 .given .1) (rw (toZ-ofZ fx) at (c .before .tell .ensures active slots (c .before .before .before .before .before .before .args .vars .now)))
+returns-5 c = (
+  search needs,
+  λ active slots.
+      let fx : SFits w32 (c .before .before .before .before .act5 .given .0 .0) = search needs in
+      act-tell (c .before .before .before .before .before .before .args .row) (c .before .before .before .before .before .before .args .arg) (c .before .before .before .before .act5 .given .1) (rw (toZ-ofZ fx) at (c .before .tell .ensures .1 active slots (c .before .before .before .before .before .before .args .vars .now))),
+)
 
 pub perform-spec : {M : Type 1} → statement M
 perform-spec =

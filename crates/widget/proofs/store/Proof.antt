@@ -16,7 +16,7 @@ same-length : tie.Need-same-length
 same-length c = search needs
 
 returns : tie.Need-returns
-returns c active slots = stored-stop (rw (back32 (c .before .before .before .before .before .number .result) (c .before .before .before .before .before .number .ok), c .before .before .before .before .before .number .ensures, toZ-ofZ (c .before .before .before .before .before .before .fits .value)) at (c .before .before .before .emit .ensures)) (c .if1 .taken)
+returns c = (search needs, λ active slots. stored-stop (rw (back32 (c .before .before .before .before .before .number .result) (c .before .before .before .before .before .number .ok), c .before .before .before .before .before .number .ensures, toZ-ofZ (c .before .before .before .before .before .before .fits .value)) at (c .before .before .before .emit .ensures)) (c .if1 .taken))
 
 mul-value : tie.Need-mul-value
 mul-value c = search needs
@@ -28,7 +28,7 @@ same-length-2 : tie.Need-same-length-2
 same-length-2 c = search needs
 
 returns-2 : tie.Need-returns-2
-returns-2 c active slots = rw (toZ-ofZ (c .before .before .before .before .before .before .fits .value)) (stored-on (rw (back32 (c .before .before .before .before .before .number .result) (c .before .before .before .before .before .number .ok), c .before .before .before .before .before .number .ensures, toZ-ofZ (c .before .before .before .before .before .before .fits .value)) at (c .before .before .before .emit .ensures)) (c .if1 .left))
+returns-2 c = (search needs, λ active slots. rw (toZ-ofZ (c .before .before .before .before .before .before .fits .value)) (stored-on (rw (back32 (c .before .before .before .before .before .number .result) (c .before .before .before .before .before .number .ok), c .before .before .before .before .before .number .ensures, toZ-ofZ (c .before .before .before .before .before .before .fits .value)) at (c .before .before .before .emit .ensures)) (c .if1 .left)))
 
 pub store-spec : {M : Type 1} → statement M
 store-spec =

@@ -12,7 +12,7 @@ same-length : tie.Need-same-length
 same-length c = search needs
 
 returns : tie.Need-returns
-returns c active slots vars = told-on (rw (toZ-ofZ (c .before .before .before .fits .x)) at (c .before .emit .ensures))
+returns c = (search needs, λ active slots vars. told-on (rw (toZ-ofZ (c .before .before .before .fits .x)) at (c .before .emit .ensures)))
 
 pub tell-spec : {M : Type 1} → statement M
 tell-spec = tie.close (tie.spec emit-requires same-length returns)
