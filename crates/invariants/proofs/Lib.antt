@@ -1,3 +1,4 @@
 pub mod Counting
 pub mod Keeps
 pub mod Config
+pub mod Slots
