@@ -2,3 +2,4 @@ pub mod Counting
 pub mod Keeps
 pub mod Config
 pub mod Slots
+pub mod Values
