@@ -7,3 +7,4 @@ pub mod Rules
 pub mod Sound
 pub mod Reach
 pub mod Ways
+pub mod Value

@@ -1,0 +1,5 @@
+pub mod Counting
+pub mod Keeps
+pub mod Config
+pub mod Slots
+pub mod Values
