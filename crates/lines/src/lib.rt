@@ -1,0 +1,77 @@
+// One line of the text (01, "Chart text"), read: the records S, V, E, T and A. Each function gives the line's mark, 0, 1 or 2, and
+// where it is 0 stores the row that the line states at its place in the chart's numbers.
+pub mod layout;
+pub mod marks;
+
+use fields::cells::among;
+use fields::cells::count_cell;
+use fields::cells::is_turn;
+use fields::cells::num_at;
+use fields::cells::number_at;
+use fields::cells::number_or_dash_at;
+use fields::cells::one_of_at;
+use fields::cells::one_of_or_dash_at;
+use fields::cells::target_at;
+use fields::exactly;
+use fields::letter_at;
+use layout::ACT_ROW;
+use layout::ACTIONS_AT;
+use layout::EVENT_COUNT;
+use layout::STATE_ROW;
+use layout::STATES_AT;
+use layout::TRANS_ROW;
+use layout::TRANSITIONS_AT;
+use layout::VAR_ROW;
+use layout::VARS_AT;
+use marks::put;
+use marks::put2;
+use marks::put3;
+use marks::room;
+use marks::worse;
+use marks::worse3;
+use sizes::ACTIONS;
+use sizes::STATES;
+use sizes::TRANSITIONS;
+use sizes::VARIABLES;
+ghost use mathlib.Core.Path.{_≡_};
+ghost use mathlib.Core.List.{List, [], _∷_};
+ghost use Prim.Native.Nat.{_+_, _*_, _-_, _<_, _≤_};
+ghost use lib.ListN.{length, getD};
+ghost use lib.Seq.{slice};
+ghost use Rattle.meaning.specs.Value as value;
+ghost use Rattle.meaning.specs.Split.{fields};
+ghost use Rattle.meaning.specs.Line.{formed, s-line, v-line, e-line, t-line, a-line};
+ghost use Rattle.lines.specs.Took.{Took};
+
+// So many fields, the second of them the number in turn.
+fn formed(s: &[u8], from: usize, to: usize, n: usize, turn: usize) -> bool
+    requires { ⌜ (from ≤ to) × (to ≤ length (now s)) ⌝ }
+    ensures { λ r. ⌜ r ≡ formed n turn (fields (slice from to (now (s .entry)))) ⌝ }
+{
+    if !exactly(s, from, to, n) {
+        return false;
+    }
+    is_turn(num_at(s, from, to, 1), turn)
+}
+
+// V, number, low, high, first value.
+pub fn line_v(s: &[u8], from: usize, to: usize, turn: usize, chart: &mut [i32]) -> usize
+    requires { ⌜ (from ≤ to) × (to ≤ length (now s)) × (value.VALUE ≤ length (now chart)) ⌝ }
+    ensures { λ r. ⌜ Took (v-line turn (fields (slice from to (now (s .entry))))) (value.VARS-AT + turn * value.VAR-ROW) (now (chart .entry)) r (now (chart .exit)) ⌝ }
+{
+    if !formed(s, from, to, 5, turn) {
+        return 1;
+    }
+    let low = number_at(s, from, to, 2);
+    let high = number_at(s, from, to, 3);
+    let first = number_at(s, from, to, 4);
+    let m = worse(
+        room(turn, VARIABLES),
+        worse3(low.mark, high.mark, first.mark, 0),
+    );
+    if m != 0 {
+        return m;
+    }
+    put3(chart, VARS_AT + turn * VAR_ROW, low, high, first);
+    0
+}
