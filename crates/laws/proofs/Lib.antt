@@ -5,3 +5,5 @@ pub mod Preorder
 pub mod Descent
 pub mod Rules
 pub mod Sound
+pub mod Reach
+pub mod Ways
