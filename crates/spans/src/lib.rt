@@ -3,50 +3,21 @@
 use chart::kind_of;
 use chart::parent_of;
 use chart::state_count;
-use meaning::chart::Kind;
+use chart::tree::is_ancestor;
+use chart::tree::is_o;
 use meaning::chart::Target;
 ghost use mathlib.Core.Path.{_≡_};
 ghost use Prim.Native.Nat.{_<_};
 ghost use lib.ListN.{length};
-ghost use Rattle.meaning.specs.Lists.{has};
-ghost use Rattle.meaning.specs.Tree.{is-o, ancestors, scope as scope_of, span-of};
+ghost use Rattle.meaning.specs.Tree.{scope as scope_of, span-of};
 ghost use Rattle.meaning.specs.Value.{chart-of};
 ghost use Rattle.laws.proofs.Sound.{Sound-chart};
-ghost use Rattle.tree.specs.Span.{scopes, Ends, Spans, Aims};
+ghost use Rattle.spans.specs.Span.{scopes, Ends, Spans, Aims};
 
 // The numbers from first up to below end.
 pub struct Span {
     pub first: usize,
     pub end: usize,
-}
-
-pub fn is_o(kind: Kind) -> bool
-    ensures { λ r. ⌜ r ≡ is-o kind ⌝ }
-{
-    match kind {
-        Kind::O => true,
-        Kind::A => false,
-        Kind::B => false,
-    }
-}
-
-// Whether a is a proper ancestor of d.
-pub fn is_ancestor(chart: &[i32], a: usize, d: usize) -> bool
-    ensures { λ r. ⌜ r ≡ has a (ancestors (chart-of (now (chart .entry))) d) ⌝ }
-{
-    let mut at = d;
-    let mut left = d;
-    while 0 < left {
-        if at == 0 {
-            return false;
-        }
-        at = parent_of(chart, at);
-        if at == a {
-            return true;
-        }
-        left -= 1;
-    }
-    false
 }
 
 // Whether x can be the scope of a transition to t: an o state above it.
@@ -102,16 +73,18 @@ pub fn span_of(chart: &[i32], s: usize, target: Target) -> Span
     match target {
         Target::To(t) => {
             let top = scope(chart, s, t);
+            let end = end_below(chart, top);
             Span {
                 first: top + 1,
-                end: end_below(chart, top),
+                end: end,
             }
         }
         Target::History(b) => {
             let top = scope(chart, s, b);
+            let end = end_below(chart, top);
             Span {
                 first: top + 1,
-                end: end_below(chart, top),
+                end: end,
             }
         }
         Target::InPlace => Span {

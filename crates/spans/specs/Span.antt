@@ -11,7 +11,7 @@ use Rattle.meaning.specs.declared.chart.Target.{Target}
 use Rattle.meaning.specs.Tree.{kind-of, is-o, ancestors, descendants}
 use Rattle.laws.proofs.Tree.{Under}
 use Rattle.laws.proofs.Rules.{Target-facts}
-use Rattle.tree.specs.declared.Span.{Span}
+use Rattle.spans.specs.declared.Span.{Span}
 
 -- x is an o state and a proper ancestor of t
 unfoldable pub scopes : Chart → ℕ → ℕ → Bool

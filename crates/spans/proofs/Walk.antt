@@ -18,8 +18,8 @@ use Rattle.laws.proofs.Tree.{Under, child, deeper, Ordered, under-lt, has-under
 use Rattle.laws.proofs.Preorder.{Run, sub-run, sub-kept}
 use Rattle.laws.proofs.Rules.{Target-facts, o-of, of-o}
 use Rattle.laws.proofs.Sound.{Sound-chart, child-parent, no-root-child}
-use Rattle.tree.specs.declared.Span.{Span}
-use Rattle.tree.specs.Span.{scopes, Ends, Spans, Aims}
+use Rattle.spans.specs.declared.Span.{Span}
+use Rattle.spans.specs.Span.{scopes, Ends, Spans, Aims}
 
 -- ---- a climb, turn by turn; l turns are left, and the walk stands at x
 
@@ -38,15 +38,6 @@ climb-more c zero x p h n e = absurd (omega arith)
 climb-more c (suc l) zero p h n e = absurd (n refl)
 climb-more c (suc l) (suc x) p h n e = let q : suc l - 1 ≡ l = omega arith in rw (q, e)
 
-module _ (c : Chart) (a l x p : ℕ) (h : 0 < l) (n : x ≡ 0 → ⊥) (e : p ≡ parent-of c x) where
-  pub has-here : p ≡ a → has a (climb c l x) ≡ true
-  unfolding has
-  has-here q = rw (climb-more c l x p h n e, eq-eqb a p (sym q))
-
-  pub has-later : (p ≡ a → ⊥) → has a (climb c (l - 1) p) ≡ has a (climb c l x)
-  unfolding has
-  has-later q = rw (climb-more c l x p h n e, ne-eqb a p (λ r. q (sym r)))
-
 module _ (c : Chart) (f : ℕ → Bool) (l x p : ℕ) (h : 0 < l) (n : x ≡ 0 → ⊥) (e : p ≡ parent-of c x) where
   pub first-here : f p ≡ true → first-that f (climb c l x) ≡ p
   unfolding first-that
@@ -56,7 +47,18 @@ module _ (c : Chart) (f : ℕ → Bool) (l x p : ℕ) (h : 0 < l) (n : x ≡ 0 �
   unfolding first-that
   first-later q = rw (climb-more c l x p h n e, q)
 
+pub first-root : (c : Chart) (f : ℕ → Bool) (l x : ℕ) → x ≡ 0 → first-that f (climb c l x) ≡ 0
+unfolding first-that
+first-root c f l x e = rw (e, climb-root c l)
+
+pub first-out : (c : Chart) (f : ℕ → Bool) (l x : ℕ) → l ≡ 0 → first-that f (climb c l x) ≡ 0
+unfolding first-that
+first-out c f l x e = rw (e, climb-none c x)
+
 -- ---- where the descendants end
+
+pub none-yet : (c : Chart) (s x : ℕ) → suc s ≤ x → x < s + 1 → Under c s x
+none-yet c s x l m = absurd (omega arith)
 
 -- the next number is below s where its parent is s or lies between
 pub grows : (c : Chart) → Ordered c → (s d : ℕ) → suc s ≤ d → ((x : ℕ) → suc s ≤ x → x < d → Under c s x) → s ≤ parent-of c d → Under c s d
@@ -67,13 +69,17 @@ grows c o s (suc d) l u p = ⊎-elim (λ e. child (sym e)) (λ e. deeper (u (par
     split (inl e) = inl e
     split (inr n) = ⊎-elim (λ q. absurd (n (omega arith))) (λ q. inr (omega arith)) (le-or-lt (parent-of c (suc d)) s)
 
+pub grows-to : (c : Chart) → Ordered c → (s d : ℕ) → suc s ≤ d → ((x : ℕ) → suc s ≤ x → x < d → Under c s x) → s ≤ parent-of c d
+    → (x : ℕ) → suc s ≤ x → x < d + 1 → Under c s x
+grows-to c o s d l u p x m n = ⊎-elim (λ q. let e : x ≡ d = omega arith in subst (Under c s) (sym e) (grows c o s d l u p)) (λ q. u x m q) (le-or-lt d x)
+
 -- and not where its parent comes before s
 pub stops : (c : Chart) → Ordered c → (s d : ℕ) → parent-of c d < s → Under c s d → ⊥
 stops c o s (suc d) l (child e) = omega (arith, e)
 stops c o s (suc d) l (deeper u) = omega (arith, under-lt c o u)
 
 module _ (c : Chart) (o : Ordered c) (s r : ℕ) (low : suc s ≤ r) (high : r ≤ length (c .states))
-  (under : (x : ℕ) → suc s ≤ x → x < r → Under c s x) (last : (r ≡ length (c .states)) ⊎ (Under c s r → ⊥)) where
+    (under : (x : ℕ) → suc s ≤ x → x < r → Under c s x) (last : (r ≡ length (c .states)) ⊎ (Under c s r → ⊥)) where
   rest : suc s + (length (c .states) - suc s) ≡ length (c .states)
   rest = omega arith
 
