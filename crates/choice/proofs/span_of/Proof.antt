@@ -2,9 +2,9 @@
 use mathlib.Core.Path.{_≡_, refl, sym, _∙_}
 use native.Mathlib.Omega.{arith}
 use borrow.Author.Needs.{needs}
-use Rattle.spans.proofs.Aim.{to-inside, history-inside, to-spans, history-spans, in-place-spans}
-use Rattle.spans.proofs.span_of.Statement.{statement}
-use Rattle.spans.proofs.span_of.Tie as tie
+use Rattle.choice.proofs.Aim.{to-inside, history-inside, to-spans, history-spans, in-place-spans}
+use Rattle.choice.proofs.span_of.Statement.{statement}
+use Rattle.choice.proofs.span_of.Tie as tie
 
 enum-known-target : tie.Need-enum-known-target
 enum-known-target c = search needs
@@ -15,7 +15,7 @@ scope-requires c κs = search needs
 end-below-requires : tie.Need-end-below-requires
 end-below-requires c κs =
     let k = c .before .before .before .before in
-    (k .pre .0, to-inside _ (k .pre .0) _ _ _ _ (k .pre .1) (c .scope .ensures) (c .before .before .target .given .1))
+    (k .pre .0, to-inside _ (k .pre .0) _ _ (k .pre .1) _ _ (c .scope .ensures) (c .before .before .target .given .1))
 
 add-t11 : tie.Need-add-t11
 add-t11 c = omega arith
@@ -29,7 +29,7 @@ scope-requires-2 c κs = search needs
 end-below-requires-2 : tie.Need-end-below-requires-2
 end-below-requires-2 c κs =
     let k = c .before .before .before .before in
-    (k .pre .0, history-inside _ (k .pre .0) _ _ _ _ (k .pre .1) (c .scope2 .ensures) (c .before .before .target2 .given .1))
+    (k .pre .0, history-inside _ (k .pre .0) _ _ (k .pre .1) _ _ (c .scope2 .ensures) (c .before .before .target2 .given .1))
 
 add-t12 : tie.Need-add-t12
 add-t12 c = omega arith
@@ -43,15 +43,17 @@ end-below-requires-3 c κs = search needs
 returns : tie.Need-returns
 returns c =
     let k = c .before .before .before .before .before in
-    to-spans _ (k .pre .0) _ _ _ _ (k .pre .1) (c .before .scope .ensures) _ _ (c .end-below .ensures) refl refl (c .before .before .before .target .given .1)
+    to-spans _ (k .pre .0) _ _ (k .pre .1) _ _ (c .before .scope .ensures) _ (c .end-below .ensures) _ refl refl (c .before .before .before .target .given .1)
 
 returns-2 : tie.Need-returns-2
 returns-2 c =
     let k = c .before .before .before .before .before in
-    history-spans _ (k .pre .0) _ _ _ _ (k .pre .1) (c .before .scope2 .ensures) _ _ (c .end-below2 .ensures) refl refl (c .before .before .before .target2 .given .1)
+    history-spans _ (k .pre .0) _ _ (k .pre .1) _ _ (c .before .scope2 .ensures) _ (c .end-below2 .ensures) _ refl refl (c .before .before .before .target2 .given .1)
 
 returns-3 : tie.Need-returns-3
-returns-3 c = in-place-spans _ _ _ _ _ (c .before .enum-told .given .1) (c .end-below3 .ensures) refl refl
+returns-3 c =
+    let k = c .before .before .before in
+    in-place-spans _ (k .pre .0) _ _ (k .pre .1) _ (c .end-below3 .ensures) _ refl refl (c .before .enum-told .given .1)
 
 pub span-of-spec : {M : Type 1} → statement M
 span-of-spec =
