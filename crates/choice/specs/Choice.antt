@@ -15,7 +15,7 @@ use Rattle.meaning.specs.declared.State.{State}
 use Rattle.meaning.specs.Lists.{keep, from}
 use Rattle.meaning.specs.Chart.{Chart}
 use Rattle.meaning.specs.Tree.{trans-row, span}
-use Rattle.meaning.specs.Reaction.{enabled, thin}
+use Rattle.meaning.specs.Reaction.{enabled, thin, chosen}
 use Rattle.choice.specs.declared.Span.{Span}
 use Rattle.choice.specs.declared.Pick.{Pick}
 use Rattle.choice.specs.declared.Chosen.{Chosen}
@@ -53,20 +53,31 @@ gone-after c gone (t ∷ ts) = gone-after c (span c t ++ gone) ts
 unfoldable pub candidates-from : Chart → ℕ → State → ℕ → ℕ → ℕ → List ℕ
 candidates-from c e u s t n = keep (λ x. eqb (trans-row c x .source) s) (keep (enabled c e u) (from t n))
 
-unfoldable pub candidates : Chart → ℕ → State → ℕ → List ℕ
-candidates c e u s = candidates-from c e u s 0 (length (c .transitions))
-
 -- each pick has the span of its transition
 abbrev pub Kept : Chart → ℕ → List Pick → Type 0
 Kept c n ps = (j : ℕ) → j < n → Spans (span c (getD ps j no-pick .transition)) (getD ps j no-pick .span)
 
--- the chosen so far, and room for what the source s adds
+-- the chosen so far with what the enabled transitions of the source s from t on, n at most, add to them
+unfoldable pub with-rest : Chart → ℕ → State → ℕ → ℕ → ℕ → List ℕ → List ℕ
+with-rest c e u s t n ps = ps ++ thin c (gone-after c [] ps) (candidates-from c e u s t n)
+
+-- the chosen so far
+pub record Stands (c : Chart) (r : Chosen) : Type 0 where
+  pub kept : Kept c (r .count) (r .picks)
+  pub few : r .count ≤ TRANSITIONS
+  pub size : length (r .picks) ≡ TRANSITIONS
+
+-- .. and room for what the source s adds
 pub record Fewer (c : Chart) (e : ℕ) (u : State) (s : ℕ) (before : Chosen) : Type 0 where
-  pub room : before .count + length (thin c (gone-after c [] (picked before)) (candidates c e u s)) ≤ TRANSITIONS
-  pub kept : Kept c (before .count) (before .picks)
+  pub room : length (with-rest c e u s 0 (length (c .transitions)) (picked before)) ≤ TRANSITIONS
+  pub stands : Stands c before
 
 -- what the source s adds to the chosen
 pub record Picked (c : Chart) (e : ℕ) (u : State) (s : ℕ) (before r : Chosen) : Type 0 where
-  pub is : picked r ≡ picked before ++ thin c (gone-after c [] (picked before)) (candidates c e u s)
-  pub kept : Kept c (r .count) (r .picks)
-  pub few : r .count ≤ TRANSITIONS
+  pub is : picked r ≡ with-rest c e u s 0 (length (c .transitions)) (picked before)
+  pub stands : Stands c r
+
+-- what a step fires: the chosen of any state with these marks and values
+pub record Chose (c : Chart) (e : ℕ) (active : List Bool) (vars : List ℤ) (r : Chosen) : Type 0 where
+  pub is : picked r ≡ chosen c e (seen active vars)
+  pub stands : Stands c r

@@ -14,16 +14,15 @@ use sizes::VARIABLES;
 use walks::end_below;
 use walks::scope;
 ghost use mathlib.Core.Path.{_≡_};
-ghost use mathlib.Core.List.{[], _++_};
-ghost use Prim.Native.Nat.{_+_, _<_, _≤_};
-ghost use lib.ListN.{length};
+ghost use mathlib.Core.List.{[]};
+ghost use Prim.Native.Nat.{_<_};
 ghost use Rattle.sizes.specs.Sizes.{STATES as states};
 ghost use Rattle.meaning.specs.Tree.{span-of};
 ghost use Rattle.meaning.specs.Value.{chart-of};
-ghost use Rattle.meaning.specs.Reaction.{compare-by, guard-holds, enabled-by, thin, chosen};
+ghost use Rattle.meaning.specs.Reaction.{compare-by, guard-holds, enabled-by};
 ghost use Rattle.walks.specs.Walks.{Ruled};
 ghost use Rattle.choice.specs.Span.{Spans, Aims};
-ghost use Rattle.choice.specs.Choice.{seen, overlap, Reads, Picked, Fewer};
+ghost use Rattle.choice.specs.Choice.{seen, overlap, Reads, Picked, Fewer, Chose};
 
 // The numbers from first up to below end.
 pub struct Span {
@@ -76,7 +75,11 @@ pub fn span_of(chart: &[i32], s: usize, target: Target) -> Span
 fn spans_meet(a: Span, b: Span) -> bool
     ensures { λ r. ⌜ r ≡ overlap a b ⌝ }
 {
-    if a.first < b.end { b.first < a.end } else { false }
+    if a.first < b.end {
+        b.first < a.end
+    } else {
+        false
+    }
 }
 
 // =, <, >
@@ -102,7 +105,12 @@ pub fn guard_true(guard: Guard, vars: &[i32; VARIABLES]) -> bool
 }
 
 // "trigger equal, source active, guard true of the values before any firing in this step"
-pub fn enabled(row: TransRow, event: usize, active: &[bool; STATES], vars: &[i32; VARIABLES]) -> bool
+pub fn enabled(
+    row: TransRow,
+    event: usize,
+    active: &[bool; STATES],
+    vars: &[i32; VARIABLES],
+) -> bool
     requires { ⌜ (row .source < states) × Reads (row .guard) ⌝ }
     ensures { λ r. ⌜ r ≡ enabled-by row event (seen (now (active .entry)) (now (vars .entry))) ⌝ }
 {
@@ -156,5 +164,31 @@ fn choose_at(
         at += 1;
     }
     out.count = at;
+    out
+}
+
+// "the enabled, by falling source then rising transition number, less any whose span meets that of one already chosen"
+pub fn choose(
+    chart: &[i32],
+    event: usize,
+    active: &[bool; STATES],
+    vars: &[i32; VARIABLES],
+) -> Chosen
+    requires { ⌜ Ruled (now chart) ⌝ }
+    ensures { λ r. ⌜ Chose (chart-of (now (chart .entry))) event (now (active .entry)) (now (vars .entry)) r ⌝ }
+{
+    let none = Pick {
+        transition: 0,
+        span: Span { first: 0, end: 0 },
+    };
+    let mut out = Chosen {
+        count: 0,
+        picks: [none; TRANSITIONS],
+    };
+    let mut s = state_count(chart);
+    while 0 < s {
+        s -= 1;
+        out = choose_at(chart, event, s, active, vars, out);
+    }
     out
 }

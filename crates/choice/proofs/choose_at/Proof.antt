@@ -1,138 +1,168 @@
+-- `choose_at` keeps, turn by turn, that the chosen so far with what the rest adds are the chosen of all. Assumes nothing.
+use mathlib.Core.Path.{_≡_, refl, sym, ap, _∙_}
+use Prim.Native.Nat.{ℕ, _+_, _-_, _≤_, _<_}
+use mathlib.Core.Bool.{true, false}
+use native.Mathlib.Nat.{sub-zero}
+use native.Mathlib.Omega.{arith}
+use lib.ListN.{length, getD, length-set}
+use borrow.Author.Tests.{not-true, not-false}
+use borrow.Author.Needs.{needs}
+use Rattle.sizes.specs.Sizes.{TRANSITIONS}
+use Rattle.meaning.specs.Value.{chart-of}
+use Rattle.choice.specs.Choice.{seen, overlap, no-pick, picked-by, with-rest, Kept, Stands}
+use Rattle.choice.proofs.Meets.{clash-hit, clash-none}
+use Rattle.choice.proofs.Thin.{rest-other, rest-off, rest-clash, rest-take, picked-more, kept-more}
+use Rattle.choice.proofs.Loop.{row-fits, row-aims, row-spans, row-enabled, row-source, up-to, take-room, all-taken}
 use Rattle.choice.proofs.choose_at.Statement.{statement}
 use Rattle.choice.proofs.choose_at.Tie as tie
-use Rattle.choice.proofs.choose_at.Reads as reads
-use Rattle.choice.proofs.choose_at.Lts as lts
-use Rattle.chart.proofs.trans_row.Reads as trans-row-reads
-use Rattle.chart.proofs.transition_count.Reads as transition-count-reads
-use Rattle.choice.proofs.enabled.Reads as enabled-reads
-use Rattle.choice.proofs.span_of.Reads as span-of-reads
-use Rattle.choice.proofs.spans_meet.Reads as spans-meet-reads
 
 abbrev Inv-loop : tie.InvT-loop
-Inv-loop chart event s active vars out at n t₀ span j₀ t j = ?
+Inv-loop chart event s active vars out at n t₀ span j₀ t j = (t ≡ t₀) × (j ≤ at) × ((i : ℕ) → i < j → overlap span (getD (out .picks) i no-pick .span) ≡ false)
 
 abbrev μ-loop : tie.MeasureT-loop
-μ-loop chart event s active vars out at n t₀ span j₀ t j = ?
+μ-loop chart event s active vars out at n t₀ span j₀ t j = at - j
 
 abbrev Inv-transitions : tie.InvT-transitions
-Inv-transitions chart event s active vars out₀ at₀ n t₀ out at t = ?
+Inv-transitions chart event s active vars out₀ at₀ n t₀ out at t =
+    (with-rest (chart-of chart) event (seen active vars) s t (n - t) (picked-by at (out .picks)) ≡ with-rest (chart-of chart) event (seen active vars) s 0 n (picked-by at₀ (out₀ .picks)))
+    × Kept (chart-of chart) at (out .picks) × (length (out .picks) ≡ TRANSITIONS) × (at ≤ TRANSITIONS)
 
 abbrev μ-transitions : tie.MeasureT-transitions
-μ-transitions chart event s active vars out₀ at₀ n t₀ out at t = ?
+μ-transitions chart event s active vars out₀ at₀ n t₀ out at t = n - t
 
--- src/lib.rt:138:9
-transition-count-requires :
-    tie.Need-transition-count-requires Inv-loop μ-loop Inv-transitions μ-transitions
-transition-count-requires c κs = ?
+transition-count-requires : tie.Need-transition-count-requires Inv-loop μ-loop Inv-transitions μ-transitions
+transition-count-requires c κs = search needs
 
--- src/lib.rt:139:5
 transitions-holds : tie.Need-transitions-holds Inv-loop μ-loop Inv-transitions μ-transitions
-transitions-holds c = ?
+transitions-holds c =
+    let p = c .before .pre .1 .stands in
+    (rw sub-zero, p .kept, p .size, p .few)
 
--- src/lib.rt:140:13
 trans-row-requires : tie.Need-trans-row-requires Inv-loop μ-loop Inv-transitions μ-transitions
-trans-row-requires c κs = ?
+trans-row-requires c κs = search needs
 
--- src/lib.rt:142:13
 add-t : tie.Need-add-t Inv-loop μ-loop Inv-transitions μ-transitions
-add-t c = ?
+add-t c = omega arith
 
--- src/lib.rt:139:5
 transitions-less : tie.Need-transitions-less Inv-loop μ-loop Inv-transitions μ-transitions
-transitions-less c = ?
+transitions-less c = omega arith
 
--- src/lib.rt:139:5
 transitions-again : tie.Need-transitions-again Inv-loop μ-loop Inv-transitions μ-transitions
-transitions-again c = ?
+transitions-again c =
+    let w = c .before .before .before .before .transitions in
+    let r = c .before .before .trans-row in
+    (rest-other _ _ _ _ _ _ (c .before .before .before .transitions-test .taken) _ (λ q. c .if1 .taken (ap (λ x. x .source) (r .ensures) ∙ q)) ∙ w .inv .0, w .inv .1, w .inv .2, w .inv .3)
 
--- src/lib.rt:144:13
 enabled-requires : tie.Need-enabled-requires Inv-loop μ-loop Inv-transitions μ-transitions
-enabled-requires c κs = ?
+enabled-requires c κs = row-fits _ (c .before .before .before .before .before .before .pre .0) _ _ (c .before .before .trans-row .ensures) (omega arith)
 
--- src/lib.rt:145:13
 add-t-2 : tie.Need-add-t-2 Inv-loop μ-loop Inv-transitions μ-transitions
-add-t-2 c = ?
+add-t-2 c = omega arith
 
--- src/lib.rt:139:5
 transitions-less-2 : tie.Need-transitions-less-2 Inv-loop μ-loop Inv-transitions μ-transitions
-transitions-less-2 c = ?
+transitions-less-2 c = omega arith
 
--- src/lib.rt:139:5
 transitions-again-2 : tie.Need-transitions-again-2 Inv-loop μ-loop Inv-transitions μ-transitions
-transitions-again-2 c = ?
+transitions-again-2 c =
+    let w = c .before .before .before .before .before .before .transitions in
+    (rest-off _ _ _ _ _ _ (c .before .before .before .before .before .transitions-test .taken) _ (row-enabled _ (c .before .before .before .before .before .before .before .before .pre .0) _ _ (c .before .before .before .before .trans-row .ensures) (omega arith) _ _ _ (c .before .enabled .ensures) ∙ not-true _ (c .if2 .taken)) ∙ w .inv .0, w .inv .1, w .inv .2, w .inv .3)
 
--- src/lib.rt:148:13
 span-of-requires : tie.Need-span-of-requires Inv-loop μ-loop Inv-transitions μ-transitions
-span-of-requires c κs = ?
+span-of-requires c κs = (c .before .before .before .before .before .before .before .before .pre .0, row-aims _ (c .before .before .before .before .before .before .before .before .pre .0) _ _ (c .before .before .before .before .trans-row .ensures) (omega arith) _ (c .before .before .if1 .left))
 
--- src/lib.rt:149:9
 loop-holds : tie.Need-loop-holds Inv-loop μ-loop Inv-transitions μ-transitions
-loop-holds c = ?
+loop-holds c = (refl, omega arith, λ i l. absurd (omega arith))
 
--- src/lib.rt:150:24
 mul-pick : tie.Need-mul-pick Inv-loop μ-loop Inv-transitions μ-transitions
-mul-pick c = ?
+mul-pick c = omega arith
 
--- src/lib.rt:150:24
-element-copy-out-pick :
-    tie.Need-element-copy-out-pick Inv-loop μ-loop Inv-transitions μ-transitions
-element-copy-out-pick c = ?
+element-copy-out-pick : tie.Need-element-copy-out-pick Inv-loop μ-loop Inv-transitions μ-transitions
+element-copy-out-pick c = omega (arith, c .before .before .before .before .before .before .before .before .before .transitions .inv .3)
 
--- src/lib.rt:152:16
 spans-meet-requires : tie.Need-spans-meet-requires Inv-loop μ-loop Inv-transitions μ-transitions
-spans-meet-requires c κs = ?
+spans-meet-requires c κs = search needs
 
--- src/lib.rt:153:17
 add-t-3 : tie.Need-add-t-3 Inv-loop μ-loop Inv-transitions μ-transitions
-add-t-3 c = ?
+add-t-3 c = omega arith
 
--- src/lib.rt:139:5
 transitions-less-3 : tie.Need-transitions-less-3 Inv-loop μ-loop Inv-transitions μ-transitions
-transitions-less-3 c = ?
+transitions-less-3 c = omega arith
 
--- src/lib.rt:139:5
 transitions-again-3 : tie.Need-transitions-again-3 Inv-loop μ-loop Inv-transitions μ-transitions
-transitions-again-3 c = ?
+transitions-again-3 c =
+    let h = c .before .before .before .before .before .before .before .before .before .before .before .before .before .before .before .pre .0 in
+    let r = c .before .before .before .before .before .before .before .before .before .before .before .trans-row .ensures in
+    let w = c .before .before .before .before .before .before .before .before .before .before .before .before .before .transitions in
+    let l = c .before .before .before .before .before .before .before .before .before .before .before .before .transitions-test .taken in
+    let o = row-source _ h _ _ r (omega arith) _ (c .before .before .before .before .before .before .before .before .before .if1 .left) in
+    let f = row-enabled _ h _ _ r (omega arith) _ _ _ (c .before .before .before .before .before .before .before .before .enabled .ensures) ∙ not-false _ (c .before .before .before .before .before .before .before .if2 .left) in
+    let sp = row-spans _ h _ _ r (omega arith) _ _ (c .before .before .before .before .before .before .before .before .before .if1 .left) (c .before .before .before .before .before .before .span-of .ensures) in
+    let b : w .at ≤ length (w .out .picks) = omega (arith, w .inv .2, w .inv .3) in
+    let z = c .before .before .before .before .before .loop .inv .0 in
+    let m = clash-hit _ _ _ sp _ _ (w .inv .1) b _ (c .before .before .before .before .loop-test .taken) (sym (c .before .spans-meet .ensures) ∙ c .if3 .taken) in
+    rw z (rest-clash _ _ _ _ _ _ l _ o f m ∙ w .inv .0, w .inv .1, w .inv .2, w .inv .3)
 
--- src/lib.rt:149:13
 add-j : tie.Need-add-j Inv-loop μ-loop Inv-transitions μ-transitions
-add-j c = ?
+add-j c = omega arith
 
--- src/lib.rt:149:9
 loop-less : tie.Need-loop-less Inv-loop μ-loop Inv-transitions μ-transitions
-loop-less c = ?
+loop-less c = omega arith
 
--- src/lib.rt:149:9
 loop-again : tie.Need-loop-again Inv-loop μ-loop Inv-transitions μ-transitions
-loop-again c = ?
+loop-again c =
+    let w = c .before .before .before .before .before .loop .inv in
+    (w .0, omega arith, up-to _ _ (w .2) (sym (c .before .spans-meet .ensures) ∙ c .if3 .left))
 
--- src/lib.rt:156:9
 mul-t26 : tie.Need-mul-t26 Inv-loop μ-loop Inv-transitions μ-transitions
-mul-t26 c = ?
+mul-t26 c = omega (arith, c .before .before .before .before .before .before .before .before .before .transitions .inv .3)
 
--- src/lib.rt:156:9
 element-set-from-out : tie.Need-element-set-from-out Inv-loop μ-loop Inv-transitions μ-transitions
-element-set-from-out c = ?
+element-set-from-out c =
+    let h = c .before .before .before .before .before .before .before .before .before .before .before .pre .0 in
+    let r = c .before .before .before .before .before .before .before .trans-row .ensures in
+    let w = c .before .before .before .before .before .before .before .before .before .transitions in
+    let l = c .before .before .before .before .before .before .before .before .transitions-test .taken in
+    let o = row-source _ h _ _ r (omega arith) _ (c .before .before .before .before .before .if1 .left) in
+    let f = row-enabled _ h _ _ r (omega arith) _ _ _ (c .before .before .before .before .enabled .ensures) ∙ not-false _ (c .before .before .before .if2 .left) in
+    let sp = row-spans _ h _ _ r (omega arith) _ _ (c .before .before .before .before .before .if1 .left) (c .before .before .span-of .ensures) in
+    let b : w .at ≤ length (w .out .picks) = omega (arith, w .inv .2, w .inv .3) in
+    let m = clash-none _ _ _ sp _ _ (w .inv .1) b (λ j q. c .before .loop .inv .2 j (omega arith)) in
+    take-room _ _ _ _ _ _ _ _ _ _ (w .inv .0) (c .before .before .before .before .before .before .before .before .before .before .transition-count .ensures) TRANSITIONS b l o f m (c .before .before .before .before .before .before .before .before .before .before .before .pre .1 .room)
 
--- src/lib.rt:160:9
 add-at : tie.Need-add-at Inv-loop μ-loop Inv-transitions μ-transitions
-add-at c = ?
+add-at c = omega (arith, c .before .before .before .before .before .before .before .before .before .transitions .inv .3)
 
--- src/lib.rt:139:23
 add-t-4 : tie.Need-add-t-4 Inv-loop μ-loop Inv-transitions μ-transitions
-add-t-4 c = ?
+add-t-4 c = omega arith
 
--- src/lib.rt:139:5
 transitions-less-4 : tie.Need-transitions-less-4 Inv-loop μ-loop Inv-transitions μ-transitions
-transitions-less-4 c = ?
+transitions-less-4 c = omega arith
 
--- src/lib.rt:139:5
 transitions-again-4 : tie.Need-transitions-again-4 Inv-loop μ-loop Inv-transitions μ-transitions
-transitions-again-4 c = ?
+transitions-again-4 c =
+    let h = c .before .before .before .before .before .before .before .before .before .before .before .pre .0 in
+    let r = c .before .before .before .before .before .before .before .trans-row .ensures in
+    let w = c .before .before .before .before .before .before .before .before .before .transitions in
+    let l = c .before .before .before .before .before .before .before .before .transitions-test .taken in
+    let o = row-source _ h _ _ r (omega arith) _ (c .before .before .before .before .before .if1 .left) in
+    let f = row-enabled _ h _ _ r (omega arith) _ _ _ (c .before .before .before .before .enabled .ensures) ∙ not-false _ (c .before .before .before .if2 .left) in
+    let sp = row-spans _ h _ _ r (omega arith) _ _ (c .before .before .before .before .before .if1 .left) (c .before .before .span-of .ensures) in
+    let b : w .at ≤ length (w .out .picks) = omega (arith, w .inv .2, w .inv .3) in
+    let m = clash-none _ _ _ sp _ _ (w .inv .1) b (λ j q. c .before .loop .inv .2 j (omega arith)) in
+    let room : w .at < TRANSITIONS = take-room _ _ _ _ _ _ _ _ _ _ (w .inv .0) (c .before .before .before .before .before .before .before .before .before .before .transition-count .ensures) TRANSITIONS b l o f m (c .before .before .before .before .before .before .before .before .before .before .before .pre .1 .room) in
+    let in-array : w .at < length (w .out .picks) = omega (arith, room, w .inv .2) in
+    rw (c .before .loop .inv .0) (
+      rw (picked-more (w .out .picks) (w .at) _ in-array) (rest-take _ _ _ _ _ _ l _ o f m ∙ w .inv .0),
+      kept-more (w .out .picks) (w .at) _ in-array _ (w .inv .1) sp,
+      length-set (w .out .picks) (w .at) _ ∙ w .inv .2,
+      omega (arith, room),
+    )
 
--- src/lib.rt:125:1
 returns : tie.Need-returns Inv-loop μ-loop Inv-transitions μ-transitions
-returns c = ?
+returns c =
+    let w = c .before .transitions .inv in
+    let e = c .before .before .transition-count .ensures in
+    record { is = all-taken _ _ _ _ _ _ _ (c .before .transitions .at) (c .before .transitions .out .picks) _ (w .0) e (c .transitions-test .left); stands = record { kept = w .1; few = w .3; size = w .2 } }
 
 pub choose-at-spec : {M : Type 1} → statement M
 choose-at-spec =
