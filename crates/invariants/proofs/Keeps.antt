@@ -7,7 +7,7 @@ use mathlib.Core.Bool.{Bool, false, true}
 use mathlib.Core.List.{List, [], _∷_}
 use lib.Dec.{leb}
 use lib.IntN.{_+ℤ_, pos, ℤ}
-use Rattle.laws.proofs.Sound.{Each, none-left, one-more}
+use Rattle.laws.proofs.Lists.{Each, none-left, one-more}
 use Rattle.laws.proofs.Steps.{Holds, holds-bind}
 use Rattle.meaning.specs.Chart.{Chart}
 use Rattle.meaning.specs.Effects.{act-on, act-var, acts-of, assign, enqueue, enter, held, mark-entered, perform, perform-all, take-queue}

@@ -3,3 +3,4 @@ pub mod Keeps
 pub mod Config
 pub mod Slots
 pub mod Values
+pub mod Good
