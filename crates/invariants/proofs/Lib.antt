@@ -4,3 +4,4 @@ pub mod Config
 pub mod Slots
 pub mod Values
 pub mod Good
+pub mod Choosing

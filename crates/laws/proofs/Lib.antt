@@ -8,3 +8,4 @@ pub mod Sound
 pub mod Reach
 pub mod Ways
 pub mod Value
+pub mod Scope
