@@ -5,3 +5,4 @@ pub mod Slots
 pub mod Values
 pub mod Good
 pub mod Choosing
+pub mod GoodReaction
