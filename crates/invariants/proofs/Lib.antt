@@ -6,3 +6,4 @@ pub mod Values
 pub mod Good
 pub mod Choosing
 pub mod GoodReaction
+pub mod Leaving
