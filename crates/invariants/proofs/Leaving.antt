@@ -195,7 +195,7 @@ module _ (c : Chart) (r : Sound-chart c) (on : ℕ → Bool) (g : Config c on no
       go true e = leave-leads a z v e l k h
       go false e = skipped z (k .state) h e
 
-  leaves : (a : ℤ) (n : ℕ) → ((z : ℕ) → s ≤ z → z < s + n → Under c s (suc z) × (suc z < length (c .states))) → Leads (Leaving c on s (suc (s + n))) (Leaving c on s (suc (s + 0))) (each (leave-active c a) (falling s n))
+  pub leaves : (a : ℤ) (n : ℕ) → ((z : ℕ) → s ≤ z → z < s + n → Under c s (suc z) × (suc z < length (c .states))) → Leads (Leaving c on s (suc (s + n))) (Leaving c on s (suc (s + 0))) (each (leave-active c a) (falling s n))
   unfolding falling each
   leaves a zero t k h = h
   leaves a (suc n) t k h = gives-bind (λ j. Leaving c on s (suc (s + n)) (j .state)) (λ j. Leaving c on s (suc (s + 0)) (j .state)) (leave-active c a (suc (s + n)) k) (each (leave-active c a) (falling s n))

@@ -7,3 +7,5 @@ pub mod Good
 pub mod Choosing
 pub mod GoodReaction
 pub mod Leaving
+pub mod Left
+pub mod Entering
