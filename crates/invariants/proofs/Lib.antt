@@ -9,3 +9,5 @@ pub mod GoodReaction
 pub mod Leaving
 pub mod Left
 pub mod Entering
+pub mod Fired
+pub mod Enters
