@@ -11,3 +11,4 @@ pub mod Left
 pub mod Entering
 pub mod Fired
 pub mod Enters
+pub mod Restoring
