@@ -99,11 +99,11 @@ abbrev pub Restorable : Chart → List ℤ → ℕ → Type 0
 Restorable c sl s = kind-of c s ≡ kind-o → is-filled (slot-at sl s) ≡ true
 
 module _ (c : Chart) (r : Sound-chart c) (sl : List ℤ) (l : Lead c sl) where
-  filled-not-empty : (x : Slot) → is-filled x ≡ true → x ≡ empty → ⊥
+  pub filled-not-empty : (x : Slot) → is-filled x ≡ true → x ≡ empty → ⊥
   unfolding is-filled
   filled-not-empty x e q = false≢true (sym (ap is-filled q) ∙ e)
 
-  goes-component : (s y : ℕ) → kind-of c s ≡ kind-a → is-child c s y ≡ true → Goes c sl s → Goes c sl y
+  pub goes-component : (s y : ℕ) → kind-of c s ≡ kind-a → is-child c s y ≡ true → Goes c sl s → Goes c sl y
   goes-component s y k t g = record {
     child = λ e. g .components k y t;
     components = λ e. absurd (not-o-of-a _ e (r .components s y k t));

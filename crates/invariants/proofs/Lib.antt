@@ -12,3 +12,4 @@ pub mod Entering
 pub mod Fired
 pub mod Enters
 pub mod Restoring
+pub mod HistoryFired

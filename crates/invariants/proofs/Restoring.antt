@@ -43,7 +43,7 @@ no-child-of-b c r (suc s) y k t =
     false≢true (every-child c (λ _. false) (suc s) e y (child-inside c (suc s) y (omega arith) t) t)
 
 module _ (c : Chart) (r : Sound-chart c) (sl : List ℤ) (ok : Slots-ok c sl) (lead : Lead c sl) where
-  slots-way-sound : Sound c (λ x. slot-way (slot-at sl x))
+  pub slots-way-sound : Sound c (λ x. slot-way (slot-at sl x))
   unfolding slot-way
   slots-way-sound = record {
     ordered = r .ordered;
@@ -73,7 +73,7 @@ module _ (c : Chart) (r : Sound-chart c) (sl : List ℤ) (ok : Slots-ok c sl) (l
 
   module _ (b : ℕ) (l : b < length (c .states)) (kb : kind-of c b ≡ kind-o) where
     -- the owner's own slot is filled, so it leads on
-    owner-goes : (d : ℕ) → slot-at sl b ≡ holds d → Goes c sl b
+    pub owner-goes : (d : ℕ) → slot-at sl b ≡ holds d → Goes c sl b
     unfolding is-filled
     owner-goes d e = record { child = λ k. ap is-filled e; components = λ k. absurd (not-o-of-a _ k kb) }
 
