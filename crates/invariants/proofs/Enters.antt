@@ -49,7 +49,7 @@ has-kept y p (x ∷ xs) = ⊎-elim (here (p x) refl (has-kept y p xs)) (there (p
     there true ih n = ap (λ t. t || has y (keep p xs)) (ne-eqb y x n) ∙ ih ∙ sym (ap (λ t. p y && (t || has y xs)) (ne-eqb y x n))
     there false ih n = ih ∙ sym (ap (λ t. p y && (t || has y xs)) (ne-eqb y x n))
 
-in-range : (y a n : ℕ) → a ≤ y → y < a + n → has y (from a n) ≡ true
+pub in-range : (y a n : ℕ) → a ≤ y → y < a + n → has y (from a n) ≡ true
 unfolding has from
 in-range y a zero l u = absurd (omega arith)
 in-range y a (suc n) l u = ⊎-elim

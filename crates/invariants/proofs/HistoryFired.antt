@@ -55,15 +55,15 @@ module _ (c : Chart) (r : Sound-chart c) (sl : List ℤ) (lead : Lead c sl) wher
 
 -- ---- the two ways, one after the other
 
-fired-under : (c : Chart) → Ordered c → (on r : ℕ → Bool) (s x : ℕ) → Under c s x → fired c on r s x ≡ r x
+pub fired-under : (c : Chart) → Ordered c → (on r : ℕ → Bool) (s x : ℕ) → Under c s x → fired c on r s x ≡ r x
 unfolding fired
 fired-under c o on r s x u = rw (under-has c o s x u)
 
-fired-elsewhere : (c : Chart) (on r : ℕ → Bool) (s x : ℕ) → has s (ancestors c x) ≡ false → fired c on r s x ≡ on x
+pub fired-elsewhere : (c : Chart) (on r : ℕ → Bool) (s x : ℕ) → has s (ancestors c x) ≡ false → fired c on r s x ≡ on x
 unfolding fired
 fired-elsewhere c on r s x e = rw e
 
-towards-goes : (c : Chart) (b x : ℕ) → towards c b x ≡ stops → ⊥
+pub towards-goes : (c : Chart) (b x : ℕ) → towards c b x ≡ stops → ⊥
 unfolding towards
 towards-goes c b x e = go (has x (ancestors c b)) e
   where

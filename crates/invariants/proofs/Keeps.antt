@@ -47,6 +47,10 @@ pub gives-holds : {A : Type 0} (P Q : A → Type 0) (r : Res A) → Gives r P �
 gives-holds P Q (ok a) h g = (h, g)
 gives-holds P Q (refuse e) h g = h
 
+pub gives-both : {A : Type 0} (P Q : A → Type 0) (r : Res A) → Gives r P → Gives r Q → Gives r (λ a. P a × Q a)
+gives-both P Q (ok a) h g = (h, g)
+gives-both P Q (refuse e) h g = h
+
 pub holds-of : {A : Type 0} (P : A → Type 0) (r : Res A) → Gives r P → Holds r P
 holds-of P (ok a) h = h
 holds-of P (refuse e) h = tt

@@ -13,3 +13,4 @@ pub mod Fired
 pub mod Enters
 pub mod Restoring
 pub mod HistoryFired
+pub mod Firing
