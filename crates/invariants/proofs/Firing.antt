@@ -158,7 +158,7 @@ module _ (c : Chart) (r : Sound-chart c) (z : Sized-chart c) (a : ℤ) where
 
   -- ---- a firing
 
-  fire-to-stands : (t s : ℕ) (x : Target) → Target-facts c s x → (k : Ctx) → Good c k → Standing c (k .state) → Armed-by c (k .state) s x
+  pub fire-to-stands : (t s : ℕ) (x : Target) → Target-facts c s x → (k : Ctx) → Good c k → Standing c (k .state) → Armed-by c (k .state) s x
       → Gives (fire-to c a t s x k) (λ j. Standing c (j .state) × Moved-by c (k .state) (j .state) s x)
   unfolding fire-to same-marks
   fire-to-stands t s (to d) f k g h e =

@@ -14,3 +14,4 @@ pub mod Enters
 pub mod Restoring
 pub mod HistoryFired
 pub mod Firing
+pub mod Stepping
