@@ -52,7 +52,7 @@ standing-outside c = record {
   queue = λ u q h. record { config = h .config; lead = h .lead };
 }
 
-stands : (c : Chart) (sl : List ℤ) (now on : ℕ → Bool) → Lead c sl → Config c on no-hole → ((y : ℕ) → now y ≡ on y) → (u : State) → Marks c sl now u → Standing c u
+pub stands : (c : Chart) (sl : List ℤ) (now on : ℕ → Bool) → Lead c sl → Config c on no-hole → ((y : ℕ) → now y ≡ on y) → (u : State) → Marks c sl now u → Standing c u
 stands c sl now on l g e u h = record {
   config = config-same c on (is-active u) no-hole (λ y. sym (h .marks y ∙ e y)) g;
   lead = subst (Lead c) (sym (h .slots)) l;

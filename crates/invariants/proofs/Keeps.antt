@@ -25,9 +25,9 @@ use Rattle.queue.specs.Queue.{appended}
 use Rattle.queue.specs.declared.Queue.{Queue}
 use Rattle.queue.specs.declared.Queued.{Queued}
 
--- an answer that no started state of its own chart ever gets is 6 or 14
+-- no refusal of a started state that is its chart's own: 6, 14, or 0, which is no refusal
 abbrev pub Fine : ℕ → Type 0
-Fine n = (n ≡ 6 → ⊥) × (n ≡ 14 → ⊥)
+Fine n = (n ≡ 6 → ⊥) × (n ≡ 14 → ⊥) × (n ≡ 0 → ⊥)
 
 -- what holds where a step goes on, and that it refuses with another number than 6 and 14
 abbrev pub Gives : {A : Type 0} → Res A → (A → Type 0) → Type 0
@@ -78,7 +78,7 @@ emit-keeps Q e k h = go (leb ENTRY (k .room))
   where
     go : (b : Bool) → Gives (bind (require 11 b k) (written (numbers e))) (λ j. Q (j .state))
     go true = h
-    go false = (λ x. omega arith, λ x. omega arith)
+    go false = (λ x. omega arith, λ x. omega arith, λ x. omega arith)
 
 pub change-leads : (Q R : State → Type 0) (f : State → State) → ((u : State) → Q u → R (f u)) → Leads Q R (change f)
 unfolding change
@@ -104,7 +104,7 @@ module _ (Q : State → Type 0) (o : Outside Q) where
         where
           on : (b : Bool) → Gives (bind (require 9 b k) (change (set-queue (q .queue)))) (λ j. Q (j .state))
           on true = change-leads Q Q _ (λ u. o .queue u (q .queue)) k h
-          on false = (λ z. omega arith, λ z. omega arith)
+          on false = (λ z. omega arith, λ z. omega arith, λ z. omega arith)
 
   pub act-keeps : (r : VarRow) (a : ℤ) (x : Act) → Keeps Q (act-on r a x)
   unfolding act-on look

@@ -15,3 +15,4 @@ pub mod Restoring
 pub mod HistoryFired
 pub mod Firing
 pub mod Stepping
+pub mod Own

@@ -136,7 +136,7 @@ module _ (c : Chart) (r : Sound-chart c) (z : Sized-chart c) where
 
   settle-in-stands : (n : ℕ) (k : Ctx) → Whole c k → Gives (settle-in c n k) (Whole c)
   unfolding settle-in look _then_
-  settle-in-stands zero k w = any-stands (chosen c 0 (k .state)) (λ _. refuse 12) k w (λ x. omega arith, λ x. omega arith)
+  settle-in-stands zero k w = any-stands (chosen c 0 (k .state)) (λ _. refuse 12) k w (λ x. omega arith, λ x. omega arith, λ x. omega arith)
   settle-in-stands (suc n) k w = any-stands (chosen c 0 (k .state)) (step c 0 (pos 0) then settle-in c n) k w
       (gives-bind (Whole c) (Whole c) (step c 0 (pos 0) k) (settle-in c n) (step-stands 0 (pos 0) k w) (settle-in-stands n))
 
