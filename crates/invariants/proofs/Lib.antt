@@ -16,3 +16,4 @@ pub mod HistoryFired
 pub mod Firing
 pub mod Stepping
 pub mod Own
+pub mod Calls
