@@ -17,3 +17,4 @@ pub mod Firing
 pub mod Stepping
 pub mod Own
 pub mod Calls
+pub mod CallLists
