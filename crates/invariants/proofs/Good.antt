@@ -1,25 +1,26 @@
 -- What every step keeps true of all that it works on, whatever phase of a firing it stands in: the started mark, the sizes, the
 -- values and the queue of the test for 6, slots that hold children, and a trace in which every entry names what the chart has.
 -- Assumes nothing.
-use mathlib.Core.Path.{_∙_, _≡_, ap, refl, subst, sym}
+use mathlib.Core.Path.{_∙_, _≡_, refl, subst, sym}
 use mathlib.Core.Logic.{⊎-elim}
 use Prim.Native.Nat.{_<_, _≤_, suc, zero, ℕ}
 use native.Mathlib.Omega.{arith}
 use mathlib.Core.Bool.{Bool, cond, false, true}
-use mathlib.Core.List.{List, [], _++_, _∷_, append-assoc, append-nil}
+use mathlib.Core.List.{List, [], _++_, _∷_}
 use lib.ListN.{getD, length, length-set, set}
 use lib.Seq.{getD-set-other, getD-set-same, set-out}
 use lib.Dec.{leb}
 use lib.IntN.{_+ℤ_, negsuc, pos, ℤ}
 use lib.Signed.{leZ}
 use borrow.Author.Tests.{le-leb}
-use Rattle.invariants.proofs.Keeps.{Stays, each-stays, look-stays, then-stays}
 use Rattle.invariants.proofs.Slots.{Slot-ok, Slots-ok}
 use Rattle.invariants.proofs.Values.{Values, appended-fits, held-in-row, values-set}
 use Rattle.laws.proofs.Lists.{Each, and-both, each-both, each-joined, le-or-lt, none-left, one-more, same-or}
 use Rattle.laws.proofs.Rules.{Act-facts, o-of}
 use Rattle.laws.proofs.Sound.{Sound-chart, acts-each, acts-sound, parent-child}
+use Rattle.laws.proofs.Stays.{Stays, each-stays, look-stays, then-stays}
 use Rattle.laws.proofs.Steps.{Holds}
+use Rattle.laws.proofs.Trace.{numbers-more}
 use Rattle.laws.proofs.Value.{Act-in-range, Sized-chart}
 use Rattle.meaning.specs.Chart.{Chart}
 use Rattle.meaning.specs.Effects.{act-on, act-var, acts-of, assign, enqueue, enter, held, leave, mark-entered, mark-left, o-parent, perform, perform-all}
@@ -53,14 +54,15 @@ pub record Sized (u : State) : Type 0 where
   pub vars : length (u .vars) ≡ VARIABLES
   pub items : length (u .queue .items) ≡ QUEUE
 
--- an entry names a transition, a state, a variable with a value of its row, or an event of the chart
+-- an entry names a transition, a state, a variable with a value of its row, or an event of the chart; arguments and told numbers
+-- are in 01's range
 abbrev pub Entry-ok : Chart → Entry → Type 0
 Entry-ok c (taken t) = t < length (c .transitions)
 Entry-ok c (left s) = s < length (c .states)
 Entry-ok c (entered s) = s < length (c .states)
 Entry-ok c (changed v x) = (v < length (c .vars)) × (within-row (var-row (c .vars) v) x ≡ true)
-Entry-ok c (sent e x) = (1 ≤ e) × (e ≤ c .events)
-Entry-ok c (told x) = Unit {0}
+Entry-ok c (sent e x) = (1 ≤ e) × (e ≤ c .events) × (inRange x ≡ true)
+Entry-ok c (told x) = inRange x ≡ true
 
 -- the numbers of a trace are those of entries that are all so
 abbrev pub Traced : Chart → List ℤ → Type 0
@@ -74,18 +76,8 @@ pub record Good (c : Chart) (k : Ctx) : Type 0 where
   pub slots : Slots-ok c (k .state .slots)
   pub trace : Traced c (k .out)
 
-concat-map-joined : {A B : Type 0} (f : A → List B) (xs ys : List A) → concat-map f (xs ++ ys) ≡ concat-map f xs ++ concat-map f ys
-unfolding concat-map
-concat-map-joined f [] ys = refl
-concat-map-joined f (x ∷ xs) ys = ap (λ l. f x ++ l) (concat-map-joined f xs ys) ∙ sym (append-assoc (f x) (concat-map f xs) (concat-map f ys))
-
 traced-more : (c : Chart) (out : List ℤ) (e : Entry) → Entry-ok c e → Traced c out → Traced c (out ++ numbers e)
-unfolding concat-map
-traced-more c out e h t = (
-  t .0 ++ (e ∷ []),
-  ap (λ l. l ++ numbers e) (t .1) ∙ ap (λ l. concat-map numbers (t .0) ++ l) (sym (append-nil (numbers e))) ∙ sym (concat-map-joined numbers (t .0) (e ∷ [])),
-  each-joined (Entry-ok c) (t .0) (e ∷ []) (t .2) (one-more h none-left),
-)
+traced-more c out e h t = (t .0 ++ (e ∷ []), numbers-more (t .0) out e (t .1), each-joined (Entry-ok c) (t .0) (e ∷ []) (t .2) (one-more h none-left))
 
 -- ---- the few changes
 
@@ -188,8 +180,8 @@ module _ (c : Chart) (h : Sound-chart c) (z : Sized-chart c) where
   act-good a (set-to v x) f = assign-good v x (f .0 .0)
   act-good a (add-to v x) f = look-stays (Good c) _ (λ k g. assign-good v (value-of (k .state) v +ℤ x) (f .0))
   act-good a (take-to v) f = assign-good v a (f .0)
-  act-good a (send e x) f = then-stays (Good c) _ _ (emit-good c (sent e x) (f .0)) (enqueue-good (pos e) x (sent-fits e x (f .0 .0) (f .0 .1) (f .1)))
-  act-good a (tell x) f = emit-good c (told x) tt
+  act-good a (send e x) f = then-stays (Good c) _ _ (emit-good c (sent e x) (f .0 .0, f .0 .1, f .1)) (enqueue-good (pos e) x (sent-fits e x (f .0 .0) (f .0 .1) (f .1)))
+  act-good a (tell x) f = emit-good c (told x) (f .1)
 
   pub acts-good : (a : ℤ) (o : Owner) → Stays (Good c) (perform-all c a o)
   unfolding perform-all

@@ -3,12 +3,11 @@
 use mathlib.Core.Path.{subst, sym}
 use Prim.Native.Nat.{_<_, suc, zero, ℕ}
 use native.Mathlib.Omega.{arith}
-use mathlib.Core.List.{List, [], _∷_, reverse}
+use mathlib.Core.List.{reverse}
 use lib.ListN.{length}
 use lib.IntN.{pos, ℤ}
 use Rattle.invariants.proofs.Choosing.{chosen-enabled}
 use Rattle.invariants.proofs.Good.{Good, acts-good, emit-good, leave-good, visit-good}
-use Rattle.invariants.proofs.Keeps.{Stays, each-stays, look-stays, then-stays, when-stays}
 use Rattle.invariants.proofs.Slots.{Slots-ok, slot-child}
 use Rattle.laws.proofs.Descent.{Sound}
 use Rattle.laws.proofs.Lists.{Each, each-kept, each-mapped, each-range, each-reversed, each-weaker}
@@ -16,14 +15,15 @@ use Rattle.laws.proofs.Reach.{pass-states}
 use Rattle.laws.proofs.Rules.{Target-facts}
 use Rattle.laws.proofs.Scope.{scope-facts}
 use Rattle.laws.proofs.Sound.{Sound-chart}
+use Rattle.laws.proofs.Stays.{Stays, each-stays, if-any-stays, look-stays, then-stays, when-stays}
 use Rattle.laws.proofs.Value.{Sized-chart}
 use Rattle.laws.proofs.Ways.{defaults-sound, owner-sound, slots-sound, towards-sound}
 use Rattle.meaning.specs.Chart.{Chart}
 use Rattle.meaning.specs.Effects.{leave}
 use Rattle.meaning.specs.Entry.{Visit, Way, all-below, by-defaults, by-slots, restore, restore-by, revisit, state-of, towards, towards-owner, visit}
 use Rattle.meaning.specs.Entry.{visit-towards}
-use Rattle.meaning.specs.Reaction.{chosen, fire, fire-to, if-any, leave-active, leave-all, settle, settle-in, step}
-use Rattle.meaning.specs.Steps.{Step, each, skip}
+use Rattle.meaning.specs.Reaction.{chosen, fire, fire-to, leave-active, leave-all, settle, settle-in, step}
+use Rattle.meaning.specs.Steps.{each}
 use Rattle.meaning.specs.Tree.{all-states, descendants, scope, trans-row}
 use Rattle.meaning.specs.Widget.{Ctx, is-active, slot, taken}
 use Rattle.meaning.specs.declared.State.{State}
@@ -107,15 +107,10 @@ module _ (c : Chart) (h : Sound-chart c) (z : Sized-chart c) (a : ℤ) where
       (each-weaker _ _ _ (λ t q. q .0) (chosen-enabled c e (k .state))))
 
 module _ (c : Chart) (h : Sound-chart c) (z : Sized-chart c) where
-  if-any-good : {A : Type 0} (xs : List A) (F : Step Ctx) → Stays (Good c) F → Stays (Good c) (if-any xs F)
-  unfolding if-any skip
-  if-any-good [] F f k g = g
-  if-any-good (x ∷ xs) F f k g = f k g
-
   settle-in-good : (n : ℕ) → Stays (Good c) (settle-in c n)
   unfolding settle-in
-  settle-in-good zero = look-stays (Good c) _ (λ k g. if-any-good (chosen c 0 (k .state)) _ (λ j f. tt))
-  settle-in-good (suc n) = look-stays (Good c) _ (λ k g. if-any-good (chosen c 0 (k .state)) _ (then-stays (Good c) _ _ (step-good c h z (pos 0) 0) (settle-in-good n)))
+  settle-in-good zero = look-stays (Good c) _ (λ k g. if-any-stays (Good c) (chosen c 0 (k .state)) _ (λ j f. tt))
+  settle-in-good (suc n) = look-stays (Good c) _ (λ k g. if-any-stays (Good c) (chosen c 0 (k .state)) _ (then-stays (Good c) _ _ (step-good c h z (pos 0) 0) (settle-in-good n)))
 
   pub settle-good : Stays (Good c) (settle c)
   unfolding settle

@@ -18,7 +18,7 @@ use Rattle.invariants.proofs.Fired.{fired, legal-stays}
 use Rattle.invariants.proofs.Firing.{stands}
 use Rattle.invariants.proofs.Good.{Good, Sized, Traced, enter-good, visit-good}
 use Rattle.invariants.proofs.GoodReaction.{below-inside}
-use Rattle.invariants.proofs.Keeps.{Gives, each-stays, gives-bind, gives-holds, gives-map}
+use Rattle.invariants.proofs.Keeps.{Gives, gives-bind, gives-holds, gives-map}
 use Rattle.invariants.proofs.Left.{left-on}
 use Rattle.invariants.proofs.Slots.{Lead, Slot-ok, lead-of, slots-fit-of, slots-of}
 use Rattle.invariants.proofs.Stepping.{Whole, settle-stands}
@@ -28,6 +28,7 @@ use Rattle.laws.proofs.Reach.{reach, reached}
 use Rattle.laws.proofs.Rules.{not-o-of-a}
 use Rattle.laws.proofs.Scope.{root-above}
 use Rattle.laws.proofs.Sound.{Sound-chart}
+use Rattle.laws.proofs.Stays.{each-stays}
 use Rattle.laws.proofs.Tree.{under-has}
 use Rattle.laws.proofs.Value.{Sized-chart, getD-map}
 use Rattle.laws.proofs.Ways.{defaults-sound}

@@ -9,3 +9,5 @@ pub mod Reach
 pub mod Ways
 pub mod Value
 pub mod Scope
+pub mod Stays
+pub mod Trace

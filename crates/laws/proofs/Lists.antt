@@ -113,27 +113,6 @@ module _ (p : ℕ → Bool) where
       go true e ih = and-both (p a) (every p (keep q (from (suc a) n))) (h a (omega arith) (omega arith) e) ih
       go false e ih = ih
 
--- ---- exactly one of those kept
-
-module _ (p q : ℕ → Bool) where
-  -- some number that q and p keep
-  pub kept-some : (a n : ℕ) → 1 ≤ length (keep p (keep q (from a n))) → (x : ℕ) × (a ≤ x) × (x < a + n) × (q x ≡ true) × (p x ≡ true)
-  unfolding keep from
-  kept-some a zero l = absurd (omega arith)
-  kept-some a (suc n) l = go (q a) refl (p a) refl l (kept-some (suc a) n)
-    where
-      rest : List ℕ
-      rest = keep q (from (suc a) n)
-
-      found : (x : ℕ) × (suc a ≤ x) × (x < suc a + n) × (q x ≡ true) × (p x ≡ true) → (x : ℕ) × (a ≤ x) × (x < a + suc n) × (q x ≡ true) × (p x ≡ true)
-      found f = (f .0, omega (arith, f .1), omega (arith, f .2), f .3, f .4)
-
-      go : (b : Bool) → q a ≡ b → (d : Bool) → p a ≡ d → 1 ≤ length (keep p (cond b (a ∷ rest) rest)) → (1 ≤ length (keep p rest) → (x : ℕ) × (suc a ≤ x) × (x < suc a + n) × (q x ≡ true) × (p x ≡ true))
-          → (x : ℕ) × (a ≤ x) × (x < a + suc n) × (q x ≡ true) × (p x ≡ true)
-      go true e true f h ih = (a, omega arith, omega arith, e, f)
-      go true e false f h ih = found (ih (rw f at h))
-      go false e d f h ih = found (ih h)
-
 -- ---- two numbers
 
 pub le-or-lt : (m n : ℕ) → (m ≤ n) ⊎ (n < m)
