@@ -18,3 +18,4 @@ pub mod Stepping
 pub mod Own
 pub mod Calls
 pub mod CallLists
+pub mod Instance
