@@ -1,18 +1,17 @@
 -- What a step leads to: from a state with one property to a state with another, where it goes on; where it refuses, the answer is
 -- neither 6 nor 14. One lemma for each word in which steps are written. Assumes nothing.
-use mathlib.Core.Path.{_≡_, refl}
+use mathlib.Core.Path.{_≡_}
 use Prim.Native.Nat.{ℕ}
 use native.Mathlib.Omega.{arith}
 use mathlib.Core.Bool.{Bool, false, true}
 use mathlib.Core.List.{List, [], _∷_}
 use lib.Dec.{leb}
 use lib.IntN.{_+ℤ_, pos, ℤ}
-use Rattle.laws.proofs.Sound.{Each, none-left, one-more}
-use Rattle.laws.proofs.Steps.{Holds, holds-bind}
+use Rattle.laws.proofs.Steps.{Holds}
 use Rattle.meaning.specs.Chart.{Chart}
 use Rattle.meaning.specs.Effects.{act-on, act-var, acts-of, assign, enqueue, enter, held, mark-entered, perform, perform-all, take-queue}
 use Rattle.meaning.specs.Entry.{Visit, by-default, plain, state-of, visit}
-use Rattle.meaning.specs.Steps.{Res, Step, _then_, bind, each, look, ok, refuse, require, when}
+use Rattle.meaning.specs.Steps.{Res, Step, _then_, bind, each, look, ok, refuse, require}
 use Rattle.meaning.specs.Tree.{var-row}
 use Rattle.meaning.specs.Widget.{Ctx, ENTRY, Entry, change, emit, numbers, set-active, set-queue, set-value, value-of, written}
 use Rattle.meaning.specs.declared.State.{State}
@@ -25,9 +24,9 @@ use Rattle.queue.specs.Queue.{appended}
 use Rattle.queue.specs.declared.Queue.{Queue}
 use Rattle.queue.specs.declared.Queued.{Queued}
 
--- an answer that no started state of its own chart ever gets is 6 or 14
+-- no refusal of a started state that is its chart's own: 6, 14, or 0, which is no refusal
 abbrev pub Fine : ℕ → Type 0
-Fine n = (n ≡ 6 → ⊥) × (n ≡ 14 → ⊥)
+Fine n = (n ≡ 6 → ⊥) × (n ≡ 14 → ⊥) × (n ≡ 0 → ⊥)
 
 -- what holds where a step goes on, and that it refuses with another number than 6 and 14
 abbrev pub Gives : {A : Type 0} → Res A → (A → Type 0) → Type 0
@@ -46,6 +45,10 @@ gives-map P Q (refuse e) h n = h
 pub gives-holds : {A : Type 0} (P Q : A → Type 0) (r : Res A) → Gives r P → Holds r Q → Gives r (λ a. P a × Q a)
 gives-holds P Q (ok a) h g = (h, g)
 gives-holds P Q (refuse e) h g = h
+
+pub gives-both : {A : Type 0} (P Q : A → Type 0) (r : Res A) → Gives r P → Gives r Q → Gives r (λ a. P a × Q a)
+gives-both P Q (ok a) h g = (h, g)
+gives-both P Q (refuse e) h g = h
 
 pub holds-of : {A : Type 0} (P : A → Type 0) (r : Res A) → Gives r P → Holds r P
 holds-of P (ok a) h = h
@@ -74,7 +77,7 @@ emit-keeps Q e k h = go (leb ENTRY (k .room))
   where
     go : (b : Bool) → Gives (bind (require 11 b k) (written (numbers e))) (λ j. Q (j .state))
     go true = h
-    go false = (λ x. omega arith, λ x. omega arith)
+    go false = (λ x. omega arith, λ x. omega arith, λ x. omega arith)
 
 pub change-leads : (Q R : State → Type 0) (f : State → State) → ((u : State) → Q u → R (f u)) → Leads Q R (change f)
 unfolding change
@@ -100,7 +103,7 @@ module _ (Q : State → Type 0) (o : Outside Q) where
         where
           on : (b : Bool) → Gives (bind (require 9 b k) (change (set-queue (q .queue)))) (λ j. Q (j .state))
           on true = change-leads Q Q _ (λ u. o .queue u (q .queue)) k h
-          on false = (λ z. omega arith, λ z. omega arith)
+          on false = (λ z. omega arith, λ z. omega arith, λ z. omega arith)
 
   pub act-keeps : (r : VarRow) (a : ℤ) (x : Act) → Keeps Q (act-on r a x)
   unfolding act-on look
@@ -122,27 +125,3 @@ pub visit-leads : (Q R : State → Type 0) → Outside Q → Outside R → (c : 
 unfolding visit state-of
 visit-leads Q R p o c a (plain s) h = enter-leads Q R o c a s h
 visit-leads Q R p o c a (by-default d s) h = then-leads Q Q R _ _ (acts-keep Q p c a (default-of d)) (enter-leads Q R o c a s h)
-
--- ---- the same of everything that a step works on, where it goes on
-
-abbrev pub Stays : (Ctx → Type 0) → Step Ctx → Type 0
-Stays P F = (k : Ctx) → P k → Holds (F k) P
-
-module _ (P : Ctx → Type 0) where
-  pub then-stays : (F G : Step Ctx) → Stays P F → Stays P G → Stays P (F then G)
-  unfolding _then_
-  then-stays F G f g k h = holds-bind P P (F k) G (f k h) g
-
-  pub each-stays : {A : Type 0} (F : A → Step Ctx) (R : A → Type 0) → ((x : A) → R x → Stays P (F x)) → (xs : List A) → Each R xs → Stays P (each F xs)
-  unfolding each
-  each-stays F R f [] none-left k h = h
-  each-stays F R f (x ∷ xs) (one-more r rs) k h = holds-bind P P (F x k) (each F xs) (f x r k h) (each-stays F R f xs rs)
-
-  pub look-stays : (F : Ctx → Step Ctx) → ((k : Ctx) → P k → Stays P (F k)) → Stays P (look F)
-  unfolding look
-  look-stays F f k h = f k h k h
-
-  pub when-stays : (b : Bool) (F : Step Ctx) → (b ≡ true → Stays P F) → Stays P (when b F)
-  unfolding when
-  when-stays true F f k h = f refl k h
-  when-stays false F f k h = h

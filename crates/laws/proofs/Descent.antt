@@ -5,7 +5,7 @@ use Prim.Native.Nat.{_+_, _-_, _<_, _≤_, suc, zero, ℕ}
 use native.Mathlib.Omega.{arith}
 use native.Mathlib.Nat.{eq-or-lt-of-le}
 use mathlib.Core.Bool.{Bool, _&&_, cond, false, true, true≢false}
-use mathlib.Core.List.{List, [], _++_, _∷_, map}
+use mathlib.Core.List.{List, [], _++_, _∷_, append-nil, map}
 use lib.ListN.{length}
 use lib.Dec.{eqb}
 use borrow.Author.Tests.{eq-eqb, eqb-true, ne-eqb}
@@ -43,10 +43,6 @@ module _ {A B : Type 0} where
   unfolding concat-map keep
   keep-concat-map p g [] = refl
   keep-concat-map p g (x ∷ xs) = keep-append p (g x) (concat-map g xs) ∙ ap (λ l. keep p (g x) ++ l) (keep-concat-map p g xs)
-
-pub append-nil : {A : Type 0} (l : List A) → l ++ [] ≡ l
-append-nil [] = refl
-append-nil (x ∷ l) = ap (λ k. x ∷ k) (append-nil l)
 
 none-from : {B : Type 0} (g : ℕ → List B) (p : ℕ → Bool) (a n : ℕ) → ((x : ℕ) → a ≤ x → p x ≡ true → g x ≡ []) → concat-map g (keep p (from a n)) ≡ []
 unfolding concat-map keep from

@@ -8,3 +8,6 @@ pub mod Sound
 pub mod Reach
 pub mod Ways
 pub mod Value
+pub mod Scope
+pub mod Stays
+pub mod Trace
