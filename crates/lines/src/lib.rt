@@ -26,6 +26,7 @@ use layout::VARS_AT;
 use marks::put;
 use marks::put2;
 use marks::put3;
+use marks::put5;
 use marks::room;
 use marks::worse;
 use marks::worse3;
@@ -73,5 +74,42 @@ pub fn line_v(s: &[u8], from: usize, to: usize, turn: usize, chart: &mut [i32]) 
         return m;
     }
     put3(chart, VARS_AT + turn * VAR_ROW, low, high, first);
+    0
+}
+
+// E, count of events.
+pub fn line_e(s: &[u8], from: usize, to: usize, chart: &mut [i32]) -> usize
+    requires { ⌜ (from ≤ to) × (to ≤ length (now s)) × (value.VALUE ≤ length (now chart)) ⌝ }
+    ensures { λ r. ⌜ Took (e-line (fields (slice from to (now (s .entry))))) 2 (now (chart .entry)) r (now (chart .exit)) ⌝ }
+{
+    if !exactly(s, from, to, 2) {
+        return 1;
+    }
+    let count = count_cell(num_at(s, from, to, 1));
+    let m = worse(0, worse(count.mark, 0));
+    if m != 0 {
+        return m;
+    }
+    put(chart, EVENT_COUNT, count);
+    0
+}
+
+// S, number, parent, kind, default: state 0 alone has parent "-", and the default is a number for o, else "-".
+pub fn line_s(s: &[u8], from: usize, to: usize, turn: usize, chart: &mut [i32]) -> usize
+    requires { ⌜ (from ≤ to) × (to ≤ length (now s)) × (value.VALUE ≤ length (now chart)) ⌝ }
+    ensures { λ r. ⌜ Took (s-line turn (fields (slice from to (now (s .entry))))) (value.STATES-AT + turn * value.STATE-ROW) (now (chart .entry)) r (now (chart .exit)) ⌝ }
+{
+    if !formed(s, from, to, 5, turn) {
+        return 1;
+    }
+    let parent = number_or_dash_at(turn != 0, s, from, to, 2);
+    let kind = one_of_at(s, from, to, 3, b"oab");
+    let is_o = letter_at(s, from, to, 3) == b'o';
+    let default = number_or_dash_at(is_o, s, from, to, 4);
+    let m = worse(room(turn, STATES), worse3(parent.mark, kind.mark, default.mark, 0));
+    if m != 0 {
+        return m;
+    }
+    put3(chart, STATES_AT + turn * STATE_ROW, parent, kind, default);
     0
 }
