@@ -48,13 +48,58 @@ module _ (l : Line) (at : ℕ) (xs : List ℤ) where
       size = ap length h ∙ length-sets xs at (values cs);
     }
 
--- ---- V
+-- ---- S and V
 module _ (n : ℕ) (fs : List (List ℕ)) (t : Bool) (e : t ≡ formed 5 n fs) where
   pub v-wrong : t ≡ false → v-line n fs ≡ wrong
   unfolding v-line
   v-wrong h = rw (← e, h)
 
-  pub v-is : (a b c : Cell) → t ≡ true → a ≡ number-cell (field fs 2) → b ≡ number-cell (field fs 3) → c ≡ number-cell (field fs 4)
-      → v-line n fs ≡ stated (room n VARIABLES) (a ∷ b ∷ c ∷ [])
-  unfolding v-line stated
-  v-is a b c h ea eb ec = rw (← e, h, ea, eb, ec)
+  pub s-wrong : t ≡ false → s-line n fs ≡ wrong
+  unfolding s-line
+  s-wrong h = rw (← e, h)
+
+  module _ (a b c : Cell) (h : t ≡ true) where
+    pub v-is : a ≡ number-cell (field fs 2) → b ≡ number-cell (field fs 3) → c ≡ number-cell (field fs 4)
+        → v-line n fs ≡ stated (room n VARIABLES) (a ∷ b ∷ c ∷ [])
+    unfolding v-line stated
+    v-is ea eb ec = rw (← e, h, ea, eb, ec)
+
+    pub s-is : (l : ℕ) → l ≡ letter-of (field fs 3) → a ≡ number-or-dash (not (eqb n 0)) (field fs 2) → b ≡ letter-cell (111 ∷ 97 ∷ 98 ∷ []) (field fs 3)
+        → c ≡ number-or-dash (eqb l 111) (field fs 4) → s-line n fs ≡ stated (room n STATES) (a ∷ b ∷ c ∷ [])
+    unfolding s-line stated
+    s-is l el ea eb ec = rw (← e, h, ea, eb, ec, el)
+
+-- ---- E
+module _ (fs : List (List ℕ)) (t : Bool) (e : t ≡ eqb (length fs) 2) where
+  pub e-wrong : t ≡ false → e-line fs ≡ wrong
+  unfolding e-line
+  e-wrong h = rw (← e, h)
+
+  pub e-is : (v : Num) (a : Cell) → t ≡ true → v ≡ number-of (field fs 1) → a ≡ count-cell v → e-line fs ≡ stated 0 (a ∷ [])
+  unfolding e-line stated
+  e-is v a h ev ea = rw (← e, h, ea, ev)
+
+-- ---- A
+module _ (n : ℕ) (fs : List (List ℕ)) (t : Bool) (e : t ≡ eqb (length fs) 6) where
+  pub a-wrong : t ≡ false → a-line n fs ≡ wrong
+  unfolding a-line
+  a-wrong h = rw (← e, h)
+
+  pub a-is : (a b c d x : Cell) (l : ℕ) (w : Bool) → t ≡ true → l ≡ letter-of (field fs 3) → w ≡ has l (115 ∷ 97 ∷ 113 ∷ [])
+      → a ≡ letter-cell (101 ∷ 120 ∷ 100 ∷ 116 ∷ []) (field fs 1) → b ≡ number-cell (field fs 2) → c ≡ letter-cell (115 ∷ 97 ∷ 107 ∷ 113 ∷ 111 ∷ []) (field fs 3)
+      → d ≡ number-cell (field fs 4) → x ≡ number-or-dash w (field fs 5) → a-line n fs ≡ stated (room n ACTIONS) (a ∷ b ∷ c ∷ d ∷ x ∷ [])
+  unfolding a-line stated
+  a-is a b c d x l w h el ew ea eb ec ed ex = rw (← e, h, ea, eb, ec, ed, ex, ew, el)
+
+-- ---- T
+module _ (n : ℕ) (fs : List (List ℕ)) (t : Bool) (e : t ≡ formed 8 n fs) where
+  pub t-wrong : t ≡ false → t-line n fs ≡ wrong
+  unfolding t-line
+  t-wrong h = rw (← e, h)
+
+  pub t-is : (a b c d x y z : Cell) (l : ℕ) → t ≡ true → l ≡ letter-of (field fs 4) → a ≡ number-cell (field fs 2) → b ≡ number-cell (field fs 3)
+      → c ≡ number-or-dash (not (eqb l 45)) (field fs 4) → d ≡ letter-or-dash (not (eqb l 45)) (61 ∷ 60 ∷ 62 ∷ []) (field fs 5)
+      → x ≡ number-or-dash (not (eqb l 45)) (field fs 6) → y ∷ z ∷ [] ≡ target-cells (field fs 7)
+      → t-line n fs ≡ stated (room n TRANSITIONS) (a ∷ b ∷ c ∷ d ∷ x ∷ y ∷ z ∷ [])
+  unfolding t-line stated
+  t-is a b c d x y z l h el ea eb ec ed ex ey = rw (← e, h, ea, eb, ec, ed, ex, ← ey, el)

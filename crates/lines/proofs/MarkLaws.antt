@@ -68,6 +68,26 @@ pub put-three : (l m k : List ℤ) (at : ℕ) (a b c : Cell) → m ≡ put-row l
 unfolding put-row
 put-three l m k at a b c e f = rw (f, e, add-two)
 
--- ---- the mark of a line of three cells
-pub mark-three : (r a b c m x y : ℕ) → m ≡ worse x y → x ≡ r → y ≡ worse a (worse b (worse c 0)) → m ≡ worse r (worse a (worse b (worse c 0)))
-mark-three r a b c m x y em ex ey = rw (em, ex, ey)
+pub put-five : (l m k : List ℤ) (at : ℕ) (a b c d e : Cell) → m ≡ put-row l at (a ∷ b ∷ c ∷ []) → k ≡ put-row m (at + 3) (d ∷ e ∷ []) → k ≡ put-row l at (a ∷ b ∷ c ∷ d ∷ e ∷ [])
+unfolding put-row
+put-five l m k at a b c d e f g = let z : at + 3 ≡ suc (suc (suc at)) = omega arith in rw (g, f, z)
+
+pub put-seven : (l m k : List ℤ) (at : ℕ) (a b c d e x y : Cell) → m ≡ put-row l at (a ∷ b ∷ c ∷ d ∷ e ∷ []) → k ≡ put-row m (at + 5) (x ∷ y ∷ [])
+    → k ≡ put-row l at (a ∷ b ∷ c ∷ d ∷ e ∷ x ∷ y ∷ [])
+unfolding put-row
+put-seven l m k at a b c d e x y f g = let z : at + 5 ≡ suc (suc (suc (suc (suc at)))) = omega arith in rw (g, f, z)
+
+-- ---- the mark of a line of one, three, five and seven cells
+pub mark-one : (a m y : ℕ) → m ≡ worse 0 y → y ≡ worse a 0 → m ≡ worse 0 (worse a 0)
+mark-one a m y em ey = rw (em, ey)
+
+module _ (r a b c m x y : ℕ) (em : m ≡ worse x y) (ex : x ≡ r) where
+  pub mark-three : y ≡ worse a (worse b (worse c 0)) → m ≡ worse r (worse a (worse b (worse c 0)))
+  mark-three ey = rw (em, ex, ey)
+
+  module _ (z d e : ℕ) (ey : y ≡ worse a (worse b (worse c z))) where
+    pub mark-five : (w : ℕ) → z ≡ worse d w → w ≡ worse e 0 → m ≡ worse r (worse a (worse b (worse c (worse d (worse e 0)))))
+    mark-five w ez ew = rw (em, ex, ey, ez, ew)
+
+    pub mark-seven : (w f g : ℕ) → z ≡ worse d (worse e (worse f w)) → w ≡ worse g 0 → m ≡ worse r (worse a (worse b (worse c (worse d (worse e (worse f (worse g 0)))))))
+    mark-seven w f g ez ew = rw (em, ex, ey, ez, ew)

@@ -63,3 +63,31 @@ pub fn put3(chart: &mut [i32], at: usize, a: Cell, b: Cell, c: Cell)
     put2(chart, at, a, b);
     put(chart, at + 2, c);
 }
+
+// Five of them.
+pub fn put5(chart: &mut [i32], at: usize, a: Cell, b: Cell, c: Cell, d: Cell, e: Cell)
+    requires { ⌜ at + 5 ≤ length (now chart) ⌝ }
+    ensures { λ _. ⌜ now (chart .exit) ≡ put-row (now (chart .entry)) at (a ∷ b ∷ c ∷ d ∷ e ∷ []) ⌝ }
+{
+    put3(chart, at, a, b, c);
+    put2(chart, at + 3, d, e);
+}
+
+// Seven of them: the row of a transition.
+pub fn put7(
+    chart: &mut [i32],
+    at: usize,
+    a: Cell,
+    b: Cell,
+    c: Cell,
+    d: Cell,
+    e: Cell,
+    f: Cell,
+    g: Cell,
+)
+    requires { ⌜ at + 7 ≤ length (now chart) ⌝ }
+    ensures { λ _. ⌜ now (chart .exit) ≡ put-row (now (chart .entry)) at (a ∷ b ∷ c ∷ d ∷ e ∷ f ∷ g ∷ []) ⌝ }
+{
+    put5(chart, at, a, b, c, d, e);
+    put2(chart, at + 5, f, g);
+}
