@@ -2,3 +2,5 @@ pub mod Noting
 pub mod Going
 pub mod Effects
 pub mod Loops
+pub mod Every
+pub mod Tests
