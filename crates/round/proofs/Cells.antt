@@ -77,7 +77,7 @@ pub absent-letter : (k : ℕ) → is-absent (pos k) ≡ false
 unfolding is-absent
 absent-letter k = refl
 
-letters-of : (k : ℕ) (ls : List ℕ) → one-of-letters ls (pos k) ≡ has k ls
+pub letters-of : (k : ℕ) (ls : List ℕ) → one-of-letters ls (pos k) ≡ has k ls
 unfolding has
 letters-of k [] = refl
 letters-of k (l ∷ ls) = rw (letters-of k ls)

@@ -1,3 +1,4 @@
 pub mod Numbers
 pub mod Splits
 pub mod Cells
+pub mod LinesKept
