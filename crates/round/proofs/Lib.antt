@@ -5,3 +5,5 @@ pub mod LinesKept
 pub mod FieldsFree
 pub mod LinesRead
 pub mod TransRead
+pub mod Shaped
+pub mod WalkKept
