@@ -7,3 +7,4 @@ pub mod LinesRead
 pub mod TransRead
 pub mod Shaped
 pub mod WalkKept
+pub mod WalkRead

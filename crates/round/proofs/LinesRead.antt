@@ -20,6 +20,8 @@ use Rattle.meaning.specs.Split.{TAB, LF, fields, joined}
 use Rattle.meaning.specs.Line.{Line, worse, room, line-if, cell, field, letter-of, is-dash, is-turn, formed}
 use Rattle.meaning.specs.Line.{number-cell, dash-cell, letter-cell, number-or-dash, letter-or-dash, count-cell, trans-cells, target-cells}
 use Rattle.meaning.specs.Line.{s-line, v-line, e-line, t-line, a-line, number-text, letter-text, target-text, s-text, v-text, e-text, t-text, a-text}
+use Rattle.meaning.specs.Line.{record-by, s-record, v-record, e-record, t-record, a-record}
+use Rattle.meaning.specs.Text.{record-of}
 use Rattle.meaning.specs.declared.Num.{Num}
 use Rattle.meaning.specs.declared.Num.the-variants.{Is, Beyond, Not}
 use Rattle.meaning.specs.declared.Cell.{Cell}
@@ -67,6 +69,10 @@ module _ (n : ℕ) (row : List ℤ) (ok : state-statable n row ≡ true) (fits :
       (omega (arith, short-letter (num row 1)), (short-number (is-letter 111 (num row 1)) (num row 2) (s-facts .default), tt)),
     ),
   )
+
+  pub s-named : record-of (fields (s-text n row)) ≡ s-record
+  unfolding s-text record-by
+  s-named = rw (fields-joined (83 ∷ []) s-fields (s-all-free TAB (omega arith)))
 
   pub s-reads : length row ≡ STATE-ROW → s-line n (fields (s-text n row)) ≡ taken-line row
   unfolding s-text s-line formed room worse spread
@@ -120,6 +126,10 @@ module _ (n : ℕ) (row : List ℤ) (ok : var-statable row ≡ true) (fits : n <
     (short-numeral (num row 0) (v-facts .low), (short-numeral (num row 1) (v-facts .high), (short-numeral (num row 2) (v-facts .first), tt))),
   )
 
+  pub v-named : record-of (fields (v-text n row)) ≡ v-record
+  unfolding v-text record-by
+  v-named = rw (fields-joined (86 ∷ []) v-fields (v-all-free TAB (omega arith)))
+
   pub v-reads : length row ≡ VAR-ROW → v-line n (fields (v-text n row)) ≡ taken-line row
   unfolding v-text v-line formed room worse spread
   v-reads long =
@@ -150,6 +160,10 @@ module _ (m : ℕ) (fits : m ≤ EVENTS) where
   pub e-short : length (e-text (pos m)) ≤ 13
   unfolding e-text AllShort
   e-short = joined-length 11 69 e-fields (short-turn m (omega arith), tt)
+
+  pub e-named : record-of (fields (e-text (pos m))) ≡ e-record
+  unfolding e-text record-by
+  e-named = rw (fields-joined (69 ∷ []) e-fields (e-all-free TAB (omega arith)))
 
   pub e-reads : e-line (fields (e-text (pos m))) ≡ taken-line (pos m ∷ [])
   unfolding e-text e-line worse
@@ -212,6 +226,10 @@ module _ (n : ℕ) (row : List ℤ) (ok : action-statable row ≡ true) (fits : 
       ),
     ),
   )
+
+  pub a-named : record-of (fields (a-text row)) ≡ a-record
+  unfolding a-text record-by
+  a-named = rw (fields-joined (65 ∷ []) a-fields (a-all-free TAB (omega arith)))
 
   pub a-reads : length row ≡ ACT-ROW → a-line n (fields (a-text row)) ≡ taken-line row
   unfolding a-text a-line room worse spread

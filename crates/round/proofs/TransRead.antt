@@ -20,6 +20,8 @@ use Rattle.meaning.specs.Split.{TAB, LF, fields, joined}
 use Rattle.meaning.specs.Line.{Line, worse, room, line-if, cell, field, letter-of, is-dash, is-turn, formed}
 use Rattle.meaning.specs.Line.{number-cell, dash-cell, letter-cell, number-or-dash, letter-or-dash, count-cell, trans-cells, target-cells}
 use Rattle.meaning.specs.Line.{s-line, v-line, e-line, t-line, a-line, number-text, letter-text, target-text, s-text, v-text, e-text, t-text, a-text}
+use Rattle.meaning.specs.Line.{record-by, s-record, v-record, e-record, t-record, a-record}
+use Rattle.meaning.specs.Text.{record-of}
 use Rattle.meaning.specs.declared.Num.{Num}
 use Rattle.meaning.specs.declared.Num.the-variants.{Is, Beyond, Not}
 use Rattle.meaning.specs.declared.Cell.{Cell}
@@ -173,6 +175,10 @@ module _ (n : ℕ) (row : List ℤ) (ok : trans-statable row ≡ true) (fits : n
       ),
     ),
   )
+
+  pub t-named : record-of (fields (t-text n row)) ≡ t-record
+  unfolding t-text record-by
+  t-named = rw (fields-joined (84 ∷ []) t-fields (t-all-free TAB (omega arith)))
 
   pub t-reads : length row ≡ TRANS-ROW → t-line n (fields (t-text n row)) ≡ taken-line row
   unfolding t-text t-line formed room worse spread
