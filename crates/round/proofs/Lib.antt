@@ -8,3 +8,4 @@ pub mod TransRead
 pub mod Shaped
 pub mod WalkKept
 pub mod WalkRead
+pub mod Values
