@@ -9,3 +9,5 @@ pub mod Shaped
 pub mod WalkKept
 pub mod WalkRead
 pub mod Values
+pub mod Same
+pub mod Round

@@ -64,7 +64,7 @@ module _ (k most : ℕ) (rs : List (List ℤ)) (long : AllLong k rs) (few : leng
   flat-fits : length (flat rs) ≤ most * k
   flat-fits = let h = mul-le-mul-right k few in rw (flat-length k rs long) h
 
-  area-length : length (area (most * k) rs) ≡ most * k
+  pub area-length : length (area (most * k) rs) ≡ most * k
   unfolding padded
   area-length =
       let h = flat-fits in
@@ -77,11 +77,11 @@ module _ (k most : ℕ) (rs : List (List ℤ)) (long : AllLong k rs) (few : leng
 
 -- ---- rows back from their value
 
-size-is : (most n : ℕ) → n ≤ most → size-by most (pos n) ≡ n
+pub size-is : (most n : ℕ) → n ≤ most → size-by most (pos n) ≡ n
 unfolding size-by
 size-is most n h = rw (le-leb n most h)
 
-size-few : (most : ℕ) (z : ℤ) → size-by most z ≤ most
+pub size-few : (most : ℕ) (z : ℤ) → size-by most z ≤ most
 unfolding size-by
 size-few most z = go (leb (ref z) most) refl
   where
@@ -198,16 +198,16 @@ value-keeps r s h = rw (rows-back r s, rows-kept r s, counts-kept r s h, value-l
 
 -- ---- the rows of a value that keeps R0
 
-counted-is : (least most : ℕ) (z : ℤ) → count-fits least most z ≡ true → (ref z ≤ most) × (z ≡ pos (ref z))
+pub counted-is : (least most : ℕ) (z : ℤ) → count-fits least most z ≡ true → (ref z ≤ most) × (z ≡ pos (ref z))
 counted-is least most (pos n) e = (leb-true n most (both (leb least n) (leb n most) e .1), refl)
 counted-is least most (negsuc n) e = absurd (false≢true e)
 
 module _ (v : List ℤ) (keeps : rule-0 v ≡ true) where
-  enough : VALUE ≤ length v
+  pub enough : VALUE ≤ length v
   unfolding rule-0
   enough = leb-true VALUE (length v) (both (leb VALUE (length v)) (counts-fit v && rows-statable (rows-of v)) keeps .0)
 
-  counts-of : counts-fit v ≡ true
+  pub counts-of : counts-fit v ≡ true
   unfolding rule-0
   counts-of = both (counts-fit v) (rows-statable (rows-of v)) (both (leb VALUE (length v)) (counts-fit v && rows-statable (rows-of v)) keeps .1) .0
 
