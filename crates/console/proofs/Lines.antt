@@ -1,17 +1,17 @@
 -- The line under way is the line: fed byte by byte, it says at the end what `line-of (fields bs)` says of the bytes, for lists of
 -- any length, and it has begun when any byte was fed. In the order: a field; the fields of a line; the law. Assumes nothing.
-use mathlib.Core.Path.{_≡_, refl, sym, ap, _∙_}
+use mathlib.Core.Path.{_≡_, refl, sym, _∙_}
 use mathlib.Core.Bool.{Bool, true, false, cond}
-use mathlib.Core.List.{List, [], _∷_, _++_}
-use mathlib.Core.Option.{Option, none, some}
-use Prim.Native.Nat.{ℕ, zero, suc, _+_, _-_, _*_, _≤_, _<_, min}
+use mathlib.Core.List.{List, [], _∷_}
+use mathlib.Core.Option.{Option, none}
+use Prim.Native.Nat.{ℕ, zero}
 use lib.Dec.{ltb, eqb}
 use Rattle.meaning.specs.declared.Num.{Num}
 use Rattle.meaning.specs.declared.Num.the-variants as num
 use Rattle.meaning.specs.declared.Line.{Line}
 use Rattle.meaning.specs.declared.Line.the-variants.{Wrong}
 use Rattle.meaning.specs.Number.{value, natural, capped, natural-of, plain, minus, number-of, alone, unless-zero, signed}
-use Rattle.meaning.specs.Split.{TAB, Parts, parts, all, onto, cut, split, fields}
+use Rattle.meaning.specs.Split.{TAB, Parts, all, cut, split, fields}
 use Rattle.meaning.specs.Program.{line-by, line-of}
 use Rattle.console.specs.declared.scan.Part.{Part}
 use Rattle.console.specs.declared.scan.Part.the-variants.{Start, Minus, Zero, Plain, Negative, Broken}

@@ -2,7 +2,7 @@
 use mathlib.Core.Path.{_≡_, refl, sym, ap, _∙_}
 use mathlib.Core.Bool.{true, false, true≢false}
 use mathlib.Core.List.{List, [], _∷_, _++_, append-assoc, append-nil}
-use Prim.Native.Nat.{ℕ, suc, _+_, _-_, _/_, _%_, _<_, _≤_}
+use Prim.Native.Nat.{ℕ, _+_, _/_, _%_, _<_, _≤_}
 use native.Mathlib.Omega.{arith}
 use borrow.Author.Tests.{lt-ltb, le-ltb, ltb-true}
 use native.Mathlib.Numerals.{add-one}
@@ -18,6 +18,19 @@ pub writes-append : (xs ys : List ℕ) (p : Pen) → writes (xs ++ ys) p ≡ wri
 unfolding writes
 writes-append [] ys p = refl
 writes-append (x ∷ xs) ys p = writes-append xs ys (write x p)
+
+-- one part after the other: bytes, one byte, and the end
+module _ (p : Pen) {a r : Pen} where
+  pub then-bytes : (bs rest : List ℕ) → a ≡ writes bs p → r ≡ writes rest a → r ≡ writes (bs ++ rest) p
+  then-bytes bs rest e f = f ∙ ap (writes rest) e ∙ sym (writes-append bs rest p)
+
+  pub then-byte : (b : ℕ) (rest : List ℕ) → a ≡ write b p → r ≡ writes rest a → r ≡ writes (b ∷ rest) p
+  unfolding writes
+  then-byte b rest e f = f ∙ ap (writes rest) e
+
+pub then-end : (p : Pen) {r : Pen} (b : ℕ) → r ≡ write b p → r ≡ writes (b ∷ []) p
+unfolding writes
+then-end p b e = e
 
 pub write-in : (b n : ℕ) (l : List ℕ) → n < length l → pen (set l n b) (n + 1) ≡ write b (pen l n)
 unfolding write
