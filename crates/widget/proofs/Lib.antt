@@ -1,0 +1,4 @@
+pub mod Noting
+pub mod Going
+pub mod Effects
+pub mod Loops
