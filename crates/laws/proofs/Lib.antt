@@ -7,3 +7,5 @@ pub mod Rules
 pub mod Sound
 pub mod Reach
 pub mod Ways
+pub mod Value
+pub mod Scope

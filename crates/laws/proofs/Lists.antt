@@ -5,11 +5,11 @@ use Prim.Native.Nat.{_+_, _<_, _≤_, suc, zero, ℕ}
 use native.Mathlib.Omega.{arith}
 use native.Mathlib.Nat.{eq-or-lt-of-le}
 use mathlib.Core.Bool.{Bool, _&&_, _||_, cond, false, false≢true, true, true≢false}
-use mathlib.Core.List.{List, [], _++_, _∷_}
+use mathlib.Core.List.{List, [], _++_, _∷_, map, reverse, reverseAux}
 use lib.ListN.{getD, length, replicate}
 use lib.Dec.{eqb, leb}
 use borrow.Author.Tests.{eqb-false, eqb-true, leb-false, leb-true}
-use Rattle.meaning.specs.Lists.{every, from, keep}
+use Rattle.meaning.specs.Lists.{concat-map, every, from, keep}
 
 pub is-false : (b : Bool) → (b ≡ true → ⊥) → b ≡ false
 is-false true n = absurd (n refl)
@@ -149,3 +149,61 @@ same-or m n = go (eqb m n) refl
     go : (b : Bool) → eqb m n ≡ b → (m ≡ n) ⊎ (m ≡ n → ⊥)
     go true e = inl (eqb-true m n e)
     go false e = inr (eqb-false m n e)
+
+-- ---- what holds of each element
+
+pub data Each {A : Type 0} (P : A → Type 0) : List A → Type 0 where
+  none-left : Each P []
+  one-more : {x : A} {xs : List A} → P x → Each P xs → Each P (x ∷ xs)
+
+module _ {A : Type 0} (P : A → Type 0) where
+  pub each-at : (xs : List A) → Each P xs → (i : ℕ) → i < length xs → (d : A) → P (getD xs i d)
+  each-at [] none-left i l d = absurd (omega arith)
+  each-at (x ∷ xs) (one-more p ps) zero l d = p
+  each-at (x ∷ xs) (one-more p ps) (suc i) l d = each-at xs ps i (omega arith) d
+
+  pub each-joined : (xs ys : List A) → Each P xs → Each P ys → Each P (xs ++ ys)
+  each-joined [] ys none-left g = g
+  each-joined (x ∷ xs) ys (one-more p ps) g = one-more p (each-joined xs ys ps g)
+
+  pub each-kept : (q : A → Bool) (xs : List A) → Each P xs → Each P (keep q xs)
+  unfolding keep
+  each-kept q [] none-left = none-left
+  each-kept q (x ∷ xs) (one-more p ps) = go (q x) (each-kept q xs ps)
+    where
+      go : (b : Bool) → Each P (keep q xs) → Each P (cond b (x ∷ keep q xs) (keep q xs))
+      go true ih = one-more p ih
+      go false ih = ih
+
+  each-reverse-aux : (xs ys : List A) → Each P xs → Each P ys → Each P (reverseAux xs ys)
+  each-reverse-aux [] ys none-left g = g
+  each-reverse-aux (x ∷ xs) ys (one-more p ps) g = each-reverse-aux xs (x ∷ ys) ps (one-more p g)
+
+  pub each-reversed : (xs : List A) → Each P xs → Each P (reverse xs)
+  each-reversed xs h = each-reverse-aux xs [] h none-left
+
+  pub each-mapped : {B : Type 0} (f : B → A) (xs : List B) → Each P (map f xs) → Each (λ x. P (f x)) xs
+  each-mapped f [] h = none-left
+  each-mapped f (x ∷ xs) (one-more p ps) = one-more p (each-mapped f xs ps)
+
+  pub each-collected : {B : Type 0} (f : B → List A) (q : B → Bool) (xs : List B) → ((x : B) → q x ≡ true → Each P (f x)) → Each P (concat-map f (keep q xs))
+  unfolding concat-map keep
+  each-collected f q [] h = none-left
+  each-collected f q (x ∷ xs) h = go (q x) refl (each-collected f q xs h)
+    where
+      go : (b : Bool) → q x ≡ b → Each P (concat-map f (keep q xs)) → Each P (concat-map f (cond b (x ∷ keep q xs) (keep q xs)))
+      go true e ih = each-joined (f x) (concat-map f (keep q xs)) (h x e) ih
+      go false e ih = ih
+
+  pub each-weaker : (Q : A → Type 0) (xs : List A) → ((x : A) → P x → Q x) → Each P xs → Each Q xs
+  each-weaker Q [] f none-left = none-left
+  each-weaker Q (x ∷ xs) f (one-more p ps) = one-more (f x p) (each-weaker Q xs f ps)
+
+pub each-both : {A : Type 0} (P Q : A → Type 0) (xs : List A) → Each P xs → Each Q xs → Each (λ x. P x × Q x) xs
+each-both P Q [] none-left none-left = none-left
+each-both P Q (x ∷ xs) (one-more p ps) (one-more q qs) = one-more (p, q) (each-both P Q xs ps qs)
+
+pub each-range : (a n m : ℕ) → a + n ≤ m → Each (λ x. x < m) (from a n)
+unfolding from
+each-range a zero m h = none-left
+each-range a (suc n) m h = one-more {x = a} (omega arith) (each-range (suc a) n m (omega arith))

@@ -10,7 +10,7 @@ use lib.ListN.{getD, length}
 use lib.Dec.{leb}
 use lib.Signed.{leZ}
 use borrow.Author.Tests.{eq-eqb, eqb-true, leb-true, ltb-true}
-use Rattle.laws.proofs.Lists.{and-left, and-right, every-at, every-kept, every-range, is-false, kept-every, le-or-lt}
+use Rattle.laws.proofs.Lists.{Each, and-left, and-right, every-at, every-kept, every-range, is-false, kept-every, le-or-lt, none-left, one-more}
 use Rattle.laws.proofs.Rules.{Act-facts, Owner-facts, Rules-hold, Transition-facts, a-inside, act-facts, not-o-of-a, o-inside, o-of, ordered-2}
 use Rattle.laws.proofs.Rules.{outside-parent, owner-facts, rules-hold, transition-facts}
 use Rattle.laws.proofs.Tree.{Ordered, keep-none}
@@ -20,6 +20,7 @@ use Rattle.meaning.specs.Lists.{every}
 use Rattle.meaning.specs.Rules.{act-fits, action-fits, children-fit, default-fits, failing-rule, is-state, owner-fits, row-fits, rule-1, rule-3}
 use Rattle.meaning.specs.Rules.{rule-4, rule-5, rule-6, rule-7, transition-fits}
 use Rattle.meaning.specs.Tree.{all-states, children, default-child, is-child, is-o, kind-of, parent-of, trans-row, var-row}
+use Rattle.meaning.specs.declared.chart.Act.{Act}
 use Rattle.meaning.specs.declared.chart.ActRow.{ActRow}
 use Rattle.meaning.specs.declared.chart.Kind.{Kind}
 use Rattle.meaning.specs.declared.chart.Kind.the-variants.{A as kind-a, B as kind-b, O as kind-o}
@@ -184,20 +185,20 @@ pub a-not-root : (c : Chart) → Sound-chart c → (s : ℕ) → kind-of c s ≡
 a-not-root c h zero k = absurd (not-o-of-a _ k (h .root-o))
 a-not-root c h (suc s) k = omega arith
 
--- each act that an owner has keeps R7
-pub data Each {A : Type 0} (P : A → Type 0) : List A → Type 0 where
-  none-left : Each P []
-  one-more : {x : A} {xs : List A} → P x → Each P xs → Each P (x ∷ xs)
-
-acts-in-sound : (c : Chart) (o : Owner) (rs : List ActRow) → ((i : ℕ) → i < length rs → Act-facts c (getD rs i no-action .act)) → Each (Act-facts c) (acts-in rs o)
+-- what holds of the acts of every row holds of each act that an owner has
+acts-in-each : (P : Act → Type 0) (o : Owner) (rs : List ActRow) → ((i : ℕ) → i < length rs → P (getD rs i no-action .act)) → Each P (acts-in rs o)
 unfolding acts-in
-acts-in-sound c o [] h = none-left
-acts-in-sound c o (r ∷ rs) h = go (same-owner o (r .owner)) (acts-in-sound c o rs (λ i l. h (suc i) (omega arith)))
+acts-in-each P o [] h = none-left
+acts-in-each P o (r ∷ rs) h = go (same-owner o (r .owner)) (acts-in-each P o rs (λ i l. h (suc i) (omega arith)))
   where
-    go : (b : Bool) → Each (Act-facts c) (acts-in rs o) → Each (Act-facts c) (cond b (r .act ∷ acts-in rs o) (acts-in rs o))
+    go : (b : Bool) → Each P (acts-in rs o) → Each P (cond b (r .act ∷ acts-in rs o) (acts-in rs o))
     go true ih = one-more (h 0 (omega arith)) ih
     go false ih = ih
 
-pub acts-sound : (c : Chart) → Sound-chart c → (o : Owner) → Each (Act-facts c) (acts-of c o)
+pub acts-each : (P : Act → Type 0) (c : Chart) → ((i : ℕ) → i < length (c .actions) → P (getD (c .actions) i no-action .act)) → (o : Owner) → Each P (acts-of c o)
 unfolding acts-of
-acts-sound c h o = acts-in-sound c o (c .actions) (h .acts)
+acts-each P c h o = acts-in-each P o (c .actions) h
+
+-- each act that an owner has keeps R7
+pub acts-sound : (c : Chart) → Sound-chart c → (o : Owner) → Each (Act-facts c) (acts-of c o)
+acts-sound c h o = acts-each (Act-facts c) c (h .acts) o

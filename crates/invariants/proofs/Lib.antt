@@ -1,0 +1,17 @@
+pub mod Counting
+pub mod Keeps
+pub mod Config
+pub mod Slots
+pub mod Values
+pub mod Good
+pub mod Choosing
+pub mod GoodReaction
+pub mod Leaving
+pub mod Left
+pub mod Entering
+pub mod Fired
+pub mod Enters
+pub mod Restoring
+pub mod HistoryFired
+pub mod Firing
+pub mod Stepping
