@@ -1,0 +1,5 @@
+pub mod Kept
+pub mod Legal
+pub mod Values
+pub mod Slots
+pub mod Whole
