@@ -3,3 +3,4 @@ pub mod Legal
 pub mod Values
 pub mod Slots
 pub mod Whole
+pub mod Answering
