@@ -2,3 +2,4 @@ pub mod OrderLaws
 pub mod LayLaws
 pub mod RowLaws
 pub mod HeldLaws
+pub mod ScanLaws
