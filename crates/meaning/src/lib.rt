@@ -1,5 +1,6 @@
 // The types that the definitions of document 01 speak of. There is no code here: specs/ says what 01 says.
 pub mod chart;
+pub mod plan;
 
 use queue::Queue;
 use sizes::STATES;
@@ -60,4 +61,10 @@ pub struct Turns {
 pub struct Written {
     pub answer: Answer,
     pub length: usize,
+}
+
+// A line of the trace program's input (01, "Checked by example"): an event and its argument to post, or a line of another form.
+pub enum Line {
+    Posts(i32, i32),
+    Wrong,
 }

@@ -1,0 +1,4 @@
+pub mod ScanLaws
+pub mod Lines
+pub mod ReportLaws
+pub mod Room
