@@ -54,18 +54,18 @@ module _ (s : List ℕ) (at e : ℕ) (q : Stop 10 s at (length s) e) where
 pub record Walking (s : List ℕ) (n0 : ℕ) (l : List ℤ) (at n : ℕ) (t : Turns) : Type 0 where
   pub read : Walk
   pub turns : t ≡ turns-of read
-  pub numbers : l ≡ laid (read .rows) (zeros (n0 - VALUE))
+  pub numbers : VALUE ≤ n0 → l ≡ laid (read .rows) (zeros (n0 - VALUE))
   pub fit : Fit (read .rows)
   pub size : length l ≡ n0
   pub inside : at ≤ length s
   pub line : n ≤ at + 1
   pub same : walk n read (lines (slice at (length s) s)) ≡ walk 1 start (lines s)
 
-pub walking-start : (s : List ℕ) (n0 : ℕ) (l : List ℤ) → l ≡ zeros n0 → VALUE ≤ n0 → Walking s n0 l 0 1 (record { stage = 0; states = 0; vars = 0; transitions = 0; actions = 0 })
-walking-start s n0 l e h = record {
+pub walking-start : (s : List ℕ) (n0 : ℕ) (l : List ℤ) → l ≡ zeros n0 → Walking s n0 l 0 1 (record { stage = 0; states = 0; vars = 0; transitions = 0; actions = 0 })
+walking-start s n0 l e = record {
   read = start;
   turns = turns-start;
-  numbers = e ∙ laid-none n0 h;
+  numbers = λ h. e ∙ laid-none n0 h;
   fit = fit-start;
   size = ap length e ∙ length-zeros n0;
   inside = omega arith;
@@ -85,7 +85,7 @@ module _ (s : List ℕ) (n0 : ℕ) (l : List ℤ) (at n : ℕ) (t : Turns) (w : 
   gives o e = sym (w .same) ∙ e
 
   refusal : (a p : ℕ) (l′ : List ℤ) → length l′ ≡ n0 → walk 1 start (lines s) ≡ refused a p → Scanned (walk 1 start (lines s)) (answer a p) n0 l′
-  refusal a p l′ z e = record { answer = sym (ap answer-of e); numbers = λ r f. impossible r (sym e ∙ f); size = z }
+  refusal a p l′ z e = record { answer = sym (ap answer-of e); numbers = λ r f h. impossible r (sym e ∙ f); size = z }
     where
       impossible : (r : Rows) → refused a p ≡ done r → (l′ ≡ value-of r ++ zeros (n0 - VALUE)) × Fit r
       impossible r f = let z : _≡_ {A = ℕ} 0 1 = cc in absurd (omega arith)
@@ -108,17 +108,17 @@ module _ (s : List ℕ) (n0 : ℕ) (l : List ℤ) (at n : ℕ) (t : Turns) (w : 
         let r : walk 1 start (lines s) ≡ done (w .read .rows) = gives (done (w .read .rows)) (walk-last s at e q (w .read) n h k ∙ ap (λ (b : Bool). cond b (done (w .read .rows)) (refused 1 n)) z) in
         record {
           answer = sym (ap answer-of r);
-          numbers = λ rows i. rest rows (sym r ∙ i);
+          numbers = λ rows i v. rest rows v (sym r ∙ i);
           size = ap length f ∙ sized t l ∙ w .size;
         }
       where
         sized : (t : Turns) (l : List ℤ) → length (with-counts t l) ≡ length l
         sized t l = simp length-set
 
-        rest : (rows : Rows) → done (w .read .rows) ≡ done rows → (l′ ≡ value-of rows ++ zeros (n0 - VALUE)) × Fit rows
-        rest rows i =
+        rest : (rows : Rows) → VALUE ≤ n0 → done (w .read .rows) ≡ done rows → (l′ ≡ value-of rows ++ zeros (n0 - VALUE)) × Fit rows
+        rest rows v i =
             let j : w .read .rows ≡ rows = cc in
-            let m : l′ ≡ value-of (w .read .rows) ++ zeros (n0 - VALUE) = f ∙ ap (with-counts t) (w .numbers) ∙ counted-numbers (w .read) t (zeros (n0 - VALUE)) (w .turns) in
+            let m : l′ ≡ value-of (w .read .rows) ++ zeros (n0 - VALUE) = f ∙ ap (with-counts t) (w .numbers v) ∙ counted-numbers (w .read) t (zeros (n0 - VALUE)) (w .turns) in
             (rw j at m, subst (λ (r : Rows). Fit r) j (w .fit))
 
     module _ (h : e ≡ length s → ⊥) (k m : ℕ) (l′ : List ℤ) (g : k ≡ letter-of (field (fields (slice at e s)) 0))
@@ -150,12 +150,12 @@ module _ (s : List ℕ) (n0 : ℕ) (l : List ℤ) (at n : ℕ) (t : Turns) (w : 
           let hi = q .high in
           let y = line-of (record-of fs) (turns-of (w .read)) fs .row in
           let fits = row-fits (record-of fs) (turns-of (w .read)) fs (sym mark-is ∙ z) in
-          let stored : l′ ≡ sets (laid (w .read .rows) (zeros (n0 - VALUE))) (place-of (record-of fs) (turns-of (w .read))) y =
-          o .row z ∙ rw (g, w .turns, w .numbers) in
+          let stored : VALUE ≤ n0 → l′ ≡ sets (laid (w .read .rows) (zeros (n0 - VALUE))) (place-of (record-of fs) (turns-of (w .read))) y =
+          λ v. o .row z ∙ rw (g, w .turns, w .numbers v) in
           record {
             read = taken (record-of fs) y (w .read);
             turns = i ∙ rw (g, w .turns) (next-turns (w .read) y (zeros (n0 - VALUE)) (w .fit) (record-of fs) fits);
-            numbers = stored ∙ next-numbers (w .read) y (zeros (n0 - VALUE)) (w .fit) (record-of fs) fits;
+            numbers = λ v. stored v ∙ next-numbers (w .read) y (zeros (n0 - VALUE)) (w .fit) (record-of fs) fits;
             fit = next-fit (w .read) y (zeros (n0 - VALUE)) (w .fit) (record-of fs) fits;
             size = o .size ∙ w .size;
             inside = omega arith;

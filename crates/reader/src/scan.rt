@@ -8,16 +8,14 @@ use fields::letter_at;
 use meaning::Answer;
 use meaning::Turns;
 ghost use mathlib.Core.Path.{_≡_};
-ghost use Prim.Native.Nat.{_≤_};
 ghost use lib.ListN.{length};
-ghost use Rattle.meaning.specs.Value as value;
 ghost use Rattle.meaning.specs.Split.{lines};
 ghost use Rattle.meaning.specs.Text.{walk as walk-of, start};
 ghost use Rattle.reader.specs.Scanned.{zeros, Scanned};
 
-// From numbers that are all 0. Where the answer is not 0, what stands in them afterwards is of no use.
+// From numbers that are all 0. Where the answer is not 0, or there are too few for a value, what stands in them afterwards is of no use.
 pub fn walk(text: &[u8], chart: &mut [i32]) -> Answer
-    requires { ⌜ (now chart ≡ zeros (length (now chart))) × (value.VALUE ≤ length (now chart)) ⌝ }
+    requires { ⌜ now chart ≡ zeros (length (now chart)) ⌝ }
     ensures { λ r. ⌜ Scanned (walk-of 1 start (lines (now (text .entry)))) r (length (now (chart .entry))) (now (chart .exit)) ⌝ }
 {
     let mut at: usize = 0;
