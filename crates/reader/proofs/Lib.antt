@@ -3,3 +3,4 @@ pub mod LayLaws
 pub mod RowLaws
 pub mod HeldLaws
 pub mod ScanLaws
+pub mod ReadLaws
