@@ -55,14 +55,18 @@ unfoldable pub unstarted : State
 unstarted = record { started = false; active = replicate STATES false; slots = replicate STATES (negsuc 0); vars = replicate VARIABLES (pos 0); queue = empty-queue }
 
 -- "no state active before, places not in use as above, all slots empty, all variables at their first value and an empty queue"
-unfoldable pub fresh : Chart → State
-fresh c = record {
+unfoldable pub fresh-by : List VarRow → State
+fresh-by vs = record {
   started = true;
   active = replicate STATES false;
   slots = replicate STATES (negsuc 0);
-  vars = padded VARIABLES (pos 0) (map (λ r. r .first) (c .vars));
+  vars = padded VARIABLES (pos 0) (map (λ r. r .first) vs);
   queue = empty-queue;
 }
+
+unfoldable pub fresh : Chart → State
+unfolding fresh-by
+fresh c = fresh-by (c .vars)
 
 -- "Start, with argument 0 and whatever the state held, enters the root and its defaults .. then makes null steps"
 unfoldable pub start-steps : Chart → Step Ctx
@@ -124,5 +128,5 @@ discard-of v u = elim (failing-rule-of v) [
 
 -- everything above, opened: for statements that compute
 unfoldable pub calls-open : ℕ
-unfolding refused outcome called lent unstarted fresh start-steps start tests take-front react run post discard start-of run-of post-of discard-of
+unfolding refused outcome called lent unstarted fresh-by fresh start-steps start tests take-front react run post discard start-of run-of post-of discard-of
 calls-open = 0

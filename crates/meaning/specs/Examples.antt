@@ -6,7 +6,11 @@ use lib.IntN.{ℤ, pos, negsuc}
 use Rattle.meaning.specs.declared.State.{State}
 use Rattle.meaning.specs.Chart.{Kind, kind-o, kind-a, kind-b, Guard, always, compares, equal, Target, to, history, in-place, set-to, add-to, tell, entry-of, exit-of, default-of, transition-of}
 use Rattle.meaning.specs.Chart.{StateRow, VarRow, TransRow, ActRow, Act, Owner, Chart}
+use Rattle.meaning.specs.Value.{ABSENT}
+use Rattle.meaning.specs.Text.{value-of}
 use Rattle.meaning.specs.Calls.{Outcome, start, run, post}
+use Rattle.meaning.specs.Compile.{compile}
+use Rattle.meaning.specs.Machine.{machine-run, machine-post}
 
 unfoldable pub st : ℕ → Kind → ℕ → StateRow
 st p k d = record { parent = p; kind = k; default = d }
@@ -26,6 +30,26 @@ chart-K = record {
   transitions = tr 1 1 always (history 2) ∷ tr 3 2 always (to 4) ∷ tr 2 1 always (to 1) ∷ [];
   actions = ac (entry-of 4) (tell (pos 7)) ∷ ac (exit-of 2) (add-to 0 (pos 60)) ∷ ac (default-of 2) (tell (pos 9)) ∷ [];
 }
+
+-- chart K handed over as a value: each field a number, or the code of its letter
+unfoldable pub value-K : List ℤ
+value-K = value-of (record {
+  states =
+      (ABSENT ∷ pos 111 ∷ pos 1 ∷ []) ∷ (pos 0 ∷ pos 98 ∷ ABSENT ∷ []) ∷ (pos 0 ∷ pos 111 ∷ pos 3 ∷ [])
+      ∷ (pos 2 ∷ pos 98 ∷ ABSENT ∷ []) ∷ (pos 2 ∷ pos 98 ∷ ABSENT ∷ []) ∷ [];
+  vars = (negsuc 99 ∷ pos 100 ∷ pos 0 ∷ []) ∷ [];
+  events = pos 2;
+  transitions =
+      (pos 1 ∷ pos 1 ∷ ABSENT ∷ ABSENT ∷ ABSENT ∷ pos 104 ∷ pos 2 ∷ []) ∷ (pos 3 ∷ pos 2 ∷ ABSENT ∷ ABSENT ∷ ABSENT ∷ pos 0 ∷ pos 4 ∷ [])
+      ∷ (pos 2 ∷ pos 1 ∷ ABSENT ∷ ABSENT ∷ ABSENT ∷ pos 0 ∷ pos 1 ∷ []) ∷ [];
+  actions =
+      (pos 101 ∷ pos 4 ∷ pos 111 ∷ pos 7 ∷ ABSENT ∷ []) ∷ (pos 120 ∷ pos 2 ∷ pos 97 ∷ pos 0 ∷ pos 60 ∷ [])
+      ∷ (pos 100 ∷ pos 2 ∷ pos 111 ∷ pos 9 ∷ ABSENT ∷ []) ∷ [];
+})
+
+-- "Plan of K"
+unfoldable pub plan-K : List ℤ
+plan-K = compile chart-K
 
 -- "Two components, null transitions: the higher source sets v to 1, the lower has guard v = 0, v is 0"
 unfoldable pub chart-two : Chart
@@ -63,6 +87,10 @@ chart-inside = record {
 unfoldable pub react-to : Chart → ℕ → ℕ → State → Outcome
 react-to c n e u = run c (post c u (pos e) (pos 0) .after) n
 
+-- the same over a plan
+unfoldable pub machine-to : List ℤ → ℕ → ℕ → State → Outcome
+machine-to ns n e u = machine-run ns (machine-post ns u (pos e) (pos 0) .after) n
+
 unfoldable pub examples-open : ℕ
-unfolding st tr ac chart-K chart-two chart-self chart-inside react-to
+unfolding st tr ac value-K plan-K machine-to chart-K chart-two chart-self chart-inside react-to
 examples-open = 0

@@ -10,6 +10,10 @@ pub mod Entry
 pub mod Reaction
 pub mod Foreign
 pub mod Calls
+pub mod Plan
+pub mod Compile
+pub mod WellFormed
+pub mod Machine
 pub mod Number
 pub mod Split
 pub mod Line

@@ -14,6 +14,10 @@ use Rattle.meaning.specs.Entry.{entry-open}
 use Rattle.meaning.specs.Reaction.{reaction-open}
 use Rattle.meaning.specs.Foreign.{foreign-open}
 use Rattle.meaning.specs.Calls.{calls-open}
+use Rattle.meaning.specs.Plan.{plan-open}
+use Rattle.meaning.specs.Compile.{compile-open}
+use Rattle.meaning.specs.WellFormed.{well-formed-open}
+use Rattle.meaning.specs.Machine.{machine-open}
 use Rattle.meaning.specs.Number.{number-open}
 use Rattle.meaning.specs.Split.{split-open}
 use Rattle.meaning.specs.Line.{line-open}
@@ -22,5 +26,5 @@ use Rattle.meaning.specs.Program.{program-open}
 use Rattle.meaning.specs.Examples.{examples-open}
 
 unfoldable pub all-open : ℕ
-unfolding inRange within holdZ empty-queue appended removed steps-open lists-open value-open tree-open rules-open widget-open effects-open entry-open reaction-open foreign-open calls-open number-open split-open line-open text-open program-open examples-open
+unfolding inRange within holdZ empty-queue appended removed steps-open lists-open value-open tree-open rules-open widget-open effects-open entry-open reaction-open foreign-open calls-open plan-open compile-open well-formed-open machine-open number-open split-open line-open text-open program-open examples-open
 all-open = 0

@@ -1,0 +1,4 @@
+pub mod OrderLaws
+pub mod LayLaws
+pub mod RowLaws
+pub mod HeldLaws

@@ -1,0 +1,3 @@
+pub mod PenLaws
+pub mod SizeLaws
+pub mod RowLaws
