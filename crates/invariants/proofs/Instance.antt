@@ -8,9 +8,9 @@ use Rattle.invariants.proofs.Calls.{start-facts}
 use Rattle.invariants.proofs.Own.{Own-state}
 use Rattle.laws.proofs.Sound.{sound-chart}
 use Rattle.laws.proofs.Value.{Act-in-range, Guard-in-range, Row-in-range, Sized-chart}
-use Rattle.meaning.specs.Calls.{start}
+use Rattle.meaning.specs.Calls.{start, unstarted}
 use Rattle.meaning.specs.Chart.{no-action}
-use Rattle.meaning.specs.Examples.{chart-K, unstarted}
+use Rattle.meaning.specs.Examples.{chart-K}
 use Rattle.meaning.specs.Open.{all-open}
 use Rattle.meaning.specs.Rules.{failing-rule}
 use Rattle.meaning.specs.Tree.{trans-row, var-row}
