@@ -82,8 +82,12 @@ number-cell f = cell-of (number-of f)
 unfoldable pub dash-cell : List ℕ → Cell
 dash-cell f = cond (is-dash f) (cell 0 ABSENT) (cell 1 (pos 0))
 
+-- one of these letters
+abbrev pub letter-by : ℕ → List ℕ → Cell
+letter-by l letters = cond (has l letters) (cell 0 (pos l)) (cell 1 (pos 0))
+
 unfoldable pub letter-cell : List ℕ → List ℕ → Cell
-letter-cell letters f = cond (has (letter-of f) letters) (cell 0 (pos (letter-of f))) (cell 1 (pos 0))
+letter-cell letters f = letter-by (letter-of f) letters
 
 -- a number where it is wanted, else "-"
 abbrev pub number-or-dash : Bool → List ℕ → Cell

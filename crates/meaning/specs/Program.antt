@@ -18,6 +18,9 @@ use Rattle.meaning.specs.Number.{BEYOND, number-of, digits, numeral}
 use Rattle.meaning.specs.Split.{LF, fields, lines}
 use Rattle.meaning.specs.Text.{read}
 use Rattle.meaning.specs.Text as text
+-- a line of the input: an event and its argument to post, or a line of another form
+pub use Rattle.meaning.specs.declared.Line.{Line}
+pub use Rattle.meaning.specs.declared.Line.the-variants.{Posts as posts, Wrong as wrong}
 
 -- "With room for 1,000 entries"
 abbrev pub ENTRIES : ℕ
@@ -43,11 +46,6 @@ unfoldable pub report : ℕ → List ℤ → List ℕ
 report n trace = 82 ∷ SPACE ∷ digits n ++ SPACE ∷ digits (length trace / ENTRY) ++ LF ∷ entry-lines trace
 
 -- ---- the form of an input line
-
--- an event and its argument to post, or a line of another form
-pub data Line : Type 0 where
-  posts : ℤ → ℤ → Line
-  wrong : Line
 
 -- "a number past ±1,000,000,000 is posted as 1,000,000,001"
 unfoldable pub line-by : Num → Num → Line

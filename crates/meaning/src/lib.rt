@@ -62,3 +62,9 @@ pub struct Written {
     pub answer: Answer,
     pub length: usize,
 }
+
+// A line of the trace program's input (01, "Checked by example"): an event and its argument to post, or a line of another form.
+pub enum Line {
+    Posts(i32, i32),
+    Wrong,
+}

@@ -1,0 +1,140 @@
+-- The laws by which `perform_all`, `enter` and `leave` meet their promises: one turn of the loop over the action rows, what R7 says of an
+-- act, and one step after another where a refusal ends it. Assumes nothing.
+use mathlib.Core.Path.{_≡_, refl, sym, ap, subst, _∙_}
+use Prim.Native.Nat.{ℕ, suc, _+_, _≤_, _<_}
+use mathlib.Core.Bool.{Bool, true, false, false≢true, cond, _&&_}
+use mathlib.Core.List.{List, [], _∷_}
+use native.Mathlib.Omega.{arith}
+use native.Mathlib.Numerals.{add-one}
+use lib.ListN.{length, getD, drop, drop-of-length-le}
+use lib.Seq.{drop-cons}
+use lib.IntN.{ℤ, pos, negsuc}
+use lib.Signed.{leZ}
+use lib.Dec.{leb}
+use borrow.Author.Tests.{leb-true}
+use Rattle.sizes.specs.Sizes.{STATES, VARIABLES, EVENTS}
+use Rattle.numbers.specs.Reference.{NOWHERE, ref}
+use Rattle.queue.specs.declared.Queue.{Queue}
+use Rattle.laws.proofs.Lists.{and-left, and-right}
+use Rattle.laws.proofs.Rules.{Act-facts}
+use Rattle.laws.proofs.Sound.{Sound-chart}
+use Rattle.chart.proofs.Rows.{vars-most}
+use Rattle.meaning.specs.Chart.{Chart, no-action}
+use Rattle.meaning.specs.Steps.{ok, Step, each}
+use Rattle.meaning.specs.Widget.{Ctx}
+use Rattle.meaning.specs.declared.chart.Act.{Act}
+use Rattle.meaning.specs.declared.chart.Act.the-variants.{SetTo as set-to, AddTo as add-to, TakeTo as take-to, Send as send, Tell as tell}
+use Rattle.meaning.specs.declared.chart.ActRow.{ActRow}
+use Rattle.meaning.specs.declared.chart.Owner.{Owner}
+use Rattle.meaning.specs.declared.chart.VarRow.{VarRow}
+use Rattle.meaning.specs.Effects.{act-on, act-var, acts-in, acts-of, perform, perform-all, same-owner}
+use Rattle.meaning.specs.Tree.{var-row}
+use Rattle.meaning.specs.Value.{chart-of, chart-by, rows-of, count-fits, counts-fit, num, rows-statable, rule-0, VALUE}
+use Rattle.widget.specs.declared.Went.{Went}
+use Rattle.widget.specs.View.{ctx, Within, Did, Owes}
+use Rattle.widget.specs.Acts.{Named}
+use Rattle.widget.proofs.Going.{owes-all, owes-as}
+use Rattle.widget.proofs.Loops.{each-none, each-next, each-ends}
+use Rattle.walks.specs.Walks.{Ruled}
+use Rattle.walks.proofs.Passing.{sound, rules-passed}
+
+-- ---- an owner's acts, row by row
+
+module _ (rows : List ActRow) (o : Owner) (i : ℕ) where
+  acts-skip : i < length rows → same-owner o (getD rows i no-action .owner) ≡ false → acts-in (drop i rows) o ≡ acts-in (drop (i + 1) rows) o
+  unfolding acts-in
+  acts-skip h e = rw (drop-cons rows i no-action h, e, add-one i)
+
+  acts-take : i < length rows → same-owner o (getD rows i no-action .owner) ≡ true → acts-in (drop i rows) o ≡ getD rows i no-action .act ∷ acts-in (drop (i + 1) rows) o
+  unfolding acts-in
+  acts-take h e = rw (drop-cons rows i no-action h, e, add-one i)
+
+  acts-end : length rows ≤ i → acts-in (drop i rows) o ≡ []
+  unfolding acts-in
+  acts-end h = rw (drop-of-length-le rows h)
+
+-- ---- R7: what an act names is there
+
+ref-most : (n : ℕ) (z : ℤ) → leZ (pos 0) z ≡ true → leZ z (pos n) ≡ true → ref z ≤ n
+ref-most n (pos m) p q = leb-true m n q
+ref-most n (negsuc m) p q = absurd (false≢true p)
+
+pub events-most : (v : List ℤ) → Ruled v → chart-of v .events ≤ EVENTS
+unfolding chart-of chart-by rows-of rule-0 counts-fit
+events-most v r =
+    let fit = and-left (counts-fit v) (rows-statable (rows-of v)) (and-right (leb VALUE (length v)) (counts-fit v && rows-statable (rows-of v)) (rules-passed v r .0)) in
+    let few = and-right (count-fits 0 VARIABLES (num v 1)) _ (and-right (count-fits 2 STATES (num v 0)) _ fit) in
+    let events = and-left (count-fits 0 EVENTS (num v 2)) _ few in
+    ref-most EVENTS (num v 2) (and-left (leZ (pos 0) (num v 2)) (leZ (num v 2) (pos EVENTS)) events) (and-right (leZ (pos 0) (num v 2)) (leZ (num v 2) (pos EVENTS)) events)
+
+named : (c : Chart) → length (c .vars) ≤ VARIABLES → c .events ≤ EVENTS → (x : Act) → Act-facts c x → Named x
+named c m n (set-to v x) f = omega (arith, f .0)
+named c m n (add-to v x) f = omega arith
+named c m n (take-to v) f = omega arith
+named c m n (send e x) f = omega (arith, f .1)
+named c m n (tell x) f = tt
+
+pub row-named : (v : List ℤ) → Ruled v → (i : ℕ) → i < length (chart-of v .actions) → (row : ActRow) → row ≡ getD (chart-of v .actions) i no-action → Named (row .act)
+row-named v r i h row e = subst (λ x. Named (x .act)) (sym e) (named (chart-of v) (vars-most v) (events-most v r) (getD (chart-of v .actions) i no-action .act) (sound v r .acts i h))
+
+-- ---- the loop over the rows
+
+-- what is still to be done from row i on
+unfoldable pub acts-from : List ℤ → ℤ → Owner → ℕ → Step Ctx
+acts-from v arg o i = each (perform (chart-of v .vars) arg) (acts-in (drop i (chart-of v .actions)) o)
+
+pub record Acting (v : List ℤ) (arg : ℤ) (o : Owner) (i : ℕ) (vars : List ℤ) (q : Queue) (t : List ℤ) (at : ℕ) (vars₁ : List ℤ) (q₁ : Queue) (t₁ : List ℤ) (at₁ : ℕ) : Type 0 where
+  pub fits : at₁ ≤ length t₁
+  pub kept : length t₁ ≡ length t
+  pub owes : (a : List Bool) (s : List ℤ) → Owes (perform-all (chart-of v) arg o) a s vars q t at (acts-from v arg o i) a s vars₁ q₁ t₁ at₁
+
+module _ {v : List ℤ} {arg : ℤ} {o : Owner} {vars : List ℤ} {q : Queue} {t : List ℤ} {at : ℕ} where
+  pub acting-begin : at ≤ length t → Acting v arg o 0 vars q t at vars q t at
+  unfolding acts-from perform-all acts-of
+  acting-begin h = record { fits = h; kept = refl; owes = λ a s. owes-all h }
+
+  module _ {i : ℕ} {vars₁ : List ℤ} {q₁ : Queue} {t₁ : List ℤ} {at₁ : ℕ} (h : Acting v arg o i vars q t at vars₁ q₁ t₁ at₁) where
+    pub acting-end : length (chart-of v .actions) ≤ i
+        → Within t (record { number = 0; at = at₁; queue = q₁ }) t₁ × ((a : List Bool) (s : List ℤ) → Did (perform-all (chart-of v) arg o) a s vars q t at (record { number = 0; at = at₁; queue = q₁ }) a s vars₁ t₁)
+    unfolding acts-from
+    acting-end l = (
+      record { fits = h .fits; kept = h .kept },
+      λ a s. each-none (perform (chart-of v .vars) arg) (rw (acts-end (chart-of v .actions) o i l) at (h .owes a s)),
+    )
+
+    module _ {row : ActRow} (l : i < length (chart-of v .actions)) (e : row ≡ getD (chart-of v .actions) i no-action) where
+      pub acting-skip : same-owner o (row .owner) ≡ false → Acting v arg o (i + 1) vars q t at vars₁ q₁ t₁ at₁
+      unfolding acts-from
+      acting-skip d = record {
+        fits = h .fits;
+        kept = h .kept;
+        owes = λ a s. subst (λ l′. Owes (perform-all (chart-of v) arg o) a s vars q t at (each (perform (chart-of v .vars) arg) l′) a s vars₁ q₁ t₁ at₁)
+            (acts-skip (chart-of v .actions) o i l (ap (λ x. same-owner o (x .owner)) (sym e) ∙ d)) (h .owes a s);
+      }
+
+      -- the row is the owner's: its act is next
+      due : same-owner o (row .owner) ≡ true → (a : List Bool) (s : List ℤ)
+          → Owes (perform-all (chart-of v) arg o) a s vars q t at (each (perform (chart-of v .vars) arg) (row .act ∷ acts-in (drop (i + 1) (chart-of v .actions)) o)) a s vars₁ q₁ t₁ at₁
+      unfolding acts-from
+      due d a s = subst (λ l′. Owes (perform-all (chart-of v) arg o) a s vars q t at (each (perform (chart-of v .vars) arg) l′) a s vars₁ q₁ t₁ at₁)
+          (acts-take (chart-of v .actions) o i l (ap (λ x. same-owner o (x .owner)) (sym e) ∙ d) ∙ ap (λ x. x .act ∷ acts-in (drop (i + 1) (chart-of v .actions)) o) (sym e)) (h .owes a s)
+
+      module _ {n : ℕ} {of : VarRow} {r : Went} {vars₂ t₂ : List ℤ} (d : same-owner o (row .owner) ≡ true) (f : n ≡ act-var (row .act)) (g : of ≡ var-row (chart-of v .vars) n)
+          (w : Within t₁ r t₂ × ((a : List Bool) (s : List ℤ) → Did (act-on of arg (row .act)) a s vars₁ q₁ t₁ at₁ r a s vars₂ t₂)) where
+        performed : (a : List Bool) (s : List ℤ) → Did (perform (chart-of v .vars) arg (row .act)) a s vars₁ q₁ t₁ at₁ r a s vars₂ t₂
+        unfolding perform
+        performed a s = subst (λ x. Did (act-on x arg (row .act)) a s vars₁ q₁ t₁ at₁ r a s vars₂ t₂) (g ∙ ap (var-row (chart-of v .vars)) f) (w .1 a s)
+
+        pub acting-stop : (r .number ≡ 0 → ⊥) → Within t r t₂ × ((a : List Bool) (s : List ℤ) → Did (perform-all (chart-of v) arg o) a s vars q t at r a s vars₂ t₂)
+        acting-stop z = (
+          record { fits = w .0 .fits; kept = w .0 .kept ∙ h .kept },
+          λ a s. each-ends (perform (chart-of v .vars) arg) (row .act) (acts-in (drop (i + 1) (chart-of v .actions)) o) (due d a s) (performed a s) z,
+        )
+
+        pub acting-on : r .number ≡ 0 → Acting v arg o (i + 1) vars q t at vars₂ (r .queue) t₂ (r .at)
+        unfolding acts-from
+        acting-on z = record {
+          fits = w .0 .fits;
+          kept = w .0 .kept ∙ h .kept;
+          owes = λ a s. each-next (perform (chart-of v .vars) arg) (row .act) (acts-in (drop (i + 1) (chart-of v .actions)) o) (due d a s) (performed a s) z;
+        }

@@ -1,0 +1,3 @@
+pub mod Owners
+pub mod Acting
+pub mod Marking

@@ -1,0 +1,5 @@
+pub mod ScanLaws
+pub mod Lines
+pub mod ReportLaws
+pub mod Room
+pub mod Session

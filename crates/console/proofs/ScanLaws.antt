@@ -1,0 +1,186 @@
+-- Laws of the line under way that the code's proofs cite: over plain variables, one for each way out. Assumes nothing.
+use mathlib.Core.Path.{_≡_, refl, ap}
+use mathlib.Core.Option.{some}
+use Prim.Native.Nat.{ℕ, zero, suc, _-_, _≤_, _<_, _^_}
+use native.Mathlib.Omega.{arith}
+use lib.IntN.{ℤ, pos, negsuc, _-ℤ_}
+use lib.Signed.{mag}
+use mir.Syntax.{w32}
+use mir.Val.{SFits, toZ, ofZ}
+use mir.Facts.{toZ-pos}
+use borrow.Author.Tests.{lt-ltb, le-ltb, eq-eqb, ne-eqb}
+use Rattle.sizes.specs.Sizes.{MOST}
+use Rattle.numbers.proofs.Laws.{back32}
+use Rattle.meaning.specs.declared.Num.{Num}
+use Rattle.meaning.specs.declared.Num.the-variants as num
+use Rattle.meaning.specs.declared.Line.{Line}
+use Rattle.meaning.specs.declared.Line.the-variants.{Posts, Wrong}
+use Rattle.meaning.specs.Number.{BEYOND, capped, plain, minus}
+use Rattle.meaning.specs.Split.{TAB}
+use Rattle.meaning.specs.Program.{line-by}
+use Rattle.console.specs.declared.scan.Part.{Part}
+use Rattle.console.specs.declared.scan.Part.the-variants.{Start, Minus, Zero, Plain, Negative, Broken}
+use Rattle.console.specs.declared.scan.Scan.{Scan}
+use Rattle.console.specs.declared.scan.Scan.the-variants.{Event, Argument, More}
+use Rattle.console.specs.Scan.{ZERO, NINE, MINUS, grown, if-digit, part-fed, part-number, fed, line-at}
+
+-- ---- a byte after digits: below 0, above 9, or one digit more
+module _ (b : ℕ) (p : Part) where
+  pub byte-low : b < ZERO → Broken ≡ if-digit b p
+  byte-low h = rw (lt-ltb b ZERO h)
+
+  pub byte-high : ZERO ≤ b → NINE < b → Broken ≡ if-digit b p
+  byte-high h k = rw (le-ltb b ZERO h, lt-ltb NINE b k)
+
+  pub byte-digit : (q : Part) → ZERO ≤ b → b ≤ NINE → q ≡ p → q ≡ if-digit b p
+  byte-digit q h k e = rw (le-ltb b ZERO h, le-ltb NINE b k) e
+
+-- ---- a field after one byte more
+module _ (p : Part) (b : ℕ) where
+  module _ (s : p ≡ Start) where
+    pub start-minus : b ≡ MINUS → Minus ≡ part-fed p b
+    unfolding part-fed
+    start-minus h = rw (s, eq-eqb b MINUS h)
+
+    pub start-zero : (b ≡ MINUS → ⊥) → b ≡ ZERO → Zero ≡ part-fed p b
+    unfolding part-fed
+    start-zero k h = rw (s, ne-eqb b MINUS k, eq-eqb b ZERO h)
+
+    pub start-digit : (q : Part) → (b ≡ MINUS → ⊥) → (b ≡ ZERO → ⊥) → q ≡ if-digit b (Plain (grown 0 b)) → q ≡ part-fed p b
+    unfolding part-fed
+    start-digit q k h e = rw (s, ne-eqb b MINUS k, ne-eqb b ZERO h) e
+
+  module _ (s : p ≡ Minus) where
+    pub minus-zero : b ≡ ZERO → Broken ≡ part-fed p b
+    unfolding part-fed
+    minus-zero h = rw (s, eq-eqb b ZERO h)
+
+    pub minus-digit : (q : Part) → (b ≡ ZERO → ⊥) → q ≡ if-digit b (Negative (grown 0 b)) → q ≡ part-fed p b
+    unfolding part-fed
+    minus-digit q h e = rw (s, ne-eqb b ZERO h) e
+
+  pub plain-digit : (v : ℕ) (q : Part) → p ≡ Plain v → q ≡ if-digit b (Plain (grown v b)) → q ≡ part-fed p b
+  unfolding part-fed
+  plain-digit v q s e = rw s e
+
+  pub negative-digit : (v : ℕ) (q : Part) → p ≡ Negative v → q ≡ if-digit b (Negative (grown v b)) → q ≡ part-fed p b
+  unfolding part-fed
+  negative-digit v q s e = rw s e
+
+  pub zero-more : p ≡ Zero → Broken ≡ part-fed p b
+  unfolding part-fed
+  zero-more s = rw s
+
+  pub broken-more : p ≡ Broken → Broken ≡ part-fed p b
+  unfolding part-fed
+  broken-more s = rw s
+
+-- ---- the number of a field
+neg-pos : (n : ℕ) → pos 0 -ℤ pos (suc n) ≡ negsuc n
+neg-pos n = let e : suc n - 1 ≡ n = omega arith in let h : 0 < suc n = omega arith in rw (lt-ltb 0 (suc n) h) (ap negsuc e)
+
+gone : (v : ℕ) → v < BEYOND → (v ≡ 0 → ⊥) → (mag (pos 0 -ℤ pos v) < 2 ^ 31) × (num.Is (pos 0 -ℤ pos v) ≡ minus (capped (some v)))
+unfolding capped
+gone zero h k = absurd (k refl)
+gone (suc n) h k = rw (neg-pos n, le-ltb MOST (suc n) (omega arith)) (omega arith, refl)
+
+module _ (v : ℕ) where
+  pub past-plain : BEYOND ≤ v → num.Beyond ≡ plain (capped (some v))
+  unfolding capped
+  past-plain h = rw (lt-ltb MOST v (omega arith))
+
+  pub past-minus : BEYOND ≤ v → num.Beyond ≡ minus (capped (some v))
+  unfolding capped
+  past-minus h = rw (lt-ltb MOST v (omega arith))
+
+  pub minus-none : v ≡ 0 → num.Not ≡ minus (capped (some v))
+  unfolding capped
+  minus-none e = rw e
+
+  module _ (h : v < BEYOND) where
+    pub value-fits : SFits w32 (pos v)
+    value-fits = record { sfits = omega arith }
+
+    pub in-plain : num.Is (toZ w32 v) ≡ plain (capped (some v))
+    unfolding capped
+    in-plain = rw (toZ-pos w32 {n = v} (omega arith), le-ltb MOST v (omega arith))
+
+    module _ (k : v ≡ 0 → ⊥) where
+      pub minus-fits : SFits w32 (pos 0 -ℤ toZ w32 v)
+      minus-fits = rw (toZ-pos w32 {n = v} (omega arith)) (record { sfits = gone v h k .0 })
+
+      pub in-minus : num.Is (toZ w32 (ofZ w32 (pos 0 -ℤ toZ w32 v))) ≡ minus (capped (some v))
+      in-minus = rw (toZ-pos w32 {n = v} (omega arith), back32 (pos 0 -ℤ pos v) (gone v h k .0)) (gone v h k .1)
+
+module _ (p : Part) (n : Num) where
+  pub number-plain : (v : ℕ) → p ≡ Plain v → n ≡ plain (capped (some v)) → n ≡ part-number p
+  unfolding part-number
+  number-plain v s e = rw s e
+
+  pub number-negative : (v : ℕ) → p ≡ Negative v → n ≡ minus (capped (some v)) → n ≡ part-number p
+  unfolding part-number
+  number-negative v s e = rw s e
+
+-- ---- a line after one byte more
+module _ (s : Scan) (b : ℕ) where
+  pub event-tab : (p : Part) → s ≡ Event p → b ≡ TAB → Argument p Start ≡ fed s b
+  unfolding fed
+  event-tab p e h = rw (e, eq-eqb b TAB h)
+
+  pub event-byte : (p q : Part) → s ≡ Event p → (b ≡ TAB → ⊥) → q ≡ part-fed p b → Event q ≡ fed s b
+  unfolding fed
+  event-byte p q e h k = rw (e, ne-eqb b TAB h, k)
+
+  pub argument-tab : (a p : Part) → s ≡ Argument a p → b ≡ TAB → More ≡ fed s b
+  unfolding fed
+  argument-tab a p e h = rw (e, eq-eqb b TAB h)
+
+  pub argument-byte : (a p q : Part) → s ≡ Argument a p → (b ≡ TAB → ⊥) → q ≡ part-fed p b → Argument a q ≡ fed s b
+  unfolding fed
+  argument-byte a p q e h k = rw (e, ne-eqb b TAB h, k)
+
+  pub more-byte : s ≡ More → More ≡ fed s b
+  unfolding fed
+  more-byte e = rw e
+
+-- ---- the line at the end
+module _ (s : Scan) where
+  pub line-whole : (e a : Part) (m n : Num) (l : Line) → s ≡ Argument e a → m ≡ part-number e → n ≡ part-number a → l ≡ line-by m n → l ≡ line-at s
+  unfolding line-at
+  line-whole e a m n l h p q r = rw (h, ← p, ← q) r
+
+-- two numbers: "a number past ±1,000,000,000 is posted as 1,000,000,001"
+module _ (m n : Num) where
+  pub by-number : (e : ℤ) (l : Line) → m ≡ num.Is e → l ≡ line-by (num.Is e) n → l ≡ line-by m n
+  by-number e l h k = rw h k
+
+  pub by-beyond : (l : Line) → m ≡ num.Beyond → l ≡ line-by (num.Is (pos BEYOND)) n → l ≡ line-by m n
+  unfolding line-by
+  by-beyond l h k = rw h (go n k)
+    where
+      go : (n : Num) → l ≡ line-by (num.Is (pos BEYOND)) n → l ≡ line-by num.Beyond n
+      go (num.Is a) k = k
+      go num.Beyond k = k
+      go num.Not k = k
+
+  pub by-none : m ≡ num.Not → Wrong ≡ line-by m n
+  unfolding line-by
+  by-none h = rw h (go n)
+    where
+      go : (n : Num) → Wrong ≡ line-by num.Not n
+      go (num.Is a) = refl
+      go num.Beyond = refl
+      go num.Not = refl
+
+module _ (e : ℤ) (n : Num) where
+  pub posts-number : (a : ℤ) → n ≡ num.Is a → Posts e a ≡ line-by (num.Is e) n
+  unfolding line-by
+  posts-number a h = rw h
+
+  pub posts-beyond : n ≡ num.Beyond → Posts e (pos BEYOND) ≡ line-by (num.Is e) n
+  unfolding line-by
+  posts-beyond h = rw h
+
+pub number-zero : (p : Part) → p ≡ Zero → num.Is (pos 0) ≡ part-number p
+unfolding part-number capped
+number-zero p s = rw s

@@ -1,0 +1,70 @@
+-- `Part::number` is `part-number`, case by case. Assumes nothing.
+use Rattle.console.proofs.ScanLaws.{number-zero, number-plain, number-negative}
+use borrow.Author.Needs.{needs}
+use Rattle.console.specs.Scan.{part-number}
+use Rattle.console.proofs.scan.Part.number.Statement.{statement}
+use Rattle.console.proofs.scan.Part.number.Tie as tie
+
+enum-told : tie.Need-enum-told
+enum-told c = search needs
+
+enum-known-self : tie.Need-enum-known-self
+enum-known-self c = search needs
+
+plain-number-requires : tie.Need-plain-number-requires
+plain-number-requires c κs = search needs
+
+enum-known-self-2 : tie.Need-enum-known-self-2
+enum-known-self-2 c = search needs
+
+minus-number-requires : tie.Need-minus-number-requires
+minus-number-requires c κs = search needs
+
+enum-told-2 : tie.Need-enum-told-2
+enum-told-2 c = search needs
+
+enum-told-3 : tie.Need-enum-told-3
+enum-told-3 c = search needs
+
+enum-told-4 : tie.Need-enum-told-4
+enum-told-4 c = search needs
+
+returns : tie.Need-returns
+returns c = number-zero _ (c .enum-told .given .1)
+
+returns-2 : tie.Need-returns-2
+returns-2 c = number-plain _ _ _ (c .before .before .self .given .1) (c .plain-number .ensures)
+
+returns-3 : tie.Need-returns-3
+returns-3 c = number-negative _ _ _ (c .before .before .self2 .given .1) (c .minus-number .ensures)
+
+returns-4 : tie.Need-returns-4
+unfolding part-number
+returns-4 c = search needs
+
+returns-5 : tie.Need-returns-5
+unfolding part-number
+returns-5 c = search needs
+
+returns-6 : tie.Need-returns-6
+unfolding part-number
+returns-6 c = search needs
+
+pub number-spec : {M : Type 1} → statement M
+number-spec =
+    tie.close
+    (tie.spec
+    enum-told
+    enum-known-self
+    plain-number-requires
+    enum-known-self-2
+    minus-number-requires
+    enum-told-2
+    enum-told-3
+    enum-told-4
+    returns
+    returns-2
+    returns-3
+    returns-4
+    returns-5
+    returns-6)

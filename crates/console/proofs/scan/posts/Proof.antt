@@ -1,0 +1,31 @@
+-- `posts` is `line-by` of an event in the range. Assumes nothing.
+use Rattle.numbers.proofs.Laws.{back32}
+use mir.Facts.{toZ-ofZ}
+use Rattle.console.proofs.ScanLaws.{posts-number, posts-beyond}
+use borrow.Author.Needs.{needs}
+use Rattle.meaning.specs.Program.{line-by}
+use Rattle.console.proofs.scan.posts.Statement.{statement}
+use Rattle.console.proofs.scan.posts.Tie as tie
+
+enum-known-argument : tie.Need-enum-known-argument
+enum-known-argument c = search needs
+
+enum-told : tie.Need-enum-told
+enum-told c = search needs
+
+enum-told-2 : tie.Need-enum-told-2
+enum-told-2 c = search needs
+
+returns : tie.Need-returns
+returns c = rw (toZ-ofZ (c .before .before .before .fits .event), back32 (c .before .argument .given .0 .0) (c .known-told .given .0 .1)) (posts-number _ _ _ (c .before .argument .given .1))
+
+returns-2 : tie.Need-returns-2
+returns-2 c = rw (toZ-ofZ (c .before .before .fits .event)) (posts-beyond _ _ (c .enum-told .given .1))
+
+returns-3 : tie.Need-returns-3
+unfolding line-by
+returns-3 c = search needs
+
+pub posts-spec : {M : Type 1} → statement M
+posts-spec =
+    tie.close (tie.spec enum-known-argument enum-told enum-told-2 returns returns-2 returns-3)

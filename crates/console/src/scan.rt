@@ -1,0 +1,224 @@
+// The input line under way (01: "lines of event, tab, argument"), by value: each byte is fed to it once, and at the line's end it says
+// what the line is. A number of any length is held at one past the range, so that no number of digits overflows.
+use meaning::Line;
+use meaning::Num;
+use sizes::MOST;
+ghost use mathlib.Core.Path.{_≡_};
+ghost use mathlib.Core.Option.{some};
+ghost use Prim.Native.Nat.{_≤_};
+ghost use Rattle.meaning.specs.declared.Num.the-variants.{Is};
+ghost use Rattle.meaning.specs.Number.{capped, plain, minus};
+ghost use Rattle.meaning.specs.Program.{line-by};
+ghost use Rattle.console.specs.declared.scan.Part.the-variants.{Plain, Negative};
+ghost use Rattle.console.specs.Scan.{grown, if-digit, part-fed, part-number, empty, began, fed, line-at};
+
+// One past the range: it stands for every number beyond.
+const BEYOND: u64 = (MOST as u64) + 1;
+// Digits of a larger value, and one digit more, are beyond.
+const TENTH: u64 = (MOST as u64) / 10;
+// "a number past ±1,000,000,000 is posted as 1,000,000,001"
+const POSTED: i32 = MOST + 1;
+
+const TAB: u8 = 9;
+
+// A field under way: nothing yet, a minus alone, 0 alone, digits of a value, digits behind a minus, or what can be no number.
+pub enum Part {
+    Start,
+    Minus,
+    Zero,
+    Plain(u64),
+    Negative(u64),
+    Broken,
+}
+
+// A line under way: in its event, in its argument, or past two fields.
+pub enum Scan {
+    Event(Part),
+    Argument(Part, Part),
+    More,
+}
+
+// The value with one digit more.
+fn with_digit(v: u64, b: u8) -> u64
+    requires { ⌜ (48 ≤ b) × (b ≤ 57) ⌝ }
+    ensures { λ r. ⌜ r ≡ grown v b ⌝ }
+{
+    if TENTH < v {
+        return BEYOND;
+    }
+    let m = v * 10 + ((b - 48) as u64);
+    if m < BEYOND { m } else { BEYOND }
+}
+
+// A digit after others, with no sign and behind a minus; any other byte breaks the field.
+fn plain_fed(v: u64, b: u8) -> Part
+    ensures { λ r. ⌜ r ≡ if-digit b (Plain (grown v b)) ⌝ }
+{
+    if b < 48 {
+        return Part::Broken;
+    }
+    if 57 < b {
+        return Part::Broken;
+    }
+    Part::Plain(with_digit(v, b))
+}
+
+fn negative_fed(v: u64, b: u8) -> Part
+    ensures { λ r. ⌜ r ≡ if-digit b (Negative (grown v b)) ⌝ }
+{
+    if b < 48 {
+        return Part::Broken;
+    }
+    if 57 < b {
+        return Part::Broken;
+    }
+    Part::Negative(with_digit(v, b))
+}
+
+// A number with no sign, and behind a minus: there is no minus zero.
+fn plain_number(v: u64) -> Num
+    ensures { λ r. ⌜ r ≡ plain (capped (some v)) ⌝ }
+{
+    if v < BEYOND {
+        Num::Is(v as i32)
+    } else {
+        Num::Beyond
+    }
+}
+
+fn minus_number(v: u64) -> Num
+    ensures { λ r. ⌜ r ≡ minus (capped (some v)) ⌝ }
+{
+    if v == 0 {
+        return Num::Not;
+    }
+    if v < BEYOND {
+        Num::Is(0 - (v as i32))
+    } else {
+        Num::Beyond
+    }
+}
+
+impl Part {
+    // The field after one byte more: "no leading zero, plus or minus zero".
+    fn feed(self, b: u8) -> Part
+        ensures { λ r. ⌜ r ≡ part-fed self b ⌝ }
+    {
+        match self {
+            Part::Start => {
+                if b == 45 {
+                    return Part::Minus;
+                }
+                if b == 48 {
+                    return Part::Zero;
+                }
+                plain_fed(0, b)
+            }
+            Part::Minus => {
+                if b == 48 {
+                    return Part::Broken;
+                }
+                negative_fed(0, b)
+            }
+            Part::Plain(v) => plain_fed(v, b),
+            Part::Negative(v) => negative_fed(v, b),
+            Part::Zero => Part::Broken,
+            Part::Broken => Part::Broken,
+        }
+    }
+
+    // The number that the field is, if it ends here.
+    fn number(self) -> Num
+        ensures { λ r. ⌜ r ≡ part-number self ⌝ }
+    {
+        match self {
+            Part::Zero => Num::Is(0),
+            Part::Plain(v) => plain_number(v),
+            Part::Negative(v) => minus_number(v),
+            Part::Start => Num::Not,
+            Part::Minus => Num::Not,
+            Part::Broken => Num::Not,
+        }
+    }
+}
+
+impl Scan {
+    // A line before its first byte.
+    pub fn empty() -> Scan
+        ensures { λ r. ⌜ r ≡ empty ⌝ }
+    {
+        Scan::Event(Part::Start)
+    }
+
+    // Whether any byte was fed: after the last LF there is no further line.
+    pub fn began(self) -> bool
+        ensures { λ r. ⌜ r ≡ began self ⌝ }
+    {
+        match self {
+            Scan::Event(p) => match p {
+                Part::Start => false,
+                Part::Minus => true,
+                Part::Zero => true,
+                Part::Plain(_) => true,
+                Part::Negative(_) => true,
+                Part::Broken => true,
+            },
+            Scan::Argument(_, _) => true,
+            Scan::More => true,
+        }
+    }
+
+    // The line after one byte more, which is no LF: a tab ends a field.
+    pub fn feed(self, b: u8) -> Scan
+        ensures { λ r. ⌜ r ≡ fed self b ⌝ }
+    {
+        match self {
+            Scan::Event(p) => {
+                if b == TAB {
+                    return Scan::Argument(p, Part::Start);
+                }
+                Scan::Event(p.feed(b))
+            }
+            Scan::Argument(e, p) => {
+                if b == TAB {
+                    return Scan::More;
+                }
+                Scan::Argument(e, p.feed(b))
+            }
+            Scan::More => Scan::More,
+        }
+    }
+
+    // The line, if it ends here.
+    pub fn line(self) -> Line
+        ensures { λ r. ⌜ r ≡ line-at self ⌝ }
+    {
+        match self {
+            Scan::Argument(e, a) => line_of(e.number(), a.number()),
+            Scan::Event(_) => Line::Wrong,
+            Scan::More => Line::Wrong,
+        }
+    }
+}
+
+// Both numbers, or a line of another form.
+fn line_of(event: Num, argument: Num) -> Line
+    ensures { λ r. ⌜ r ≡ line-by event argument ⌝ }
+{
+    match event {
+        Num::Is(e) => posts(e, argument),
+        Num::Beyond => posts(POSTED, argument),
+        Num::Not => Line::Wrong,
+    }
+}
+
+// An event with its argument.
+fn posts(event: i32, argument: Num) -> Line
+    ensures { λ r. ⌜ r ≡ line-by (Is event) argument ⌝ }
+{
+    match argument {
+        Num::Is(a) => Line::Posts(event, a),
+        Num::Beyond => Line::Posts(event, POSTED),
+        Num::Not => Line::Wrong,
+    }
+}

@@ -1,0 +1,3 @@
+pub mod SplitLaws
+pub mod FieldLaws
+pub mod CellLaws

@@ -1,0 +1,13 @@
+pub mod Steps
+pub mod Lists
+pub mod Tree
+pub mod Preorder
+pub mod Descent
+pub mod Rules
+pub mod Sound
+pub mod Reach
+pub mod Ways
+pub mod Value
+pub mod Scope
+pub mod Stays
+pub mod Trace

@@ -1,0 +1,3 @@
+pub mod MarkLaws
+pub mod LineLaws
+pub mod PlaceLaws

@@ -1,0 +1,6 @@
+pub mod OrderLaws
+pub mod LayLaws
+pub mod RowLaws
+pub mod HeldLaws
+pub mod ScanLaws
+pub mod ReadLaws

@@ -1,0 +1,13 @@
+pub mod Numbers
+pub mod Splits
+pub mod Cells
+pub mod LinesKept
+pub mod FieldsFree
+pub mod LinesRead
+pub mod TransRead
+pub mod Shaped
+pub mod WalkKept
+pub mod WalkRead
+pub mod Values
+pub mod Same
+pub mod Round

@@ -1,0 +1,3 @@
+pub mod Passing
+pub mod Up
+pub mod On

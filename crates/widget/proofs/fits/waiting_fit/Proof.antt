@@ -1,0 +1,78 @@
+-- `waiting_fit` passes every event that waits. Assumes nothing.
+use mathlib.Core.Path.{_≡_, refl, sym, ap, _∙_}
+use native.Mathlib.Omega.{arith}
+use borrow.Author.Needs.{needs}
+use mir.Facts.{toZ-ofZ}
+use mir.Syntax.{w32}
+use mir.Val.{SFits}
+use Prim.Native.Nat.{_-_}
+use borrow.Author.Tests.{not-true, not-false}
+use lib.ListN.{drop, getD, length, length-map}
+use Rattle.sizes.specs.Sizes.{QUEUE}
+use Rattle.queue.specs.Queue.{none, waiting}
+use Rattle.meaning.specs.Lists.{every}
+use Rattle.meaning.specs.Foreign.{item-fits}
+use Rattle.widget.proofs.Every.{every-more, every-no, every-done}
+use Rattle.widget.proofs.Tests.{waiting-long, waiting-at}
+use Rattle.widget.proofs.fits.waiting_fit.Statement.{statement}
+use Rattle.widget.proofs.fits.waiting_fit.Tie as tie
+
+abbrev Inv-loop : tie.InvT-loop
+Inv-loop events queue n i₀ i =
+    (n ≡ queue .len) × (every (item-fits events) (drop i (waiting queue)) ≡ every (item-fits events) (waiting queue))
+
+abbrev μ-loop : tie.MeasureT-loop
+μ-loop events queue n i₀ i = n - i
+
+long : (c : tie.Start Inv-loop μ-loop) → length (c .args .t2 .items) ≡ QUEUE
+long c = sym (length-map (c .args .t2 .items) _) ∙ c .good .1 .0 .1 .1 .1 .0 .1 .0 .1
+
+loop-holds : tie.Need-loop-holds Inv-loop μ-loop
+loop-holds c = (refl, refl)
+
+mul-item : tie.Need-mul-item Inv-loop μ-loop
+mul-item c = search needs
+
+element-copy-out-item : tie.Need-element-copy-out-item Inv-loop μ-loop
+element-copy-out-item c = search needs
+
+event-fits-requires : tie.Need-event-fits-requires Inv-loop μ-loop
+event-fits-requires c κs = search needs
+
+returns : tie.Need-returns Inv-loop μ-loop
+returns c = let fe : SFits w32 (getD (c .before .before .before .before .before .before .before .args .t2 .items) (c .before .before .before .before .before .before .loop .i) none .event) = search needs in
+    let fa : SFits w32 (getD (c .before .before .before .before .before .before .before .args .t2 .items) (c .before .before .before .before .before .before .loop .i) none .arg) = search needs in
+    every-no (item-fits (c .before .before .before .before .before .before .before .args .events)) (waiting (c .before .before .before .before .before .before .before .args .t2)) (c .before .before .before .before .before .before .loop .i) none (c .before .before .before .before .before .before .loop .inv .1) (rw (waiting-long (c .before .before .before .before .before .before .before .args .t2) (long (c .before .before .before .before .before .before .before)) (c .before .before .before .before .before .before .before .pre) 0) (omega arith)) (waiting-at (c .before .before .before .before .before .before .before .args .t2) (long (c .before .before .before .before .before .before .before)) (c .before .before .before .before .before .before .before .pre) (c .before .before .before .before .before .before .loop .i) (c .before .before .before .before .before .before .before .args .events) _ (omega arith) (sym (not-true _ (c .if1 .taken)) ∙ rw (toZ-ofZ fe, toZ-ofZ fa) at (c .before .event-fits .ensures)))
+
+add-i : tie.Need-add-i Inv-loop μ-loop
+add-i c = search needs
+
+loop-less : tie.Need-loop-less Inv-loop μ-loop
+loop-less c = search needs
+
+loop-again : tie.Need-loop-again Inv-loop μ-loop
+loop-again c = (
+  c .before .before .before .before .before .before .loop .inv .0,
+  let fe : SFits w32 (getD (c .before .before .before .before .before .before .before .args .t2 .items) (c .before .before .before .before .before .before .loop .i) none .event) = search needs in
+      let fa : SFits w32 (getD (c .before .before .before .before .before .before .before .args .t2 .items) (c .before .before .before .before .before .before .loop .i) none .arg) = search needs in
+      every-more (item-fits (c .before .before .before .before .before .before .before .args .events)) (waiting (c .before .before .before .before .before .before .before .args .t2)) (c .before .before .before .before .before .before .loop .i) none (c .before .before .before .before .before .before .loop .inv .1) (rw (waiting-long (c .before .before .before .before .before .before .before .args .t2) (long (c .before .before .before .before .before .before .before)) (c .before .before .before .before .before .before .before .pre) 0) (omega arith)) (waiting-at (c .before .before .before .before .before .before .before .args .t2) (long (c .before .before .before .before .before .before .before)) (c .before .before .before .before .before .before .before .pre) (c .before .before .before .before .before .before .loop .i) (c .before .before .before .before .before .before .before .args .events) _ (omega arith) (sym (not-false _ (c .if1 .left)) ∙ rw (toZ-ofZ fe, toZ-ofZ fa) at (c .before .event-fits .ensures))),
+)
+
+returns-2 : tie.Need-returns-2 Inv-loop μ-loop
+returns-2 c = every-done (item-fits (c .before .before .args .events)) (waiting (c .before .before .args .t2)) (c .before .loop .i) (c .before .loop .inv .1) (rw (waiting-long (c .before .before .args .t2) (long (c .before .before)) (c .before .before .pre) 0) (omega arith))
+
+pub waiting-fit-spec : {M : Type 1} → statement M
+waiting-fit-spec =
+    tie.close
+    (tie.spec
+    Inv-loop
+    μ-loop
+    loop-holds
+    mul-item
+    element-copy-out-item
+    event-fits-requires
+    returns
+    add-i
+    loop-less
+    loop-again
+    returns-2)

@@ -1,0 +1,246 @@
+// The effects of a reaction on a widget's lent arrays (01, "One reaction"): the trace buffer, the acts, leaving and
+// entering one state. The chart's runner and the plan machine share these functions, and each is promised in one form:
+// what it leaves behind is what the definition's step gives. What a function does not touch may be anything.
+pub mod fits;
+
+use meaning::chart::Act;
+use meaning::chart::VarRow;
+use numbers::Place;
+use numbers::add_held;
+use numbers::hold;
+use numbers::number;
+use numbers::wide;
+use queue::Queue;
+use sizes::STATES;
+use sizes::VARIABLES;
+ghost use mathlib.Core.Path.{_≡_};
+ghost use mathlib.Core.Bool.{Bool};
+ghost use mathlib.Core.List.{List, [], _∷_, _++_};
+ghost use Prim.Native.Nat.{ℕ, _-_, _≤_, _<_};
+ghost use lib.ListN.{length, take, replicate};
+ghost use lib.IntN.{ℤ, pos};
+ghost use Rattle.sizes.specs.Sizes.{STATES as states, VARIABLES as variables};
+ghost use Rattle.numbers.specs.Reference.{NOWHERE};
+ghost use Rattle.meaning.specs.Widget.{emit as emits, taken, told};
+ghost use Rattle.meaning.specs.Effects.{act-on, mark-left, mark-entered};
+ghost use Rattle.widget.specs.View.{Noted, Within, Did};
+ghost use Rattle.widget.specs.Acts.{stored, sending, Named, Below};
+
+// How many numbers an entry has.
+const ENTRY: usize = 3;
+
+// The answer number of 01 (0: written) and the next free place.
+pub struct Wrote {
+    pub number: usize,
+    pub at: usize,
+}
+
+// How a step went: 0 to go on, else the refusal met; the trace's next free place; the queue.
+pub struct Went {
+    pub number: usize,
+    pub at: usize,
+    pub queue: Queue,
+}
+
+// 01, "Trace": three numbers an entry; 11, no room for the next trace entry.
+pub fn emit(trace: &mut [i32], at: usize, a: i32, b: i32, c: i32) -> Wrote
+    requires { ⌜ at ≤ length (now trace) ⌝ }
+    ensures { λ r. ⌜ Noted (a ∷ b ∷ c ∷ []) (now (trace .entry)) at r (now (trace .exit)) ⌝ }
+{
+    if trace.len() - at < ENTRY {
+        return Wrote { number: 11, at: at };
+    }
+    trace[at] = a;
+    trace[at + 1] = b;
+    trace[at + 2] = c;
+    Wrote {
+        number: 0,
+        at: at + ENTRY,
+    }
+}
+
+// 01, "Trace": the lent slice past the last entry is 0.
+pub fn clear_from(trace: &mut [i32], at: usize)
+    requires { ⌜ at ≤ length (now trace) ⌝ }
+    ensures { λ r. ⌜ now (trace .exit) ≡ take at (now (trace .entry)) ++ replicate (length (now (trace .entry)) - at) (pos 0) ⌝ }
+{
+    let mut i = at;
+    while i < trace.len() {
+        trace[i] = 0;
+        i += 1;
+    }
+}
+
+// 01, "Trace": 1, transition taken.
+pub fn mark_taken(t: usize, queue: Queue, trace: &mut [i32], at: usize) -> Went
+    requires { ⌜ (t < NOWHERE) × (at ≤ length (now trace)) ⌝ }
+    ensures { λ r. ⌜ Within (now (trace .entry)) r (now (trace .exit)) × ((active : List Bool) (slots vars : List ℤ) → Did (emits (taken t)) active slots vars queue (now (trace .entry)) at r active slots vars (now (trace .exit))) ⌝ }
+{
+    let named = number(t);
+    let wrote = emit(trace, at, 1, named, 0);
+    Went {
+        number: wrote.number,
+        at: wrote.at,
+        queue: queue,
+    }
+}
+
+// 01, "Trace": 6, number told.
+pub fn tell(x: i32, queue: Queue, trace: &mut [i32], at: usize) -> Went
+    requires { ⌜ at ≤ length (now trace) ⌝ }
+    ensures { λ r. ⌜ Within (now (trace .entry)) r (now (trace .exit)) × ((active : List Bool) (slots vars : List ℤ) → Did (emits (told x)) active slots vars queue (now (trace .entry)) at r active slots vars (now (trace .exit))) ⌝ }
+{
+    let wrote = emit(trace, at, 6, x, 0);
+    Went {
+        number: wrote.number,
+        at: wrote.at,
+        queue: queue,
+    }
+}
+
+// 01, "Trace": 4, variable and its new value, written before the effect goes on.
+pub fn store(
+    v: usize,
+    value: i32,
+    vars: &mut [i32; VARIABLES],
+    queue: Queue,
+    trace: &mut [i32],
+    at: usize,
+) -> Went
+    requires { ⌜ (v < variables) × (at ≤ length (now trace)) ⌝ }
+    ensures { λ r. ⌜ Within (now (trace .entry)) r (now (trace .exit)) × ((active : List Bool) (slots : List ℤ) → Did (stored v value) active slots (now (vars .entry)) queue (now (trace .entry)) at r active slots (now (vars .exit)) (now (trace .exit))) ⌝ }
+{
+    let named = number(v);
+    let wrote = emit(trace, at, 4, named, value);
+    if wrote.number != 0 {
+        return Went {
+            number: wrote.number,
+            at: wrote.at,
+            queue: queue,
+        };
+    }
+    vars[v] = value;
+    Went {
+        number: 0,
+        at: wrote.at,
+        queue: queue,
+    }
+}
+
+// 01, "Trace": 5, event sent and its argument; at a send 11 before 9.
+pub fn send(e: usize, x: i32, queue: Queue, trace: &mut [i32], at: usize) -> Went
+    requires { ⌜ (e < NOWHERE) × (at ≤ length (now trace)) ⌝ }
+    ensures { λ r. ⌜ Within (now (trace .entry)) r (now (trace .exit)) × ((active : List Bool) (slots vars : List ℤ) → Did (sending e x) active slots vars queue (now (trace .entry)) at r active slots vars (now (trace .exit))) ⌝ }
+{
+    let event = number(e);
+    let wrote = emit(trace, at, 5, event, x);
+    if wrote.number != 0 {
+        return Went {
+            number: wrote.number,
+            at: wrote.at,
+            queue: queue,
+        };
+    }
+    let queued = queue.append(event, x);
+    if !queued.done {
+        return Went {
+            number: 9,
+            at: wrote.at,
+            queue: queue,
+        };
+    }
+    let after = queued.queue;
+    Went {
+        number: 0,
+        at: wrote.at,
+        queue: after,
+    }
+}
+
+// 01, acts s, a, k, q, o, with the row of the act's variable and the event's argument: set, add and take hold the value at
+// the nearer end of the variable's range.
+pub fn perform(
+    row: VarRow,
+    arg: i32,
+    act: Act,
+    vars: &mut [i32; VARIABLES],
+    queue: Queue,
+    trace: &mut [i32],
+    at: usize,
+) -> Went
+    requires { ⌜ Named act × (at ≤ length (now trace)) ⌝ }
+    ensures { λ r. ⌜ Within (now (trace .entry)) r (now (trace .exit)) × ((active : List Bool) (slots : List ℤ) → Did (act-on row arg act) active slots (now (vars .entry)) queue (now (trace .entry)) at r active slots (now (vars .exit)) (now (trace .exit))) ⌝ }
+{
+    match act {
+        Act::SetTo(v, x) => {
+            let value = hold(wide(x), row.low, row.high);
+            store(v, value, vars, queue, trace, at)
+        }
+        Act::AddTo(v, x) => {
+            let value = add_held(vars[v], x, row.low, row.high);
+            store(v, value, vars, queue, trace, at)
+        }
+        Act::TakeTo(v) => {
+            let value = hold(wide(arg), row.low, row.high);
+            store(v, value, vars, queue, trace, at)
+        }
+        Act::Send(e, x) => send(e, x, queue, trace, at),
+        Act::Tell(x) => tell(x, queue, trace, at),
+    }
+}
+
+// 01, "Trace": 2, state left; leaving a state stores it in its o parent's slot.
+pub fn mark_left(
+    p: Place,
+    s: usize,
+    active: &mut [bool; STATES],
+    slots: &mut [i32; STATES],
+    queue: Queue,
+    trace: &mut [i32],
+    at: usize,
+) -> Went
+    requires { ⌜ Below states p × (s < states) × (at ≤ length (now trace)) ⌝ }
+    ensures { λ r. ⌜ Within (now (trace .entry)) r (now (trace .exit)) × ((vars : List ℤ) → Did (mark-left p s) (now (active .entry)) (now (slots .entry)) vars queue (now (trace .entry)) at r (now (active .exit)) (now (slots .exit)) vars (now (trace .exit))) ⌝ }
+{
+    let named = number(s);
+    let wrote = emit(trace, at, 2, named, 0);
+    let went = Went {
+        number: wrote.number,
+        at: wrote.at,
+        queue: queue,
+    };
+    if wrote.number != 0 {
+        return went;
+    }
+    active[s] = false;
+    let Place::At(parent) = p else {
+        return went;
+    };
+    slots[parent] = named;
+    went
+}
+
+// 01, "Trace": 3, state entered.
+pub fn mark_entered(
+    s: usize,
+    active: &mut [bool; STATES],
+    queue: Queue,
+    trace: &mut [i32],
+    at: usize,
+) -> Went
+    requires { ⌜ (s < states) × (at ≤ length (now trace)) ⌝ }
+    ensures { λ r. ⌜ Within (now (trace .entry)) r (now (trace .exit)) × ((slots vars : List ℤ) → Did (mark-entered s) (now (active .entry)) slots vars queue (now (trace .entry)) at r (now (active .exit)) slots vars (now (trace .exit))) ⌝ }
+{
+    let named = number(s);
+    let wrote = emit(trace, at, 3, named, 0);
+    let went = Went {
+        number: wrote.number,
+        at: wrote.at,
+        queue: queue,
+    };
+    if wrote.number != 0 {
+        return went;
+    }
+    active[s] = true;
+    went
+}

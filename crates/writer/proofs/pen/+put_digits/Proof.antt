@@ -1,0 +1,144 @@
+use Rattle.writer.proofs.PenLaws.{digits-put-one, digits-put-more}
+use borrow.Author.Needs.{needs}
+use Prim.Native.Nat.{ℕ, _<_}
+use borrow.Fn.Kinds.{In}
+use borrow.Fn.PlainCycle.{Measures, is, falls, and}
+use Rattle.writer.proofs.pen.put_digits.Reads as put-digits
+use Rattle.writer.proofs.pen.put_digits.Kinds as put-digits-kinds
+use Rattle.writer.proofs.pen.+put_digits.Lts-put_digits as put-digits-lts
+use Rattle.writer.proofs.pen.put.Reads as put-reads
+use Rattle.writer.proofs.pen.+put_digits.{statement}
+use Rattle.writer.proofs.pen.+put_digits.Tie.{close}
+
+abbrev μ-put-digits : Measures 1 put-digits-kinds.ps ℕ
+μ-put-digits κs a = a .1 .1 .0
+
+abbrev put-digits-at : ℕ → In 1 put-digits-kinds.ps
+put-digits-at t =
+    and 1 put-digits-kinds.ps (is 1 put-digits-kinds.ps μ-put-digits t) put-digits.Pre
+
+abbrev put-digits-below : ℕ → In 1 put-digits-kinds.ps
+put-digits-below t =
+    and 1 put-digits-kinds.ps (falls 1 put-digits-kinds.ps _<_ μ-put-digits t) put-digits.Pre
+
+-- src/pen.rt:35:36
+put-digits-cast-put : (t : ℕ) → put-digits-lts.Need-cast-put (
+  put-reads.Asked,
+  put-reads.Learnt,
+  put-digits-below t,
+  put-digits.Post,
+) (put-digits-at t) put-digits.Post
+put-digits-cast-put t c = search needs
+
+-- src/pen.rt:35:30
+put-digits-add-put : (t : ℕ) → put-digits-lts.Need-add-put (
+  put-reads.Asked,
+  put-reads.Learnt,
+  put-digits-below t,
+  put-digits.Post,
+) (put-digits-at t) put-digits.Post
+put-digits-add-put t c = search needs
+
+-- src/pen.rt:35:9
+put-digits-put-requires : (t : ℕ) → put-digits-lts.Need-put-requires (
+  put-reads.Asked,
+  put-reads.Learnt,
+  put-digits-below t,
+  put-digits.Post,
+) (put-digits-at t) put-digits.Post
+put-digits-put-requires t c κs = search needs
+
+-- src/pen.rt:35:9
+put-digits-same-length : (t : ℕ) → put-digits-lts.Need-same-length (
+  put-reads.Asked,
+  put-reads.Learnt,
+  put-digits-below t,
+  put-digits.Post,
+) (put-digits-at t) put-digits.Post
+put-digits-same-length t c = search needs
+
+-- src/pen.rt:35:9
+put-digits-returns : (t : ℕ) → put-digits-lts.Need-returns (
+  put-reads.Asked,
+  put-reads.Learnt,
+  put-digits-below t,
+  put-digits.Post,
+) (put-digits-at t) put-digits.Post
+put-digits-returns t c = digits-put-one _ _ _ (c .before .before .before .before .if1 .taken) (c .before .before .put .ensures)
+
+-- src/pen.rt:37:9
+put-digits-put-digits-requires : (t : ℕ) → put-digits-lts.Need-put-digits-requires (
+  put-reads.Asked,
+  put-reads.Learnt,
+  put-digits-below t,
+  put-digits.Post,
+) (put-digits-at t) put-digits.Post
+put-digits-put-digits-requires t c κs = search needs
+
+-- src/pen.rt:38:24
+put-digits-cast-put-2 : (t : ℕ) → put-digits-lts.Need-cast-put-2 (
+  put-reads.Asked,
+  put-reads.Learnt,
+  put-digits-below t,
+  put-digits.Post,
+) (put-digits-at t) put-digits.Post
+put-digits-cast-put-2 t c = search needs
+
+-- src/pen.rt:38:18
+put-digits-add-put-2 : (t : ℕ) → put-digits-lts.Need-add-put-2 (
+  put-reads.Asked,
+  put-reads.Learnt,
+  put-digits-below t,
+  put-digits.Post,
+) (put-digits-at t) put-digits.Post
+put-digits-add-put-2 t c = search needs
+
+-- src/pen.rt:38:5
+put-digits-put-requires-2 : (t : ℕ) → put-digits-lts.Need-put-requires-2 (
+  put-reads.Asked,
+  put-reads.Learnt,
+  put-digits-below t,
+  put-digits.Post,
+) (put-digits-at t) put-digits.Post
+put-digits-put-requires-2 t c κs = search needs
+
+-- src/pen.rt:31:1
+put-digits-same-length-2 : (t : ℕ) → put-digits-lts.Need-same-length-2 (
+  put-reads.Asked,
+  put-reads.Learnt,
+  put-digits-below t,
+  put-digits.Post,
+) (put-digits-at t) put-digits.Post
+put-digits-same-length-2 t c = search needs
+
+-- src/pen.rt:31:1
+put-digits-returns-2 : (t : ℕ) → put-digits-lts.Need-returns-2 (
+  put-reads.Asked,
+  put-reads.Learnt,
+  put-digits-below t,
+  put-digits.Post,
+) (put-digits-at t) put-digits.Post
+put-digits-returns-2 t c =
+    let p = c .before .before .before .before .before .before in
+    digits-put-more _ _ _ _ (p .before .before .if1 .left) (p .put-digits .ensures) (c .before .before .put2 .ensures)
+
+pub +put-digits-spec : {M : Type 1} → statement M
++put-digits-spec = close μ-put-digits λ t. put-digits-lts.spec (
+  put-reads.Asked,
+  put-reads.Learnt,
+  put-digits-below t,
+  put-digits.Post,
+)
+    (put-digits-at t)
+    put-digits.Post
+    (put-digits-cast-put t)
+    (put-digits-add-put t)
+    (put-digits-put-requires t)
+    (put-digits-same-length t)
+    (put-digits-returns t)
+    (put-digits-put-digits-requires t)
+    (put-digits-cast-put-2 t)
+    (put-digits-add-put-2 t)
+    (put-digits-put-requires-2 t)
+    (put-digits-same-length-2 t)
+    (put-digits-returns-2 t)
