@@ -1,47 +1,34 @@
+-- `text::read` meets its contract: each way out is a law of the files beside. Assumes nothing.
 use mathlib.Core.Path.{refl}
 use Rattle.text.proofs.ReadLaws.{read-fault, read-ruled}
 use borrow.Author.Needs.{needs}
 use Rattle.text.proofs.read.Statement.{statement}
 use Rattle.text.proofs.read.Tie as tie
-use Rattle.text.proofs.read.Reads as reads
-use Rattle.text.proofs.read.Lts as lts
-use Rattle.reader.proofs.read.clear.Reads as clear-reads
-use Rattle.reader.proofs.read.read_rows.Reads as read-rows-reads
-use Rattle.rules.proofs.check_rows.Reads as check-rows-reads
 
--- src/lib.rt:15:9
 read-rows-requires : tie.Need-read-rows-requires
 read-rows-requires c κs = search needs
 
--- src/lib.rt:17:9
 same-length : tie.Need-same-length
 same-length c = search needs
 
--- src/lib.rt:17:9
 returns : tie.Need-returns
 returns c = read-fault _ _ _ _ (c .before .before .before .read-rows .ensures) (c .if1 .taken)
 
--- src/lib.rt:19:9
 check-rows-requires : tie.Need-check-rows-requires
 check-rows-requires c κs = search needs
 
--- src/lib.rt:21:9
 clear-requires : tie.Need-clear-requires
 clear-requires c κs = search needs
 
--- src/lib.rt:12:1
 same-length-2 : tie.Need-same-length-2
 same-length-2 c = search needs
 
--- src/lib.rt:12:1
 returns-2 : tie.Need-returns-2
 returns-2 c = read-ruled _ _ _ _ (c .before .before .before .before .before .before .before .before .before .before .read-rows .ensures) (c .before .before .before .before .before .before .before .if1 .left) _ (c .before .before .before .before .before .check-rows .ensures) _ (λ _. c .before .clear .ensures) (λ z. absurd (c .before .before .before .if2 .taken z))
 
--- src/lib.rt:12:1
 same-length-3 : tie.Need-same-length-3
 same-length-3 c = search needs
 
--- src/lib.rt:12:1
 returns-3 : tie.Need-returns-3
 returns-3 c = read-ruled _ _ _ _ (c .before .before .before .before .before .before .before .read-rows .ensures) (c .before .before .before .before .if1 .left) _ (c .before .before .check-rows .ensures) _ (λ n. absurd (n (c .if2 .left))) (λ _. refl)
 
