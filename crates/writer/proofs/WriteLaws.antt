@@ -1,7 +1,7 @@
 -- Laws of writing into a slice that is 0: where the text fits it stands there and 0 past it; where it does not, the pen's place lies past
 -- the slice. In the order: a slice set to 0; where the text fits, and where it does not; what the caller sees. Assumes nothing.
 use mathlib.Core.Path.{_≡_, refl, sym, ap, _∙_}
-use mathlib.Core.Bool.{Bool, true, false, cond}
+use mathlib.Core.Bool.{Bool, true, false}
 use mathlib.Core.List.{List, [], _∷_, _++_, append-nil}
 use mathlib.Core.Option.{Option, none, some}
 use Prim.Native.Nat.{ℕ, zero, suc, _+_, _-_, _≤_, _<_}
@@ -14,7 +14,7 @@ use lib.Seq.{sets, sets-eq, drop-length}
 use borrow.Author.Tests.{lt-ltb, le-ltb, ltb-true, ltb-false}
 use Rattle.meaning.specs.Lists.{padded}
 use Rattle.meaning.specs.Rules.{failing-rule-of, verdict}
-use Rattle.meaning.specs.Text.{Outcome, done, refused, answer, answer-of, count-of, lent, text-of, written-by, write, written, lent-bytes}
+use Rattle.meaning.specs.Text.{answer, answer-of, count-of, lent, text-of, written-by, write, written, lent-bytes}
 use Rattle.meaning.specs.declared.Answer.{Answer}
 use Rattle.meaning.specs.declared.Written.{Written}
 use Rattle.writer.specs.Pen.{Pen, pen, put-if, put-byte, put-all, zeros}
