@@ -1,1 +1,2 @@
 pub mod Falling
+pub mod Among

@@ -2,3 +2,4 @@
 // by defaults, by the slots or towards a target, and firing one transition. Each function has one promise: what it leaves
 // behind is what the definition gives.
 pub mod leaving;
+pub mod ways;
