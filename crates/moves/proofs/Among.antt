@@ -19,13 +19,13 @@ use Rattle.laws.proofs.Tree.{keep-cut}
 use Rattle.meaning.specs.Chart.{Chart}
 use Rattle.meaning.specs.declared.chart.Kind.{Kind}
 use Rattle.meaning.specs.declared.chart.Kind.the-variants.{A as kind-a, B as kind-b, O as kind-o}
-use Rattle.meaning.specs.Entry.{Visit, Way, on-to, defaults, stops, plain, goes-on, below, slot-way, towards, towards-owner}
+use Rattle.meaning.specs.Entry.{Visit, Way, on-to, defaults, stops, plain, goes-on, below, by-defaults, slot-way, towards, towards-owner}
 use Rattle.meaning.specs.Lists.{concat-map, from, keep, has, first-that}
 use Rattle.meaning.specs.Tree.{kind-of, default-child, is-child, children, all-states, ancestors}
 use Rattle.meaning.specs.Value.{chart-of}
 use Rattle.walks.specs.Walks.{Ruled, path-child}
 use Rattle.walks.proofs.Passing.{sound}
-use Rattle.moves.specs.Moves.{way-by, slot-of, stored-way, goal-way, defaulting, visit-as, On-child, Kids}
+use Rattle.moves.specs.Moves.{way-by, slot-of, stored-way, goal-way, defaulting, visit-as, On-child, Led, Kids}
 use Rattle.moves.specs.declared.ways.Next.{Next}
 use Rattle.moves.specs.declared.ways.Next.the-variants.{OnTo, Defaults, Stops}
 use Rattle.moves.specs.declared.ways.Goal.{Goal}
@@ -197,3 +197,32 @@ module _ (c : Chart) (goal : Goal) (s : ℕ) where
   pub goal-owner : (b : ℕ) (next : Next) → goal ≡ Owner b → (s ≡ b → ⊥) → way-by next ≡ towards c b s → way-by next ≡ goal-way c goal s
   unfolding towards-owner
   goal-owner b next g n e = e ∙ sym (ap (λ x. goal-way c x s) g ∙ ap (λ t. cond t stops (towards c b s)) (ne-eqb s b n))
+
+-- ---- with which child each way goes on
+
+pub defaults-way : (s : ℕ) → by-defaults s ≡ defaults
+unfolding by-defaults
+defaults-way s = refl
+
+pub defaults-on : (c : Chart) (s : ℕ) → On-child c s defaults
+defaults-on c s d k e = let z : _≡_ {A = ℕ} 0 1 = cc in absurd (omega arith)
+
+held-on : (p : Place) (d : ℕ) → slot-way p ≡ on-to d → p ≡ holds d
+unfolding slot-way
+held-on empty d e = let z : _≡_ {A = ℕ} 0 1 = cc in absurd (omega arith)
+held-on (holds x) d e = let z : x ≡ d = cc in ap holds z
+
+module _ (c : Chart) (slots : List ℤ) (s : ℕ) (next : Next) (e : way-by next ≡ stored-way slots s) where
+  pub stored-child : Led c slots → On-child c s (way-by next)
+  unfolding stored-way
+  stored-child h d k q = h .holding s d (held-on (slot-of slots s) d (sym e ∙ q))
+
+  pub stored-plain : (k : Kind) → defaulting k (way-by next) ≡ false
+  unfolding stored-way defaulting slot-way
+  stored-plain k = ap (defaulting k) e ∙ never k (slot-of slots s)
+    where
+      never : (k₁ : Kind) (p : Place) → defaulting k₁ (slot-way p) ≡ false
+      never kind-o empty = refl
+      never kind-o (holds d) = refl
+      never kind-a p = refl
+      never kind-b p = refl

@@ -1,2 +1,4 @@
 pub mod Falling
 pub mod Among
+pub mod Visiting
+pub mod Descending

@@ -3,3 +3,4 @@
 // behind is what the definition gives.
 pub mod leaving;
 pub mod ways;
+pub mod entering;
