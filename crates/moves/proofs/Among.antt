@@ -212,17 +212,20 @@ unfolding slot-way
 held-on empty d e = let z : _≡_ {A = ℕ} 0 1 = cc in absurd (omega arith)
 held-on (holds x) d e = let z : x ≡ d = cc in ap holds z
 
-module _ (c : Chart) (slots : List ℤ) (s : ℕ) (next : Next) (e : way-by next ≡ stored-way slots s) where
-  pub stored-child : Led c slots → On-child c s (way-by next)
-  unfolding stored-way
-  stored-child h d k q = h .holding s d (held-on (slot-of slots s) d (sym e ∙ q))
+pub stored-child : (c : Chart) (slots : List ℤ) (s : ℕ) (next : Next) → way-by next ≡ stored-way slots s → Led c slots → On-child c s (way-by next)
+unfolding stored-way
+stored-child c slots s next e h d k q = h .holding s d (held-on (slot-of slots s) d (sym e ∙ q))
 
-  pub stored-plain : (k : Kind) → defaulting k (way-by next) ≡ false
-  unfolding stored-way defaulting slot-way
-  stored-plain k = ap (defaulting k) e ∙ never k (slot-of slots s)
-    where
-      never : (k₁ : Kind) (p : Place) → defaulting k₁ (slot-way p) ≡ false
-      never kind-o empty = refl
-      never kind-o (holds d) = refl
-      never kind-a p = refl
-      never kind-b p = refl
+pub stored-kids : (c : Chart) (slots : List ℤ) (s left first end : ℕ) (next : Next) → way-by next ≡ stored-way slots s → Kids c (way-by next) s left first end → Kids c (stored-way slots s) s left first end
+stored-kids c slots s left first end next e k = subst (λ w. Kids c w s left first end) e k
+
+-- by the slots nothing is entered by default
+pub stored-plain : (slots : List ℤ) (s : ℕ) (k : Kind) → defaulting k (stored-way slots s) ≡ false
+unfolding stored-way defaulting slot-way
+stored-plain slots s k = never k (slot-of slots s)
+  where
+    never : (k₁ : Kind) (p : Place) → defaulting k₁ (slot-way p) ≡ false
+    never kind-o empty = refl
+    never kind-o (holds d) = refl
+    never kind-a p = refl
+    never kind-b p = refl

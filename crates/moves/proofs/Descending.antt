@@ -10,7 +10,7 @@ use lib.IntN.{ℤ}
 use Rattle.queue.specs.declared.Queue.{Queue}
 use Rattle.laws.proofs.Steps.{each-append, bind-cong}
 use Rattle.meaning.specs.Chart.{Chart}
-use Rattle.meaning.specs.Entry.{Visit, Way, below}
+use Rattle.meaning.specs.Entry.{Visit, Way, below, plain, revisit}
 use Rattle.meaning.specs.Lists.{concat-map, from, keep}
 use Rattle.meaning.specs.Steps.{Res, ok, Step, bind, _then_, each}
 use Rattle.meaning.specs.Tree.{kind-of, is-child}
@@ -18,7 +18,8 @@ use Rattle.meaning.specs.Widget.{Ctx}
 use Rattle.widget.specs.declared.Went.{Went}
 use Rattle.widget.specs.View.{ctx, Within, Did, Owes}
 use Rattle.widget.proofs.Going.{owes-all, owes-as, owes-none, owes-on, owes-stop}
-use Rattle.moves.specs.Moves.{defaulting, visit-as, Kids}
+use Rattle.moves.specs.Moves.{defaulting, stored-way, visit-as, Kids}
+use Rattle.moves.proofs.Among.{stored-plain}
 
 -- ---- lists
 
@@ -143,3 +144,10 @@ module _ {S : Type 0} (sl : S → List ℤ) (f : Visit → Step Ctx) (c : Chart)
 pub one-list : {D : Step Ctx} {a : List Bool} {s v : List ℤ} {q : Queue} {t : List ℤ} {at : ℕ} {r : Went} {a₁ : List Bool} {v₁ t₁ : List ℤ}
     → Did D a s v q t at r a₁ s v₁ t₁ → Does {S = Unit {0}} (λ x. s) D a v q t at r a₁ v₁ t₁
 one-list d = (record { fits = d .fits; kept = d .kept }, λ x. d)
+
+-- a visit of a restore, as one of the way by the slots
+pub revisited : (c : Chart) (arg : ℤ) (s i : ℕ) {a : List Bool} {sl v : List ℤ} {q : Queue} {t : List ℤ} {at : ℕ} {r : Went} {a₁ : List Bool} {v₁ t₁ : List ℤ}
+    → Did (revisit c arg (plain i)) a sl v q t at r a₁ sl v₁ t₁
+    → Does {S = Unit {0}} (λ x. sl) (revisit c arg (visit-as (defaulting (kind-of c s) (stored-way sl s)) s i)) a v q t at r a₁ v₁ t₁
+revisited c arg s i {a} {sl} {v} {q} {t} {at} {r} {a₁} {v₁} {t₁} d =
+    one-list (subst (λ b. Did (revisit c arg (visit-as b s i)) a sl v q t at r a₁ sl v₁ t₁) (sym (stored-plain sl s (kind-of c s))) d)

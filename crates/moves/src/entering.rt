@@ -1,6 +1,13 @@
 // Entering states below a state that is in (01, "Firing" and "History"): one state, with its parent's default actions where
 // due; down by defaults; down by the slots; the restore at a history's owner; and the path to a target or to an owner.
 // `left` is how many states there can be below this one: it falls with every level.
+use super::ways::Goal;
+use super::ways::Next;
+use super::ways::by_default;
+use super::ways::goes_on;
+use super::ways::next_of;
+use super::ways::slot_of;
+use super::ways::stored;
 use acts::enter;
 use acts::perform_all;
 use chart::kind_of;
@@ -12,13 +19,6 @@ use numbers::Place;
 use queue::Queue;
 use sizes::STATES;
 use sizes::VARIABLES;
-use super::ways::Goal;
-use super::ways::Next;
-use super::ways::by_default;
-use super::ways::goes_on;
-use super::ways::next_of;
-use super::ways::slot_of;
-use super::ways::stored;
 use widget::Went;
 ghost use mathlib.Core.Path.{_≡_};
 ghost use mathlib.Core.Bool.{Bool};
@@ -122,12 +122,33 @@ pub fn by_defaults(
             continue;
         }
         let waiting = went.queue;
-        went = visit(chart, arg, Next::Defaults, s, d, active, vars, waiting, trace, went.at);
+        went = visit(
+            chart,
+            arg,
+            Next::Defaults,
+            s,
+            d,
+            active,
+            vars,
+            waiting,
+            trace,
+            went.at,
+        );
         if went.number != 0 {
             return went;
         }
         let onward = went.queue;
-        went = by_defaults(chart, arg, d, left - 1, active, vars, onward, trace, went.at);
+        went = by_defaults(
+            chart,
+            arg,
+            d,
+            left - 1,
+            active,
+            vars,
+            onward,
+            trace,
+            went.at,
+        );
         if went.number != 0 {
             return went;
         }
@@ -167,7 +188,18 @@ pub fn by_slots(
             return went;
         }
         let onward = went.queue;
-        went = by_slots(chart, arg, d, left - 1, active, slots, vars, onward, trace, went.at);
+        went = by_slots(
+            chart,
+            arg,
+            d,
+            left - 1,
+            active,
+            slots,
+            vars,
+            onward,
+            trace,
+            went.at,
+        );
         if went.number != 0 {
             return went;
         }

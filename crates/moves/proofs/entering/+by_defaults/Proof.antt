@@ -45,7 +45,6 @@ abbrev by-defaults-μ-loop : by-defaults-lts.MeasureT-loop
 by-defaults-μ-loop chart arg s left active₀ vars₀ trace₀ at went₀ d₀ d-end active vars trace went d =
     d-end - d
 
--- src/entering.rt:114:9
 by-defaults-goes-on-requires : (t : ℕ) → by-defaults-lts.Need-goes-on-requires (
   goes-on-reads.Asked,
   goes-on-reads.Learnt,
@@ -58,7 +57,6 @@ by-defaults-goes-on-requires : (t : ℕ) → by-defaults-lts.Need-goes-on-requir
 ) (by-defaults-at t) by-defaults-own.Post by-defaults-Inv-loop by-defaults-μ-loop
 by-defaults-goes-on-requires t c κs = (c .pre .1 .0, c .pre .1 .1, defaults-on _ _)
 
--- src/entering.rt:120:5
 by-defaults-loop-holds : (t : ℕ) → by-defaults-lts.Need-loop-holds (
   goes-on-reads.Asked,
   goes-on-reads.Learnt,
@@ -71,7 +69,6 @@ by-defaults-loop-holds : (t : ℕ) → by-defaults-lts.Need-loop-holds (
 ) (by-defaults-at t) by-defaults-own.Post by-defaults-Inv-loop by-defaults-μ-loop
 by-defaults-loop-holds t c = going-begin (λ x. x) _ _ by-defaults defaults _ _ _ _ (defaults-way _) (c .goes-on .ensures) (c .before .pre .1 .2)
 
--- src/entering.rt:121:13
 by-defaults-is-child-requires : (t : ℕ) → by-defaults-lts.Need-is-child-requires (
   goes-on-reads.Asked,
   goes-on-reads.Learnt,
@@ -84,7 +81,6 @@ by-defaults-is-child-requires : (t : ℕ) → by-defaults-lts.Need-is-child-requ
 ) (by-defaults-at t) by-defaults-own.Post by-defaults-Inv-loop by-defaults-μ-loop
 by-defaults-is-child-requires t c κs = search needs
 
--- src/entering.rt:122:13
 by-defaults-add-d : (t : ℕ) → by-defaults-lts.Need-add-d (
   goes-on-reads.Asked,
   goes-on-reads.Learnt,
@@ -97,7 +93,6 @@ by-defaults-add-d : (t : ℕ) → by-defaults-lts.Need-add-d (
 ) (by-defaults-at t) by-defaults-own.Post by-defaults-Inv-loop by-defaults-μ-loop
 by-defaults-add-d t c = search needs
 
--- src/entering.rt:120:5
 by-defaults-loop-less : (t : ℕ) → by-defaults-lts.Need-loop-less (
   goes-on-reads.Asked,
   goes-on-reads.Learnt,
@@ -110,7 +105,6 @@ by-defaults-loop-less : (t : ℕ) → by-defaults-lts.Need-loop-less (
 ) (by-defaults-at t) by-defaults-own.Post by-defaults-Inv-loop by-defaults-μ-loop
 by-defaults-loop-less t c = search needs
 
--- src/entering.rt:120:5
 by-defaults-loop-again : (t : ℕ) → by-defaults-lts.Need-loop-again (
   goes-on-reads.Asked,
   goes-on-reads.Learnt,
@@ -123,7 +117,6 @@ by-defaults-loop-again : (t : ℕ) → by-defaults-lts.Need-loop-again (
 ) (by-defaults-at t) by-defaults-own.Post by-defaults-Inv-loop by-defaults-μ-loop
 by-defaults-loop-again t c = going-skip (λ x. x) _ _ _ _ _ _ _ _ (c .before .before .before .loop .inv) (c .before .before .loop-test .taken) (sym (c .before .is-child .ensures) ∙ not-true _ (c .if1 .taken))
 
--- src/entering.rt:125:9
 by-defaults-visit-requires : (t : ℕ) → by-defaults-lts.Need-visit-requires (
   goes-on-reads.Asked,
   goes-on-reads.Learnt,
@@ -136,7 +129,6 @@ by-defaults-visit-requires : (t : ℕ) → by-defaults-lts.Need-visit-requires (
 ) (by-defaults-at t) by-defaults-own.Post by-defaults-Inv-loop by-defaults-μ-loop
 by-defaults-visit-requires t c κs = (c .before .before .before .before .before .before .before .before .before .pre .1 .0, omega (arith, c .before .before .before .before .before .before .before .before .goes-on .ensures .within, states-most (c .before .before .before .before .before .before .before .before .before .args .chart .now)), c .before .before .before .before .before .before .before .loop .inv .fits)
 
--- src/entering.rt:127:13
 by-defaults-same-length : (t : ℕ) → by-defaults-lts.Need-same-length (
   goes-on-reads.Asked,
   goes-on-reads.Learnt,
@@ -149,7 +141,6 @@ by-defaults-same-length : (t : ℕ) → by-defaults-lts.Need-same-length (
 ) (by-defaults-at t) by-defaults-own.Post by-defaults-Inv-loop by-defaults-μ-loop
 by-defaults-same-length t c = search needs
 
--- src/entering.rt:127:13
 by-defaults-returns : (t : ℕ) → by-defaults-lts.Need-returns (
   goes-on-reads.Asked,
   goes-on-reads.Learnt,
@@ -162,7 +153,6 @@ by-defaults-returns : (t : ℕ) → by-defaults-lts.Need-returns (
 ) (by-defaults-at t) by-defaults-own.Post by-defaults-Inv-loop by-defaults-μ-loop
 by-defaults-returns t c = rw (toZ-ofZ (c .before .before .before .before .before .before .before .before .before .before .before .before .before .fits .arg)) at (going-stop (λ x. x) _ _ _ _ _ _ _ _ (c .before .before .before .before .before .before .before .before .before .before .before .loop .inv) (c .before .before .before .before .before .before .before .before .before .before .loop-test .taken) (sym (c .before .before .before .before .before .before .before .before .before .is-child .ensures) ∙ not-false _ (c .before .before .before .before .before .before .before .before .if1 .left)) (c .before .before .before .visit .ensures) (c .if2 .taken))
 
--- src/entering.rt:130:43
 by-defaults-sub-by-defaults : (t : ℕ) → by-defaults-lts.Need-sub-by-defaults (
   goes-on-reads.Asked,
   goes-on-reads.Learnt,
@@ -175,7 +165,6 @@ by-defaults-sub-by-defaults : (t : ℕ) → by-defaults-lts.Need-sub-by-defaults
 ) (by-defaults-at t) by-defaults-own.Post by-defaults-Inv-loop by-defaults-μ-loop
 by-defaults-sub-by-defaults t c = omega (arith, c .before .before .before .before .before .before .before .before .before .before .before .before .before .goes-on .ensures .more (omega (arith, c .before .before .before .before .before .before .before .before .before .before .before .before .loop .inv .since)))
 
--- src/entering.rt:130:9
 by-defaults-by-defaults-requires : (t : ℕ) → by-defaults-lts.Need-by-defaults-requires (
   goes-on-reads.Asked,
   goes-on-reads.Learnt,
@@ -188,7 +177,6 @@ by-defaults-by-defaults-requires : (t : ℕ) → by-defaults-lts.Need-by-default
 ) (by-defaults-at t) by-defaults-own.Post by-defaults-Inv-loop by-defaults-μ-loop
 by-defaults-by-defaults-requires t c κs = (omega (arith, c .before .before .before .before .before .before .before .before .before .before .before .before .before .before .before .before .goes-on .ensures .more (omega (arith, c .before .before .before .before .before .before .before .before .before .before .before .before .before .before .before .loop .inv .since))), (c .before .before .before .before .before .before .before .before .before .before .before .before .before .before .before .before .before .pre .1 .0, omega (arith, c .before .before .before .before .before .before .before .before .before .before .before .before .before .before .before .before .goes-on .ensures .within), c .before .before .before .before .before .before .before .visit .ensures .0 .fits))
 
--- src/entering.rt:132:13
 by-defaults-same-length-2 : (t : ℕ) → by-defaults-lts.Need-same-length-2 (
   goes-on-reads.Asked,
   goes-on-reads.Learnt,
@@ -201,7 +189,6 @@ by-defaults-same-length-2 : (t : ℕ) → by-defaults-lts.Need-same-length-2 (
 ) (by-defaults-at t) by-defaults-own.Post by-defaults-Inv-loop by-defaults-μ-loop
 by-defaults-same-length-2 t c = omega (arith, c .before .before .before .by-defaults .ensures .0 .kept, c .before .before .before .before .before .before .before .before .before .before .before .visit .ensures .0 .kept, c .before .before .before .before .before .before .before .before .before .before .before .before .before .before .before .before .before .before .before .loop .inv .kept)
 
--- src/entering.rt:132:13
 by-defaults-returns-2 : (t : ℕ) → by-defaults-lts.Need-returns-2 (
   goes-on-reads.Asked,
   goes-on-reads.Learnt,
@@ -214,7 +201,6 @@ by-defaults-returns-2 : (t : ℕ) → by-defaults-lts.Need-returns-2 (
 ) (by-defaults-at t) by-defaults-own.Post by-defaults-Inv-loop by-defaults-μ-loop
 by-defaults-returns-2 t c = rw (toZ-ofZ (c .before .before .before .before .before .before .before .before .before .before .before .before .before .before .before .before .before .before .before .before .before .fits .arg)) at (going-stop-below (λ x. x) _ _ _ _ _ _ _ _ (c .before .before .before .before .before .before .before .before .before .before .before .before .before .before .before .before .before .before .before .loop .inv) (c .before .before .before .before .before .before .before .before .before .before .before .before .before .before .before .before .before .before .loop-test .taken) (sym (c .before .before .before .before .before .before .before .before .before .before .before .before .before .before .before .before .before .is-child .ensures) ∙ not-false _ (c .before .before .before .before .before .before .before .before .before .before .before .before .before .before .before .before .if1 .left)) (c .before .before .before .before .before .before .before .before .before .before .before .visit .ensures) (c .before .before .before .before .before .before .before .before .if2 .left) (c .before .before .before .by-defaults .ensures) (c .if3 .taken))
 
--- src/entering.rt:120:9
 by-defaults-add-d-2 : (t : ℕ) → by-defaults-lts.Need-add-d-2 (
   goes-on-reads.Asked,
   goes-on-reads.Learnt,
@@ -227,7 +213,6 @@ by-defaults-add-d-2 : (t : ℕ) → by-defaults-lts.Need-add-d-2 (
 ) (by-defaults-at t) by-defaults-own.Post by-defaults-Inv-loop by-defaults-μ-loop
 by-defaults-add-d-2 t c = omega (arith, c .before .before .before .before .before .before .before .before .before .before .before .before .before .before .before .before .before .before .loop-test .taken, c .before .before .before .before .before .before .before .before .before .before .before .before .before .before .before .before .before .before .before .before .goes-on .ensures .within, states-most (c .before .before .before .before .before .before .before .before .before .before .before .before .before .before .before .before .before .before .before .before .before .args .chart .now))
 
--- src/entering.rt:120:5
 by-defaults-loop-less-2 : (t : ℕ) → by-defaults-lts.Need-loop-less-2 (
   goes-on-reads.Asked,
   goes-on-reads.Learnt,
@@ -240,7 +225,6 @@ by-defaults-loop-less-2 : (t : ℕ) → by-defaults-lts.Need-loop-less-2 (
 ) (by-defaults-at t) by-defaults-own.Post by-defaults-Inv-loop by-defaults-μ-loop
 by-defaults-loop-less-2 t c = omega (arith, c .before .before .before .before .before .before .before .before .before .before .before .before .before .before .before .before .before .before .loop-test .taken)
 
--- src/entering.rt:120:5
 by-defaults-loop-again-2 : (t : ℕ) → by-defaults-lts.Need-loop-again-2 (
   goes-on-reads.Asked,
   goes-on-reads.Learnt,
@@ -253,7 +237,6 @@ by-defaults-loop-again-2 : (t : ℕ) → by-defaults-lts.Need-loop-again-2 (
 ) (by-defaults-at t) by-defaults-own.Post by-defaults-Inv-loop by-defaults-μ-loop
 by-defaults-loop-again-2 t c = going-on (λ x. x) _ _ _ _ _ _ _ _ (c .before .before .before .before .before .before .before .before .before .before .before .before .before .before .before .before .before .before .before .loop .inv) (c .before .before .before .before .before .before .before .before .before .before .before .before .before .before .before .before .before .before .loop-test .taken) (sym (c .before .before .before .before .before .before .before .before .before .before .before .before .before .before .before .before .before .is-child .ensures) ∙ not-false _ (c .before .before .before .before .before .before .before .before .before .before .before .before .before .before .before .before .if1 .left)) (c .before .before .before .before .before .before .before .before .before .before .before .visit .ensures) (c .before .before .before .before .before .before .before .before .if2 .left) (c .before .before .before .by-defaults .ensures) (c .if3 .left)
 
--- src/entering.rt:100:1
 by-defaults-same-length-3 : (t : ℕ) → by-defaults-lts.Need-same-length-3 (
   goes-on-reads.Asked,
   goes-on-reads.Learnt,
@@ -266,7 +249,6 @@ by-defaults-same-length-3 : (t : ℕ) → by-defaults-lts.Need-same-length-3 (
 ) (by-defaults-at t) by-defaults-own.Post by-defaults-Inv-loop by-defaults-μ-loop
 by-defaults-same-length-3 t c = search needs
 
--- src/entering.rt:100:1
 by-defaults-returns-3 : (t : ℕ) → by-defaults-lts.Need-returns-3 (
   goes-on-reads.Asked,
   goes-on-reads.Learnt,

@@ -1,7 +1,22 @@
+-- `by_slots` enters each child that is due by the slots, with what is below it. The measure is how many states are left. Assumes nothing.
+use mathlib.Core.Path.{_∙_, sym, refl}
+use Prim.Native.Nat.{_-_}
+use native.Mathlib.Omega.{arith}
+use borrow.Author.Needs.{needs}
+use borrow.Author.Tests.{not-true, not-false}
+use mir.Facts.{toZ-ofZ}
+use mir.Syntax.{w32}
+use mir.Val.{toZ}
+use Rattle.chart.proofs.Rows.{states-most}
+use Rattle.meaning.specs.Entry.{revisit}
+use Rattle.meaning.specs.Value.{chart-of}
+use Rattle.moves.specs.Moves.{stored-way}
+use Rattle.moves.proofs.Among.{stored-child, stored-kids}
+use Rattle.moves.proofs.Descending.{Going, one-list, revisited, going-begin, going-skip, going-stop, going-stop-below, going-on, going-end}
 use Prim.Native.Nat.{ℕ, _<_}
 use borrow.Fn.Kinds.{In}
 use borrow.Fn.PlainCycle.{Measures, is, falls, and}
-use Rattle.moves.proofs.entering.by_slots.Reads as by-slots
+use Rattle.moves.proofs.entering.by_slots.Reads as by-slots-own
 use Rattle.moves.proofs.entering.by_slots.Kinds as by-slots-kinds
 use Rattle.moves.proofs.entering.+by_slots.Lts-by_slots as by-slots-lts
 use Rattle.chart.proofs.tree.is_child.Reads as is-child-reads
@@ -12,24 +27,23 @@ use Rattle.moves.proofs.entering.+by_slots.{statement}
 use Rattle.moves.proofs.entering.+by_slots.Tie.{close}
 
 abbrev μ-by-slots : Measures 5 by-slots-kinds.ps ℕ
-μ-by-slots κs a = ?
+μ-by-slots κs a = a .1 .1 .1 .0
 
 abbrev by-slots-at : ℕ → In 5 by-slots-kinds.ps
-by-slots-at t = and 5 by-slots-kinds.ps (is 5 by-slots-kinds.ps μ-by-slots t) by-slots.Pre
+by-slots-at t = and 5 by-slots-kinds.ps (is 5 by-slots-kinds.ps μ-by-slots t) by-slots-own.Pre
 
 abbrev by-slots-below : ℕ → In 5 by-slots-kinds.ps
 by-slots-below t =
-    and 5 by-slots-kinds.ps (falls 5 by-slots-kinds.ps _<_ μ-by-slots t) by-slots.Pre
+    and 5 by-slots-kinds.ps (falls 5 by-slots-kinds.ps _<_ μ-by-slots t) by-slots-own.Pre
 
 abbrev by-slots-Inv-loop : by-slots-lts.InvT-loop
 by-slots-Inv-loop chart arg s left active₀ slots vars₀ trace₀ at went₀ d₀ d-end active vars trace went d =
-    ?
+    Going {S = Unit {0}} (λ x. slots) (revisit (chart-of chart) (toZ w32 arg)) (chart-of chart) (stored-way slots) (stored-way slots s) s left d₀ d-end active₀ vars₀ (went₀ .queue) trace₀ (went₀ .at) d active vars trace went
 
 abbrev by-slots-μ-loop : by-slots-lts.MeasureT-loop
 by-slots-μ-loop chart arg s left active₀ slots vars₀ trace₀ at went₀ d₀ d-end active vars trace went d =
-    ?
+    d-end - d
 
--- src/entering.rt:154:34
 by-slots-stored-requires : (t : ℕ) → by-slots-lts.Need-stored-requires (
   stored-reads.Asked,
   stored-reads.Learnt,
@@ -40,11 +54,10 @@ by-slots-stored-requires : (t : ℕ) → by-slots-lts.Need-stored-requires (
   revisit-reads.Asked,
   revisit-reads.Learnt,
   by-slots-below t,
-  by-slots.Post,
-) (by-slots-at t) by-slots.Post by-slots-Inv-loop by-slots-μ-loop
-by-slots-stored-requires t c κs = ?
+  by-slots-own.Post,
+) (by-slots-at t) by-slots-own.Post by-slots-Inv-loop by-slots-μ-loop
+by-slots-stored-requires t c κs = (omega (arith, c .pre .1 .1, states-most (c .args .chart .now)), c .pre .1 .2 .long)
 
--- src/entering.rt:154:9
 by-slots-goes-on-requires : (t : ℕ) → by-slots-lts.Need-goes-on-requires (
   stored-reads.Asked,
   stored-reads.Learnt,
@@ -55,11 +68,10 @@ by-slots-goes-on-requires : (t : ℕ) → by-slots-lts.Need-goes-on-requires (
   revisit-reads.Asked,
   revisit-reads.Learnt,
   by-slots-below t,
-  by-slots.Post,
-) (by-slots-at t) by-slots.Post by-slots-Inv-loop by-slots-μ-loop
-by-slots-goes-on-requires t c κs = ?
+  by-slots-own.Post,
+) (by-slots-at t) by-slots-own.Post by-slots-Inv-loop by-slots-μ-loop
+by-slots-goes-on-requires t c κs = (c .before .pre .1 .0, c .before .pre .1 .1, stored-child _ _ _ (c .stored .result) (c .stored .ensures) (c .before .pre .1 .2))
 
--- src/entering.rt:160:5
 by-slots-loop-holds : (t : ℕ) → by-slots-lts.Need-loop-holds (
   stored-reads.Asked,
   stored-reads.Learnt,
@@ -70,11 +82,10 @@ by-slots-loop-holds : (t : ℕ) → by-slots-lts.Need-loop-holds (
   revisit-reads.Asked,
   revisit-reads.Learnt,
   by-slots-below t,
-  by-slots.Post,
-) (by-slots-at t) by-slots.Post by-slots-Inv-loop by-slots-μ-loop
-by-slots-loop-holds t c = ?
+  by-slots-own.Post,
+) (by-slots-at t) by-slots-own.Post by-slots-Inv-loop by-slots-μ-loop
+by-slots-loop-holds t c = going-begin (λ x. _) _ _ (stored-way (c .before .before .args .slots .now)) _ _ _ _ _ refl (stored-kids _ _ _ _ _ _ (c .before .stored .result) (c .before .stored .ensures) (c .goes-on .ensures)) (c .before .before .pre .1 .3)
 
--- src/entering.rt:161:13
 by-slots-is-child-requires : (t : ℕ) → by-slots-lts.Need-is-child-requires (
   stored-reads.Asked,
   stored-reads.Learnt,
@@ -85,11 +96,10 @@ by-slots-is-child-requires : (t : ℕ) → by-slots-lts.Need-is-child-requires (
   revisit-reads.Asked,
   revisit-reads.Learnt,
   by-slots-below t,
-  by-slots.Post,
-) (by-slots-at t) by-slots.Post by-slots-Inv-loop by-slots-μ-loop
-by-slots-is-child-requires t c κs = ?
+  by-slots-own.Post,
+) (by-slots-at t) by-slots-own.Post by-slots-Inv-loop by-slots-μ-loop
+by-slots-is-child-requires t c κs = search needs
 
--- src/entering.rt:162:13
 by-slots-add-d : (t : ℕ) → by-slots-lts.Need-add-d (
   stored-reads.Asked,
   stored-reads.Learnt,
@@ -100,11 +110,10 @@ by-slots-add-d : (t : ℕ) → by-slots-lts.Need-add-d (
   revisit-reads.Asked,
   revisit-reads.Learnt,
   by-slots-below t,
-  by-slots.Post,
-) (by-slots-at t) by-slots.Post by-slots-Inv-loop by-slots-μ-loop
-by-slots-add-d t c = ?
+  by-slots-own.Post,
+) (by-slots-at t) by-slots-own.Post by-slots-Inv-loop by-slots-μ-loop
+by-slots-add-d t c = search needs
 
--- src/entering.rt:160:5
 by-slots-loop-less : (t : ℕ) → by-slots-lts.Need-loop-less (
   stored-reads.Asked,
   stored-reads.Learnt,
@@ -115,11 +124,10 @@ by-slots-loop-less : (t : ℕ) → by-slots-lts.Need-loop-less (
   revisit-reads.Asked,
   revisit-reads.Learnt,
   by-slots-below t,
-  by-slots.Post,
-) (by-slots-at t) by-slots.Post by-slots-Inv-loop by-slots-μ-loop
-by-slots-loop-less t c = ?
+  by-slots-own.Post,
+) (by-slots-at t) by-slots-own.Post by-slots-Inv-loop by-slots-μ-loop
+by-slots-loop-less t c = search needs
 
--- src/entering.rt:160:5
 by-slots-loop-again : (t : ℕ) → by-slots-lts.Need-loop-again (
   stored-reads.Asked,
   stored-reads.Learnt,
@@ -130,11 +138,10 @@ by-slots-loop-again : (t : ℕ) → by-slots-lts.Need-loop-again (
   revisit-reads.Asked,
   revisit-reads.Learnt,
   by-slots-below t,
-  by-slots.Post,
-) (by-slots-at t) by-slots.Post by-slots-Inv-loop by-slots-μ-loop
-by-slots-loop-again t c = ?
+  by-slots-own.Post,
+) (by-slots-at t) by-slots-own.Post by-slots-Inv-loop by-slots-μ-loop
+by-slots-loop-again t c = going-skip (λ x. _) _ _ _ _ _ _ _ _ (c .before .before .before .loop .inv) (c .before .before .loop-test .taken) (sym (c .before .is-child .ensures) ∙ not-true _ (c .if1 .taken))
 
--- src/entering.rt:165:9
 by-slots-revisit-requires : (t : ℕ) → by-slots-lts.Need-revisit-requires (
   stored-reads.Asked,
   stored-reads.Learnt,
@@ -145,11 +152,10 @@ by-slots-revisit-requires : (t : ℕ) → by-slots-lts.Need-revisit-requires (
   revisit-reads.Asked,
   revisit-reads.Learnt,
   by-slots-below t,
-  by-slots.Post,
-) (by-slots-at t) by-slots.Post by-slots-Inv-loop by-slots-μ-loop
-by-slots-revisit-requires t c κs = ?
+  by-slots-own.Post,
+) (by-slots-at t) by-slots-own.Post by-slots-Inv-loop by-slots-μ-loop
+by-slots-revisit-requires t c κs = (c .before .before .before .before .before .before .before .before .before .before .pre .1 .0, omega (arith, c .before .before .before .before .before .before .before .before .goes-on .ensures .within, states-most (c .before .before .before .before .before .before .before .before .before .before .args .chart .now)), c .before .before .before .before .before .before .before .before .before .before .pre .1 .2 .long, c .before .before .before .before .before .before .before .loop .inv .fits)
 
--- src/entering.rt:167:13
 by-slots-same-length : (t : ℕ) → by-slots-lts.Need-same-length (
   stored-reads.Asked,
   stored-reads.Learnt,
@@ -160,11 +166,10 @@ by-slots-same-length : (t : ℕ) → by-slots-lts.Need-same-length (
   revisit-reads.Asked,
   revisit-reads.Learnt,
   by-slots-below t,
-  by-slots.Post,
-) (by-slots-at t) by-slots.Post by-slots-Inv-loop by-slots-μ-loop
-by-slots-same-length t c = ?
+  by-slots-own.Post,
+) (by-slots-at t) by-slots-own.Post by-slots-Inv-loop by-slots-μ-loop
+by-slots-same-length t c = search needs
 
--- src/entering.rt:167:13
 by-slots-returns : (t : ℕ) → by-slots-lts.Need-returns (
   stored-reads.Asked,
   stored-reads.Learnt,
@@ -175,11 +180,10 @@ by-slots-returns : (t : ℕ) → by-slots-lts.Need-returns (
   revisit-reads.Asked,
   revisit-reads.Learnt,
   by-slots-below t,
-  by-slots.Post,
-) (by-slots-at t) by-slots.Post by-slots-Inv-loop by-slots-μ-loop
-by-slots-returns t c = ?
+  by-slots-own.Post,
+) (by-slots-at t) by-slots-own.Post by-slots-Inv-loop by-slots-μ-loop
+by-slots-returns t c = rw (toZ-ofZ (c .before .before .before .before .before .before .before .before .before .before .before .before .before .before .fits .arg)) at (going-stop (λ x. _) _ _ _ _ _ _ _ _ (c .before .before .before .before .before .before .before .before .before .before .before .loop .inv) (c .before .before .before .before .before .before .before .before .before .before .loop-test .taken) (sym (c .before .before .before .before .before .before .before .before .before .is-child .ensures) ∙ not-false _ (c .before .before .before .before .before .before .before .before .if1 .left)) (revisited _ _ _ _ (c .before .before .before .revisit .ensures)) (c .if2 .taken) .1 tt)
 
--- src/entering.rt:170:40
 by-slots-sub-by-slots : (t : ℕ) → by-slots-lts.Need-sub-by-slots (
   stored-reads.Asked,
   stored-reads.Learnt,
@@ -190,11 +194,10 @@ by-slots-sub-by-slots : (t : ℕ) → by-slots-lts.Need-sub-by-slots (
   revisit-reads.Asked,
   revisit-reads.Learnt,
   by-slots-below t,
-  by-slots.Post,
-) (by-slots-at t) by-slots.Post by-slots-Inv-loop by-slots-μ-loop
-by-slots-sub-by-slots t c = ?
+  by-slots-own.Post,
+) (by-slots-at t) by-slots-own.Post by-slots-Inv-loop by-slots-μ-loop
+by-slots-sub-by-slots t c = omega (arith, c .before .before .before .before .before .before .before .before .before .before .before .before .before .goes-on .ensures .more (omega (arith, c .before .before .before .before .before .before .before .before .before .before .before .before .loop .inv .since)))
 
--- src/entering.rt:170:9
 by-slots-by-slots-requires : (t : ℕ) → by-slots-lts.Need-by-slots-requires (
   stored-reads.Asked,
   stored-reads.Learnt,
@@ -205,11 +208,10 @@ by-slots-by-slots-requires : (t : ℕ) → by-slots-lts.Need-by-slots-requires (
   revisit-reads.Asked,
   revisit-reads.Learnt,
   by-slots-below t,
-  by-slots.Post,
-) (by-slots-at t) by-slots.Post by-slots-Inv-loop by-slots-μ-loop
-by-slots-by-slots-requires t c κs = ?
+  by-slots-own.Post,
+) (by-slots-at t) by-slots-own.Post by-slots-Inv-loop by-slots-μ-loop
+by-slots-by-slots-requires t c κs = (omega (arith, c .before .before .before .before .before .before .before .before .before .before .before .before .before .before .before .before .goes-on .ensures .more (omega (arith, c .before .before .before .before .before .before .before .before .before .before .before .before .before .before .before .loop .inv .since))), (c .before .before .before .before .before .before .before .before .before .before .before .before .before .before .before .before .before .before .pre .1 .0, omega (arith, c .before .before .before .before .before .before .before .before .before .before .before .before .before .before .before .before .goes-on .ensures .within), c .before .before .before .before .before .before .before .before .before .before .before .before .before .before .before .before .before .before .pre .1 .2, c .before .before .before .before .before .before .before .revisit .ensures .fits))
 
--- src/entering.rt:172:13
 by-slots-same-length-2 : (t : ℕ) → by-slots-lts.Need-same-length-2 (
   stored-reads.Asked,
   stored-reads.Learnt,
@@ -220,11 +222,10 @@ by-slots-same-length-2 : (t : ℕ) → by-slots-lts.Need-same-length-2 (
   revisit-reads.Asked,
   revisit-reads.Learnt,
   by-slots-below t,
-  by-slots.Post,
-) (by-slots-at t) by-slots.Post by-slots-Inv-loop by-slots-μ-loop
-by-slots-same-length-2 t c = ?
+  by-slots-own.Post,
+) (by-slots-at t) by-slots-own.Post by-slots-Inv-loop by-slots-μ-loop
+by-slots-same-length-2 t c = omega (arith, c .before .before .before .by-slots .ensures .kept, c .before .before .before .before .before .before .before .before .before .before .before .revisit .ensures .kept, c .before .before .before .before .before .before .before .before .before .before .before .before .before .before .before .before .before .before .before .loop .inv .kept)
 
--- src/entering.rt:172:13
 by-slots-returns-2 : (t : ℕ) → by-slots-lts.Need-returns-2 (
   stored-reads.Asked,
   stored-reads.Learnt,
@@ -235,11 +236,10 @@ by-slots-returns-2 : (t : ℕ) → by-slots-lts.Need-returns-2 (
   revisit-reads.Asked,
   revisit-reads.Learnt,
   by-slots-below t,
-  by-slots.Post,
-) (by-slots-at t) by-slots.Post by-slots-Inv-loop by-slots-μ-loop
-by-slots-returns-2 t c = ?
+  by-slots-own.Post,
+) (by-slots-at t) by-slots-own.Post by-slots-Inv-loop by-slots-μ-loop
+by-slots-returns-2 t c = rw (toZ-ofZ (c .before .before .before .before .before .before .before .before .before .before .before .before .before .before .before .before .before .before .before .before .before .before .fits .arg)) at (going-stop-below (λ x. _) _ _ _ _ _ _ _ _ (c .before .before .before .before .before .before .before .before .before .before .before .before .before .before .before .before .before .before .before .loop .inv) (c .before .before .before .before .before .before .before .before .before .before .before .before .before .before .before .before .before .before .loop-test .taken) (sym (c .before .before .before .before .before .before .before .before .before .before .before .before .before .before .before .before .before .is-child .ensures) ∙ not-false _ (c .before .before .before .before .before .before .before .before .before .before .before .before .before .before .before .before .if1 .left)) (revisited _ _ _ _ (c .before .before .before .before .before .before .before .before .before .before .before .revisit .ensures)) (c .before .before .before .before .before .before .before .before .if2 .left) (one-list (c .before .before .before .by-slots .ensures)) (c .if3 .taken) .1 tt)
 
--- src/entering.rt:160:9
 by-slots-add-d-2 : (t : ℕ) → by-slots-lts.Need-add-d-2 (
   stored-reads.Asked,
   stored-reads.Learnt,
@@ -250,11 +250,10 @@ by-slots-add-d-2 : (t : ℕ) → by-slots-lts.Need-add-d-2 (
   revisit-reads.Asked,
   revisit-reads.Learnt,
   by-slots-below t,
-  by-slots.Post,
-) (by-slots-at t) by-slots.Post by-slots-Inv-loop by-slots-μ-loop
-by-slots-add-d-2 t c = ?
+  by-slots-own.Post,
+) (by-slots-at t) by-slots-own.Post by-slots-Inv-loop by-slots-μ-loop
+by-slots-add-d-2 t c = omega (arith, c .before .before .before .before .before .before .before .before .before .before .before .before .before .before .before .before .before .before .loop-test .taken, c .before .before .before .before .before .before .before .before .before .before .before .before .before .before .before .before .before .before .before .before .goes-on .ensures .within, states-most (c .before .before .before .before .before .before .before .before .before .before .before .before .before .before .before .before .before .before .before .before .before .before .args .chart .now))
 
--- src/entering.rt:160:5
 by-slots-loop-less-2 : (t : ℕ) → by-slots-lts.Need-loop-less-2 (
   stored-reads.Asked,
   stored-reads.Learnt,
@@ -265,11 +264,10 @@ by-slots-loop-less-2 : (t : ℕ) → by-slots-lts.Need-loop-less-2 (
   revisit-reads.Asked,
   revisit-reads.Learnt,
   by-slots-below t,
-  by-slots.Post,
-) (by-slots-at t) by-slots.Post by-slots-Inv-loop by-slots-μ-loop
-by-slots-loop-less-2 t c = ?
+  by-slots-own.Post,
+) (by-slots-at t) by-slots-own.Post by-slots-Inv-loop by-slots-μ-loop
+by-slots-loop-less-2 t c = omega (arith, c .before .before .before .before .before .before .before .before .before .before .before .before .before .before .before .before .before .before .loop-test .taken)
 
--- src/entering.rt:160:5
 by-slots-loop-again-2 : (t : ℕ) → by-slots-lts.Need-loop-again-2 (
   stored-reads.Asked,
   stored-reads.Learnt,
@@ -280,11 +278,10 @@ by-slots-loop-again-2 : (t : ℕ) → by-slots-lts.Need-loop-again-2 (
   revisit-reads.Asked,
   revisit-reads.Learnt,
   by-slots-below t,
-  by-slots.Post,
-) (by-slots-at t) by-slots.Post by-slots-Inv-loop by-slots-μ-loop
-by-slots-loop-again-2 t c = ?
+  by-slots-own.Post,
+) (by-slots-at t) by-slots-own.Post by-slots-Inv-loop by-slots-μ-loop
+by-slots-loop-again-2 t c = going-on (λ x. _) _ _ _ _ _ _ _ _ (c .before .before .before .before .before .before .before .before .before .before .before .before .before .before .before .before .before .before .before .loop .inv) (c .before .before .before .before .before .before .before .before .before .before .before .before .before .before .before .before .before .before .loop-test .taken) (sym (c .before .before .before .before .before .before .before .before .before .before .before .before .before .before .before .before .before .is-child .ensures) ∙ not-false _ (c .before .before .before .before .before .before .before .before .before .before .before .before .before .before .before .before .if1 .left)) (revisited _ _ _ _ (c .before .before .before .before .before .before .before .before .before .before .before .revisit .ensures)) (c .before .before .before .before .before .before .before .before .if2 .left) (one-list (c .before .before .before .by-slots .ensures)) (c .if3 .left)
 
--- src/entering.rt:139:1
 by-slots-same-length-3 : (t : ℕ) → by-slots-lts.Need-same-length-3 (
   stored-reads.Asked,
   stored-reads.Learnt,
@@ -295,11 +292,10 @@ by-slots-same-length-3 : (t : ℕ) → by-slots-lts.Need-same-length-3 (
   revisit-reads.Asked,
   revisit-reads.Learnt,
   by-slots-below t,
-  by-slots.Post,
-) (by-slots-at t) by-slots.Post by-slots-Inv-loop by-slots-μ-loop
-by-slots-same-length-3 t c = ?
+  by-slots-own.Post,
+) (by-slots-at t) by-slots-own.Post by-slots-Inv-loop by-slots-μ-loop
+by-slots-same-length-3 t c = search needs
 
--- src/entering.rt:139:1
 by-slots-returns-3 : (t : ℕ) → by-slots-lts.Need-returns-3 (
   stored-reads.Asked,
   stored-reads.Learnt,
@@ -310,9 +306,9 @@ by-slots-returns-3 : (t : ℕ) → by-slots-lts.Need-returns-3 (
   revisit-reads.Asked,
   revisit-reads.Learnt,
   by-slots-below t,
-  by-slots.Post,
-) (by-slots-at t) by-slots.Post by-slots-Inv-loop by-slots-μ-loop
-by-slots-returns-3 t c = ?
+  by-slots-own.Post,
+) (by-slots-at t) by-slots-own.Post by-slots-Inv-loop by-slots-μ-loop
+by-slots-returns-3 t c = rw (toZ-ofZ (c .before .before .before .before .fits .arg)) at (going-end (λ x. _) _ _ _ _ _ _ _ _ (c .before .loop .inv) (c .loop-test .left) .1 tt)
 
 pub +by-slots-spec : {M : Type 1} → statement M
 +by-slots-spec = close μ-by-slots λ t. by-slots-lts.spec (
@@ -325,10 +321,10 @@ pub +by-slots-spec : {M : Type 1} → statement M
   revisit-reads.Asked,
   revisit-reads.Learnt,
   by-slots-below t,
-  by-slots.Post,
+  by-slots-own.Post,
 )
     (by-slots-at t)
-    by-slots.Post
+    by-slots-own.Post
     by-slots-Inv-loop
     by-slots-μ-loop
     (by-slots-stored-requires t)

@@ -4,65 +4,46 @@ use Rattle.moves.proofs.Visiting.{revisit-stop, revisit-other, revisit-
 use borrow.Author.Needs.{needs}
 use Rattle.moves.proofs.entering.revisit.Statement.{statement}
 use Rattle.moves.proofs.entering.revisit.Tie as tie
-use Rattle.moves.proofs.entering.revisit.Reads as reads
-use Rattle.moves.proofs.entering.revisit.Lts as lts
-use Rattle.acts.proofs.enter.Reads as enter-reads
-use Rattle.chart.proofs.kind_of.Reads as kind-of-reads
-use Rattle.chart.proofs.tree.is_o.Reads as is-o-reads
-use Rattle.moves.proofs.ways.slot_of.Reads as slot-of-reads
 
--- src/entering.rt:81:9
 enter-requires : tie.Need-enter-requires
 enter-requires c κs = search needs
 
--- src/entering.rt:83:9
 same-length : tie.Need-same-length
 same-length c = search needs
 
--- src/entering.rt:83:9
 returns : tie.Need-returns
 returns c = revisit-stop _ _ _ _ (rw (toZ-ofZ (c .before .before .before .before .before .before .before .fits .arg)) at (c .before .before .before .enter .ensures)) (c .if1 .taken)
 
--- src/entering.rt:85:14
 kind-of-requires : tie.Need-kind-of-requires
 kind-of-requires c κs = search needs
 
--- src/entering.rt:85:9
 is-o-requires : tie.Need-is-o-requires
 is-o-requires c κs = search needs
 
--- src/entering.rt:86:9
 same-length-2 : tie.Need-same-length-2
 same-length-2 c = search needs
 
--- src/entering.rt:86:9
 returns-2 : tie.Need-returns-2
 returns-2 c = revisit-other _ _ _ _ (rw (toZ-ofZ (c .before .before .before .before .before .before .before .before .before .before .fits .arg)) at (c .before .before .before .before .before .before .enter .ensures)) (c .before .before .before .if1 .left) (c .before .before .kind-of .ensures) (c .before .is-o .ensures) (c .if2 .taken)
 
--- src/entering.rt:88:24
 slot-of-requires : tie.Need-slot-of-requires
 slot-of-requires c κs = search needs
 
 enum-told : tie.Need-enum-told
 enum-told c = search needs
 
--- src/entering.rt:89:9
 enum-told-2 : tie.Need-enum-told-2
 enum-told-2 c = search needs
 
--- src/entering.rt:89:9
 same-length-3 : tie.Need-same-length-3
 same-length-3 c = search needs
 
--- src/entering.rt:89:9
 returns-3 : tie.Need-returns-3
 returns-3 c = revisit-filled _ _ _ _ (rw (toZ-ofZ (c .before .before .before .before .before .before .before .before .before .before .before .before .before .fits .arg)) at (c .before .before .before .before .before .before .before .before .before .enter .ensures)) (c .before .before .before .before .before .before .if1 .left) (c .before .before .before .before .before .kind-of .ensures) (c .before .before .before .before .is-o .ensures) (c .before .before .before .if2 .left) (c .before .before .slot-of .ensures) (c .enum-told2 .given .1)
 
--- src/entering.rt:67:1
 same-length-4 : tie.Need-same-length-4
 same-length-4 c = search needs
 
--- src/entering.rt:67:1
 returns-4 : tie.Need-returns-4
 returns-4 c = revisit-empty _ _ _ _ (rw (toZ-ofZ (c .before .before .before .before .before .before .before .before .before .before .before .before .before .before .fits .arg)) at (c .before .before .before .before .before .before .before .before .before .before .enter .ensures)) (c .before .before .before .before .before .before .before .if1 .left) (c .before .before .before .before .before .before .kind-of .ensures) (c .before .before .before .before .before .is-o .ensures) (c .before .before .before .before .if2 .left) (c .before .before .before .slot-of .ensures) (c .before .enum-told .given .1)
 

@@ -4,49 +4,34 @@ use Rattle.moves.proofs.Visiting.{visited-plain, visited-stop, visited-
 use borrow.Author.Needs.{needs}
 use Rattle.moves.proofs.entering.visit.Statement.{statement}
 use Rattle.moves.proofs.entering.visit.Tie as tie
-use Rattle.moves.proofs.entering.visit.Reads as reads
-use Rattle.moves.proofs.entering.visit.Lts as lts
-use Rattle.acts.proofs.enter.Reads as enter-reads
-use Rattle.acts.proofs.perform_all.Reads as perform-all-reads
-use Rattle.moves.proofs.ways.by_default.Reads as by-default-reads
 
--- src/entering.rt:55:9
 by-default-requires : tie.Need-by-default-requires
 by-default-requires c κs = search needs
 
--- src/entering.rt:56:9
 enter-requires : tie.Need-enter-requires
 enter-requires c κs = search needs
 
--- src/entering.rt:56:9
 same-length : tie.Need-same-length
 same-length c = search needs
 
--- src/entering.rt:56:9
 returns : tie.Need-returns
 returns c = visited-plain _ _ _ _ (c .before .before .before .before .before .before .by-default .ensures) (c .before .before .before .before .before .if1 .taken) (rw (toZ-ofZ (c .before .before .before .before .before .before .before .fits .arg)) at (c .before .enter .ensures))
 
--- src/entering.rt:58:9
 perform-all-requires : tie.Need-perform-all-requires
 perform-all-requires c κs = search needs
 
--- src/entering.rt:60:9
 same-length-2 : tie.Need-same-length-2
 same-length-2 c = search needs
 
--- src/entering.rt:60:9
 returns-2 : tie.Need-returns-2
 returns-2 c = visited-stop _ _ _ _ (c .before .before .before .before .before .before .before .by-default .ensures) (c .before .before .before .before .before .before .if1 .left) (rw (toZ-ofZ (c .before .before .before .before .before .before .before .before .fits .arg)) at (c .before .before .before .perform-all .ensures)) (c .if2 .taken)
 
--- src/entering.rt:63:5
 enter-requires-2 : tie.Need-enter-requires-2
 enter-requires-2 c κs = search needs
 
--- src/entering.rt:40:1
 same-length-3 : tie.Need-same-length-3
 same-length-3 c = search needs
 
--- src/entering.rt:40:1
 returns-3 : tie.Need-returns-3
 returns-3 c = visited-on _ _ _ _ (c .before .before .before .before .before .before .before .before .before .before .before .before .before .by-default .ensures) (c .before .before .before .before .before .before .before .before .before .before .before .before .if1 .left) (rw (toZ-ofZ (c .before .before .before .before .before .before .before .before .before .before .before .before .before .before .fits .arg)) at (c .before .before .before .before .before .before .before .before .before .perform-all .ensures)) (c .before .before .before .before .before .before .if2 .left) (rw (toZ-ofZ (c .before .before .before .before .before .before .before .before .before .before .before .before .before .before .fits .arg)) at (c .before .enter2 .ensures))
 
