@@ -16,6 +16,7 @@ use Rattle.laws.proofs.Descent.{append-nil}
 use Rattle.laws.proofs.Lists.{is-false}
 use Rattle.laws.proofs.Sound.{Sound-chart, child-later}
 use Rattle.laws.proofs.Tree.{keep-cut}
+use Rattle.laws.proofs.Ways.{towards-sound, owner-sound}
 use Rattle.meaning.specs.Chart.{Chart}
 use Rattle.meaning.specs.declared.chart.Kind.{Kind}
 use Rattle.meaning.specs.declared.chart.Kind.the-variants.{A as kind-a, B as kind-b, O as kind-o}
@@ -25,7 +26,7 @@ use Rattle.meaning.specs.Tree.{kind-of, default-child, is-child, children, all-
 use Rattle.meaning.specs.Value.{chart-of}
 use Rattle.walks.specs.Walks.{Ruled, path-child}
 use Rattle.walks.proofs.Passing.{sound}
-use Rattle.moves.specs.Moves.{way-by, slot-of, stored-way, goal-way, defaulting, visit-as, On-child, Led, Kids}
+use Rattle.moves.specs.Moves.{way-by, slot-of, stored-way, goal-way, defaulting, visit-as, On-child, Inside, Led, Kids}
 use Rattle.moves.specs.declared.ways.Next.{Next}
 use Rattle.moves.specs.declared.ways.Next.the-variants.{OnTo, Defaults, Stops}
 use Rattle.moves.specs.declared.ways.Goal.{Goal}
@@ -229,3 +230,10 @@ stored-plain slots s k = never k (slot-of slots s)
     never kind-o (holds d) = refl
     never kind-a p = refl
     never kind-b p = refl
+
+pub goal-child : (v : List ℤ) → Ruled v → (goal : Goal) → Inside (chart-of v) goal → (s : ℕ) (next : Next) → way-by next ≡ goal-way (chart-of v) goal s → On-child (chart-of v) s (way-by next)
+goal-child v r (Target t) l s next e d k q = towards-sound (chart-of v) (sound v r) t l .on s d k (sym e ∙ q)
+goal-child v r (Owner b) l s next e d k q = owner-sound (chart-of v) (sound v r) b l .on s d k (sym e ∙ q)
+
+pub goal-kids : (c : Chart) (goal : Goal) (s left first end : ℕ) (next : Next) → way-by next ≡ goal-way c goal s → Kids c (way-by next) s left first end → Kids c (goal-way c goal s) s left first end
+goal-kids c goal s left first end next e k = subst (λ w. Kids c w s left first end) e k

@@ -2,3 +2,4 @@ pub mod Falling
 pub mod Among
 pub mod Visiting
 pub mod Descending
+pub mod Arriving

@@ -33,7 +33,7 @@ ghost use Rattle.meaning.specs.Entry.{plain, below, by-defaults, visit as visit
 ghost use Rattle.meaning.specs.Value.{chart-of};
 ghost use Rattle.walks.specs.Walks.{Ruled};
 ghost use Rattle.widget.specs.View.{Within, Did};
-ghost use Rattle.moves.specs.Moves.{way-by, stored-way, goal-way, goal-visit, defaulting, visit-as, Led};
+ghost use Rattle.moves.specs.Moves.{way-by, stored-way, goal-way, goal-visit, defaulting, visit-as, Inside, Led};
 
 // Enters s, a child of p, which goes on so: "a state entered by its parent's default has that default's actions run just
 // before it".
@@ -191,6 +191,127 @@ pub fn by_slots(
         went = by_slots(
             chart,
             arg,
+            d,
+            left - 1,
+            active,
+            slots,
+            vars,
+            onward,
+            trace,
+            went.at,
+        );
+        if went.number != 0 {
+            return went;
+        }
+    }
+    went
+}
+
+// "If its slot is filled, its stored child is entered and so on down by the slots .. If empty, the default is taken": below
+// the owner b, which is in.
+pub fn restore(
+    chart: &[i32],
+    arg: i32,
+    b: usize,
+    active: &mut [bool; STATES],
+    slots: &[i32; STATES],
+    vars: &mut [i32; VARIABLES],
+    queue: Queue,
+    trace: &mut [i32],
+    at: usize,
+) -> Went
+    requires { ⌜ Ruled (now chart) × (b < length (chart-of (now chart) .states)) × Led (chart-of (now chart)) (now slots) × (at ≤ length (now trace)) ⌝ }
+    ensures { λ r. ⌜ Did (restores (chart-of (now (chart .entry))) arg b) (now (active .entry)) (now (slots .entry)) (now (vars .entry)) queue (now (trace .entry)) at r (now (active .exit)) (now (slots .entry)) (now (vars .exit)) (now (trace .exit)) ⌝ }
+{
+    let left = state_count(chart);
+    let Place::Empty = slot_of(slots, b) else {
+        return by_slots(chart, arg, b, left, active, slots, vars, queue, trace, at);
+    };
+    by_defaults(chart, arg, b, left, active, vars, queue, trace, at)
+}
+
+// Enters s, a child of p on the way to the goal; "History: the owner is entered", and then what its slot says.
+fn arrive(
+    chart: &[i32],
+    arg: i32,
+    goal: Goal,
+    p: usize,
+    s: usize,
+    active: &mut [bool; STATES],
+    slots: &[i32; STATES],
+    vars: &mut [i32; VARIABLES],
+    queue: Queue,
+    trace: &mut [i32],
+    at: usize,
+) -> Went
+    requires { ⌜ Ruled (now chart) × (s < length (chart-of (now chart) .states)) × Led (chart-of (now chart)) (now slots) × (at ≤ length (now trace)) ⌝ }
+    ensures { λ r. ⌜ Did (goal-visit (chart-of (now (chart .entry))) arg goal (visit-as (defaulting (kind-in (chart-of (now (chart .entry))) p) (goal-way (chart-of (now (chart .entry))) goal p)) p s)) (now (active .entry)) (now (slots .entry)) (now (vars .entry)) queue (now (trace .entry)) at r (now (active .exit)) (now (slots .entry)) (now (vars .exit)) (now (trace .exit)) ⌝ }
+{
+    let next = next_of(chart, goal, p);
+    let went = visit(chart, arg, next, p, s, active, vars, queue, trace, at);
+    if went.number != 0 {
+        return went;
+    }
+    let Goal::Owner(b) = goal else {
+        return went;
+    };
+    if s != b {
+        return went;
+    }
+    let waiting = went.queue;
+    restore(chart, arg, b, active, slots, vars, waiting, trace, went.at)
+}
+
+// Below s, which is in: "the path from below the scope to the target; in each a state every component; below that,
+// defaults", or the same to the owner of a history.
+pub fn towards(
+    chart: &[i32],
+    arg: i32,
+    goal: Goal,
+    s: usize,
+    left: usize,
+    active: &mut [bool; STATES],
+    slots: &[i32; STATES],
+    vars: &mut [i32; VARIABLES],
+    queue: Queue,
+    trace: &mut [i32],
+    at: usize,
+) -> Went
+    requires { ⌜ Ruled (now chart) × Inside (chart-of (now chart)) goal × (s < length (chart-of (now chart) .states)) × Led (chart-of (now chart)) (now slots) × (at ≤ length (now trace)) ⌝ }
+    ensures { λ r. ⌜ Did (each (goal-visit (chart-of (now (chart .entry))) arg goal) (below (chart-of (now (chart .entry))) (goal-way (chart-of (now (chart .entry))) goal) left s)) (now (active .entry)) (now (slots .entry)) (now (vars .entry)) queue (now (trace .entry)) at r (now (active .exit)) (now (slots .entry)) (now (vars .exit)) (now (trace .exit)) ⌝ }
+{
+    let kids = goes_on(chart, s, next_of(chart, goal, s), left);
+    let mut went = Went {
+        number: 0,
+        at: at,
+        queue: queue,
+    };
+    for d in kids.first..kids.end {
+        if !is_child(chart, s, d) {
+            continue;
+        }
+        let waiting = went.queue;
+        went = arrive(
+            chart,
+            arg,
+            goal,
+            s,
+            d,
+            active,
+            slots,
+            vars,
+            waiting,
+            trace,
+            went.at,
+        );
+        if went.number != 0 {
+            return went;
+        }
+        let onward = went.queue;
+        went = towards(
+            chart,
+            arg,
+            goal,
             d,
             left - 1,
             active,
