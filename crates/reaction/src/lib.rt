@@ -1,0 +1,2 @@
+// One reaction on the chart itself (01, "One reaction"): steps, null steps, start and run.
+pub mod steps;
