@@ -8,5 +8,6 @@ use Rattle.numbers.specs.Place.{placeOf}
 use Rattle.numbers.specs.declared.Place.the-variants.{At as holds}
 use Rattle.meaning.specs.Chart.{Chart}
 use Rattle.meaning.specs.Tree.{is-child}
+
 abbrev pub Led : Chart → List ℤ → Type 0
 Led c slots = (s d : ℕ) → placeOf (getD slots s (negsuc 0)) ≡ holds d → (is-child c s d ≡ true) × (d < length (c .states))

@@ -12,7 +12,7 @@ use Rattle.meaning.specs.Chart.{Chart}
 use Rattle.meaning.specs.Value.{chart-of}
 use Rattle.walks.specs.Walks.{Ruled}
 use Rattle.widget.specs.View.{ctx}
-use Rattle.laws.proofs.Sound.{Each}
+use Rattle.laws.proofs.Lists.{Each}
 use Rattle.invariants.proofs.Good.{Good}
 use Rattle.choice.specs.Choice.{picked}
 use Rattle.choice.specs.declared.Chosen.{Chosen}
