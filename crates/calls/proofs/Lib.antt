@@ -1,0 +1,6 @@
+pub mod Kept
+pub mod Legal
+pub mod Values
+pub mod Slots
+pub mod Whole
+pub mod Answering
