@@ -1,3 +1,4 @@
 pub mod Going
 pub mod Firing
 pub mod Settling
+pub mod Ending
