@@ -25,3 +25,7 @@ pub said-of3 : {A : Type 0} (f : ℤ → ℤ → ℤ → A) {x u y w z t : ℤ} 
     → mag x < 2 ^ 31 → x ≡ u → mag y < 2 ^ 31 → y ≡ w → mag z < 2 ^ 31 → z ≡ t
     → r ≡ f (toZ w32 (ofZ w32 x)) (toZ w32 (ofZ w32 y)) (toZ w32 (ofZ w32 z)) → r ≡ f u w t
 said-of3 f {x} {u} {y} {w} {z} {t} p e q g o k h = h ∙ rw (back32 x p, e, back32 y q, g, back32 z o, k)
+
+-- f of the function's own parameter z is what a call gave
+pub said-own : {A : Type 0} (f : ℤ → A) {z : ℤ} {r : A} → SFits w32 z → r ≡ f (toZ w32 (ofZ w32 z)) → r ≡ f z
+said-own f fit e = e ∙ ap f (toZ-ofZ fit)

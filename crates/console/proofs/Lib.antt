@@ -2,3 +2,4 @@ pub mod ScanLaws
 pub mod Lines
 pub mod ReportLaws
 pub mod Room
+pub mod Session

@@ -1,48 +1,47 @@
--- How much room a report needs: 48 bytes for its head, and 36 for each entry. Where the lent slice has it behind the place, the bytes
--- up to the new place are those up to the old one and then the report. Assumes nothing.
-use mathlib.Core.List.{List, [], _∷_}
-use Prim.Native.Nat.{ℕ, suc, _+_, _*_, _/_, _≤_, _<_, _^_}
+-- How much room a report needs: HEAD bytes for its head, and LINE for each entry. Where the lent slice has it behind the place, the new
+-- place lies no farther, so that nothing was lost. Assumes nothing.
+use mathlib.Core.Path.{_≡_, ap, _∙_}
+use mathlib.Core.List.{List, [], _∷_, _++_}
+use Prim.Native.Nat.{ℕ, _+_, _*_, _/_, _≤_, _<_, _^_, min}
 use native.Mathlib.Omega.{arith}
-use lib.IntN.{ℤ, pos}
+use lib.IntN.{ℤ}
 use lib.Signed.{mag}
-use lib.ListN.{length, getD, length-append}
-use Rattle.pen.specs.Pen.{pen, writes}
+use lib.ListN.{length, length-append}
+use Rattle.pen.specs.Pen.{Pen, pen, write, writes}
 use Rattle.pen.proofs.Digits.{digits-length, numeral-length}
-use Rattle.pen.proofs.Laws.{Stands, writes-stands}
+use Rattle.pen.proofs.Laws.{writes-stands, writes-long, then-bytes, then-byte, then-end}
+use Rattle.meaning.specs.Number.{digits}
+use Rattle.meaning.specs.Split.{LF}
 use Rattle.meaning.specs.Widget.{ENTRY}
-use Rattle.meaning.specs.Program.{entry-lines, report}
-use Rattle.console.specs.Shown.{entry-line}
-use Rattle.console.proofs.ReportLaws.{lines-cons}
+use Rattle.meaning.specs.Program.{SPACE}
+use Rattle.console.specs.Shown.{entry-line, held, HEAD, LINE, largest}
 
--- the head, and one entry
-abbrev pub HEAD : ℕ
-HEAD = 48
+-- bytes that fit
+pub place-after : (bs l : List ℕ) (at m : ℕ) (q : Pen) → q ≡ writes bs (pen l at) → length bs ≤ m → at + m ≤ length l → q .at ≤ at + m
+place-after bs l at m q e h room =
+    let s = writes-stands bs l at (omega arith) in
+    let n : q .at ≡ at + length bs = ap (λ p. p .at) e ∙ s .next in
+    omega arith
 
-abbrev pub LINE : ℕ
-LINE = 36
-
--- a trace of 32-bit numbers
-abbrev pub Fits : List ℤ → Type 0
-Fits t = (i : ℕ) → mag (getD t i (pos 0)) < 2 ^ 31
-
-entry-room : (x y z : ℤ) → mag x < 2 ^ 31 → mag y < 2 ^ 31 → mag z < 2 ^ 31 → length (entry-line x y z) ≤ LINE
+pub entry-room : (x y z : ℤ) → mag x < 2 ^ 31 → mag y < 2 ^ 31 → mag z < 2 ^ 31 → length (entry-line x y z) ≤ LINE
 unfolding entry-line
 entry-room x y z f g h = simp length-append (omega (arith, numeral-length x f, numeral-length y g, numeral-length z h))
 
-pub entries-room : (t : List ℤ) → Fits t → length (entry-lines t) ≤ LINE * (length t / ENTRY)
-unfolding entry-lines
-entries-room [] f = omega arith
-entries-room (x ∷ []) f = omega arith
-entries-room (x ∷ y ∷ []) f = omega arith
-entries-room (x ∷ y ∷ z ∷ more) f =
-    rw (lines-cons x y z more, length-append)
-    (omega (arith, entry-room x y z (f 0) (f 1) (f 2), entries-room more (λ i. f (suc (suc (suc i))))))
+-- the head of a report, and then its entries
+abbrev head : ℕ → ℕ → List ℕ
+head number n = 82 ∷ SPACE ∷ (digits number ++ (SPACE ∷ (digits n ++ (LF ∷ []))))
 
-pub report-room : (n : ℕ) (t : List ℤ) → n < 10 ^ 20 → length t < 10 ^ 20 → Fits t → length (report n t) ≤ HEAD + LINE * (length t / ENTRY)
-unfolding report
-report-room n t h k f = simp length-append (omega (arith, digits-length 19 n h, digits-length 19 (length t / ENTRY) (omega arith), entries-room t f))
+head-room : (number n : ℕ) → number < 2 ^ 64 → n < 2 ^ 64 → length (head number n) ≤ HEAD
+head-room number n f g = simp length-append (omega (arith, digits-length 19 number (omega arith), digits-length 19 n (omega arith)))
 
--- with so much room, the report stands behind what was there
-pub report-stands : (n : ℕ) (t : List ℤ) (l : List ℕ) (at : ℕ) → n < 10 ^ 20 → length t < 10 ^ 20 → Fits t
-    → at + (HEAD + LINE * (length t / ENTRY)) ≤ length l → Stands (report n t) (pen l at) (writes (report n t) (pen l at))
-report-stands n t l at h k f room = writes-stands (report n t) l at (omega (arith, report-room n t h k f))
+module _ (trace : List ℤ) (entries number n : ℕ) (l k : List ℕ) (at to r : ℕ) (a b c d e : Pen) where
+  pub report-place : n ≡ held entries trace → a ≡ write 82 (pen l at) → b ≡ write SPACE a → c ≡ writes (digits number) b → d ≡ write SPACE c
+      → e ≡ writes (digits n) d → pen k to ≡ write LF e → (to + LINE * n ≤ length k → r ≤ to + LINE * n)
+      → number < 2 ^ 64 → n < 2 ^ 64 → at + largest trace ≤ length l → r ≤ at + largest trace
+  report-place hn ha hb hc hd he hk hr f g room =
+      let w = then-byte (pen l at) 82 _ ha (then-byte a SPACE _ hb (then-bytes b (digits number) _ hc (then-byte c SPACE _ hd
+      (then-bytes d (digits n) _ he (then-end e LF hk))))) in
+      let long : length k ≡ length l = ap (λ p. length (p .buf)) w ∙ writes-long (head number n) (pen l at) in
+      let place : to ≤ at + HEAD = place-after (head number n) l at HEAD (pen k to) w (head-room number n f g) (omega arith) in
+      let last = hr (omega arith) in
+      omega arith

@@ -1,6 +1,7 @@
--- What is printed of a call from a lent trace (01, the end of "Checked by example"): the entries that are shown, and one entry's line.
+-- What is printed of a call from a lent trace (01, the end of "Checked by example"): the entries that are shown, one entry's line, and
+-- the room that is enough.
 -- Assumes nothing.
-use Prim.Native.Nat.{ℕ, _*_, _/_, min}
+use Prim.Native.Nat.{ℕ, _+_, _*_, _/_, min}
 use mathlib.Core.List.{List, [], _∷_, _++_}
 use lib.IntN.{ℤ}
 use lib.ListN.{length, take}
@@ -20,3 +21,13 @@ shown entries trace = take (ENTRY * held entries trace) trace
 -- one entry: "one a line, single spaces"
 unfoldable pub entry-line : ℤ → ℤ → ℤ → List ℕ
 entry-line x y z = numeral x ++ SPACE ∷ numeral y ++ SPACE ∷ numeral z ++ LF ∷ []
+
+-- ---- the room that is enough for a report: its head, and a line for each entry of the trace
+abbrev pub HEAD : ℕ
+HEAD = 48
+
+abbrev pub LINE : ℕ
+LINE = 36
+
+abbrev pub largest : List ℤ → ℕ
+largest trace = HEAD + LINE * (length trace / ENTRY)

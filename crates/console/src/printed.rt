@@ -3,12 +3,12 @@ use pen::put;
 use pen::put_digits;
 use pen::put_number;
 ghost use mathlib.Core.Path.{_≡_};
-ghost use Prim.Native.Nat.{_*_, _/_, _≤_, min};
+ghost use Prim.Native.Nat.{_+_, _*_, _/_, _≤_, min};
 ghost use lib.ListN.{length, take};
 ghost use Rattle.pen.specs.Pen.{pen, writes};
 ghost use Rattle.meaning.specs.Widget.{ENTRY as Entry};
 ghost use Rattle.meaning.specs.Program.{entry-lines, report as printed};
-ghost use Rattle.console.specs.Shown.{entry-line, held, shown};
+ghost use Rattle.console.specs.Shown.{entry-line, shown, LINE, largest};
 
 // "three signed 32-bit numbers an entry"
 const ENTRY: usize = 3;
@@ -21,7 +21,7 @@ const LF: u8 = 10;
 
 // One entry, one line.
 fn put_entry(out: &mut [u8], at: usize, first: i32, second: i32, third: i32) -> usize
-    ensures { λ r. ⌜ pen (now (out .exit)) r ≡ writes (entry-line first second third) (pen (now (out .entry)) at) ⌝ }
+    ensures { λ r. ⌜ (pen (now (out .exit)) r ≡ writes (entry-line first second third) (pen (now (out .entry)) at)) × (at + LINE ≤ length (now (out .entry)) → r ≤ at + LINE) ⌝ }
 {
     let a = put_number(out, at, first);
     let b = put(out, a, SPACE);
@@ -34,7 +34,7 @@ fn put_entry(out: &mut [u8], at: usize, first: i32, second: i32, third: i32) -> 
 // The first n entries.
 fn put_entries(out: &mut [u8], at: usize, trace: &[i32], n: usize) -> usize
     requires { ⌜ Entry * n ≤ length (now trace) ⌝ }
-    ensures { λ r. ⌜ pen (now (out .exit)) r ≡ writes (entry-lines (take (Entry * n) (now (trace .entry)))) (pen (now (out .entry)) at) ⌝ }
+    ensures { λ r. ⌜ (pen (now (out .exit)) r ≡ writes (entry-lines (take (Entry * n) (now (trace .entry)))) (pen (now (out .entry)) at)) × (at + LINE * n ≤ length (now (out .entry)) → r ≤ at + LINE * n) ⌝ }
 {
     let mut p = at;
     let mut k: usize = 0;
@@ -54,9 +54,10 @@ fn held_of(entries: usize, numbers: usize) -> usize
     if entries < room { entries } else { room }
 }
 
-// The report of an answer and of the first entries of a trace; of a trace too short for so many, those that it holds.
+// The report of an answer and of the first entries of a trace; of a trace too short for so many, those that it holds. Where the slice
+// has room for the largest report of such a trace, all of the report is in it.
 pub fn report(out: &mut [u8], at: usize, number: usize, trace: &[i32], entries: usize) -> usize
-    ensures { λ r. ⌜ pen (now (out .exit)) r ≡ writes (printed number (shown entries (now (trace .entry)))) (pen (now (out .entry)) at) ⌝ }
+    ensures { λ r. ⌜ (pen (now (out .exit)) r ≡ writes (printed number (shown entries (now (trace .entry)))) (pen (now (out .entry)) at)) × (at + largest (now (trace .entry)) ≤ length (now (out .entry)) → r ≤ at + largest (now (trace .entry))) ⌝ }
 {
     let n = held_of(entries, trace.len());
     let a = put(out, at, R);

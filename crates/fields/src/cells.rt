@@ -1,6 +1,7 @@
 // Fields read into cells (01, "Chart text"): a number, a letter or "-", each with the mark 0, 1 or 2 that it gives.
 use crate::field;
 use crate::letter_at;
+use chart::decode::ABSENT;
 use meaning::Cell;
 use meaning::Num;
 use numerals::number;
@@ -14,9 +15,6 @@ ghost use Rattle.meaning.specs.Lists.{has};
 ghost use Rattle.meaning.specs.Number.{number-of};
 ghost use Rattle.meaning.specs.Split.{fields};
 ghost use Rattle.meaning.specs.Line.{field as field-of, cell-of, letter-by, count-cell, is-turn, number-cell, dash-cell, letter-cell, number-or-dash, letter-or-dash, target-cells};
-
-// "-" as a number of a chart: no number that a text can state.
-pub const ABSENT: i32 = -2147483648;
 
 // What a number field gives.
 fn cell_of(n: Num) -> Cell

@@ -8,7 +8,7 @@ use native.Mathlib.Numerals.{add-one, add-two}
 use lib.Dec.{eqb, ltb}
 use lib.IntN.{ℤ}
 use lib.ListN.{length, set}
-use lib.Seq.{sets}
+use lib.Seq.{sets, set-out}
 use borrow.Author.Tests.{eq-eqb, ne-eqb, lt-ltb, le-ltb, ltb-true, ltb-false, eqb-true}
 use Rattle.meaning.specs.Line.{worse, worst, room, values, marks}
 use Rattle.meaning.specs.declared.Cell.{Cell}
@@ -91,3 +91,8 @@ module _ (r a b c m x y : ℕ) (em : m ≡ worse x y) (ex : x ≡ r) where
 
     pub mark-seven : (w f g : ℕ) → z ≡ worse d (worse e (worse f w)) → w ≡ worse g 0 → m ≡ worse r (worse a (worse b (worse c (worse d (worse e (worse f (worse g 0)))))))
     mark-seven w f g ez ew = rw (em, ex, ey, ez, ew)
+
+-- past the numbers that are lent nothing is put
+pub put-none : (l : List ℤ) (at : ℕ) (a : Cell) → length l ≤ at → l ≡ put-row l at (a ∷ [])
+unfolding put-row
+put-none l at a h = sym (set-out l at (a .value) h)

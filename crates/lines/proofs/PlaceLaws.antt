@@ -9,9 +9,15 @@ use Rattle.meaning.specs.Value.{VALUE, STATES-AT, STATE-ROW, VARS-AT, VAR-ROW, 
 pub fits-64 : {n : ℕ} → n < 2 ^ 64 → Fits w64 n
 fits-64 h = record { fits = h }
 
-module _ {n k : ℕ} where
-  pub act-place : n < ACTIONS → VALUE ≤ k → ACTIONS-AT + n * ACT-ROW + 5 ≤ k
-  act-place h v = omega arith
+module _ {n : ℕ} where
+  pub state-place : n < STATES → STATES-AT + n * STATE-ROW + 3 ≤ VALUE
+  state-place h = omega arith
 
-  pub trans-place : n < TRANSITIONS → VALUE ≤ k → TRANSITIONS-AT + n * TRANS-ROW + 7 ≤ k
-  trans-place h v = omega arith
+  pub var-place : n < VARIABLES → VARS-AT + n * VAR-ROW + 3 ≤ VALUE
+  var-place h = omega arith
+
+  pub trans-place : n < TRANSITIONS → TRANSITIONS-AT + n * TRANS-ROW + 7 ≤ VALUE
+  trans-place h = omega arith
+
+  pub act-place : n < ACTIONS → ACTIONS-AT + n * ACT-ROW + 5 ≤ VALUE
+  act-place h = omega arith

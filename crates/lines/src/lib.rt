@@ -1,8 +1,16 @@
 // One line of the text (01, "Chart text"), read: the records S, V, E, T and A. Each function gives the line's mark, 0, 1 or 2, and
 // where it is 0 stores the row that the line states at its place in the chart's numbers.
-pub mod layout;
 pub mod marks;
 
+use chart::layout::ACT_ROW;
+use chart::layout::ACTIONS_AT;
+use chart::layout::EVENT_COUNT;
+use chart::layout::STATE_ROW;
+use chart::layout::STATES_AT;
+use chart::layout::TRANS_ROW;
+use chart::layout::TRANSITIONS_AT;
+use chart::layout::VAR_ROW;
+use chart::layout::VARS_AT;
 use fields::cells::among;
 use fields::cells::count_cell;
 use fields::cells::is_turn;
@@ -14,15 +22,6 @@ use fields::cells::one_of_or_dash_at;
 use fields::cells::target_at;
 use fields::exactly;
 use fields::letter_at;
-use layout::ACT_ROW;
-use layout::ACTIONS_AT;
-use layout::EVENT_COUNT;
-use layout::STATE_ROW;
-use layout::STATES_AT;
-use layout::TRANS_ROW;
-use layout::TRANSITIONS_AT;
-use layout::VAR_ROW;
-use layout::VARS_AT;
 use marks::put;
 use marks::put3;
 use marks::put5;
@@ -57,7 +56,7 @@ fn formed(s: &[u8], from: usize, to: usize, n: usize, turn: usize) -> bool
 
 // V, number, low, high, first value.
 pub fn line_v(s: &[u8], from: usize, to: usize, turn: usize, chart: &mut [i32]) -> usize
-    requires { ⌜ (from ≤ to) × (to ≤ length (now s)) × (value.VALUE ≤ length (now chart)) ⌝ }
+    requires { ⌜ (from ≤ to) × (to ≤ length (now s)) ⌝ }
     ensures { λ r. ⌜ Took (v-line turn (fields (slice from to (now (s .entry))))) (value.VARS-AT + turn * value.VAR-ROW) (now (chart .entry)) r (now (chart .exit)) ⌝ }
 {
     if !formed(s, from, to, 5, turn) {
@@ -79,7 +78,7 @@ pub fn line_v(s: &[u8], from: usize, to: usize, turn: usize, chart: &mut [i32]) 
 
 // E, count of events.
 pub fn line_e(s: &[u8], from: usize, to: usize, chart: &mut [i32]) -> usize
-    requires { ⌜ (from ≤ to) × (to ≤ length (now s)) × (value.VALUE ≤ length (now chart)) ⌝ }
+    requires { ⌜ (from ≤ to) × (to ≤ length (now s)) ⌝ }
     ensures { λ r. ⌜ Took (e-line (fields (slice from to (now (s .entry))))) 2 (now (chart .entry)) r (now (chart .exit)) ⌝ }
 {
     if !exactly(s, from, to, 2) {
@@ -96,7 +95,7 @@ pub fn line_e(s: &[u8], from: usize, to: usize, chart: &mut [i32]) -> usize
 
 // S, number, parent, kind, default: state 0 alone has parent "-", and the default is a number for o, else "-".
 pub fn line_s(s: &[u8], from: usize, to: usize, turn: usize, chart: &mut [i32]) -> usize
-    requires { ⌜ (from ≤ to) × (to ≤ length (now s)) × (value.VALUE ≤ length (now chart)) ⌝ }
+    requires { ⌜ (from ≤ to) × (to ≤ length (now s)) ⌝ }
     ensures { λ r. ⌜ Took (s-line turn (fields (slice from to (now (s .entry))))) (value.STATES-AT + turn * value.STATE-ROW) (now (chart .entry)) r (now (chart .exit)) ⌝ }
 {
     if !formed(s, from, to, 5, turn) {
@@ -119,7 +118,7 @@ pub fn line_s(s: &[u8], from: usize, to: usize, turn: usize, chart: &mut [i32]) 
 
 // A, owner kind, owner, act, first, second: the second of k and o is "-".
 pub fn line_a(s: &[u8], from: usize, to: usize, turn: usize, chart: &mut [i32]) -> usize
-    requires { ⌜ (from ≤ to) × (to ≤ length (now s)) × (value.VALUE ≤ length (now chart)) ⌝ }
+    requires { ⌜ (from ≤ to) × (to ≤ length (now s)) ⌝ }
     ensures { λ r. ⌜ Took (a-line turn (fields (slice from to (now (s .entry))))) (value.ACTIONS-AT + turn * value.ACT-ROW) (now (chart .entry)) r (now (chart .exit)) ⌝ }
 {
     if !exactly(s, from, to, 6) {
@@ -153,7 +152,7 @@ pub fn line_a(s: &[u8], from: usize, to: usize, turn: usize, chart: &mut [i32]) 
 
 // T, number, source, trigger, guard variable, guard sign, guard constant, target: the three guard fields are all "-" or none is.
 pub fn line_t(s: &[u8], from: usize, to: usize, turn: usize, chart: &mut [i32]) -> usize
-    requires { ⌜ (from ≤ to) × (to ≤ length (now s)) × (value.VALUE ≤ length (now chart)) ⌝ }
+    requires { ⌜ (from ≤ to) × (to ≤ length (now s)) ⌝ }
     ensures { λ r. ⌜ Took (t-line turn (fields (slice from to (now (s .entry))))) (value.TRANSITIONS-AT + turn * value.TRANS-ROW) (now (chart .entry)) r (now (chart .exit)) ⌝ }
 {
     if !formed(s, from, to, 8, turn) {

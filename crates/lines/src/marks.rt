@@ -3,7 +3,7 @@ use meaning::Cell;
 ghost use mathlib.Core.Path.{_≡_};
 ghost use mathlib.Core.List.{List, [], _∷_};
 ghost use Prim.Native.Nat.{_+_, _<_, _≤_};
-ghost use lib.ListN.{length};
+ghost use Rattle.meaning.specs.Value.{VALUE};
 ghost use Rattle.meaning.specs.Line.{worse, room};
 ghost use Rattle.lines.specs.Took.{put-row};
 
@@ -37,18 +37,20 @@ pub fn room(n: usize, most: usize) -> usize
     if n < most { 0 } else { 2 }
 }
 
-// A cell's value at a place.
+// A cell's value at a place; past the numbers that are lent nothing is put.
 pub fn put(chart: &mut [i32], at: usize, a: Cell)
-    requires { ⌜ at + 1 ≤ length (now chart) ⌝ }
     ensures { λ _. ⌜ now (chart .exit) ≡ put-row (now (chart .entry)) at (a ∷ []) ⌝ }
 {
+    if chart.len() <= at {
+        return;
+    }
     let z = a.value;
     chart[at] = z;
 }
 
 // Two of them.
 pub fn put2(chart: &mut [i32], at: usize, a: Cell, b: Cell)
-    requires { ⌜ at + 2 ≤ length (now chart) ⌝ }
+    requires { ⌜ at + 2 ≤ VALUE ⌝ }
     ensures { λ _. ⌜ now (chart .exit) ≡ put-row (now (chart .entry)) at (a ∷ b ∷ []) ⌝ }
 {
     put(chart, at, a);
@@ -57,7 +59,7 @@ pub fn put2(chart: &mut [i32], at: usize, a: Cell, b: Cell)
 
 // Three of them.
 pub fn put3(chart: &mut [i32], at: usize, a: Cell, b: Cell, c: Cell)
-    requires { ⌜ at + 3 ≤ length (now chart) ⌝ }
+    requires { ⌜ at + 3 ≤ VALUE ⌝ }
     ensures { λ _. ⌜ now (chart .exit) ≡ put-row (now (chart .entry)) at (a ∷ b ∷ c ∷ []) ⌝ }
 {
     put2(chart, at, a, b);
@@ -66,7 +68,7 @@ pub fn put3(chart: &mut [i32], at: usize, a: Cell, b: Cell, c: Cell)
 
 // Five of them.
 pub fn put5(chart: &mut [i32], at: usize, a: Cell, b: Cell, c: Cell, d: Cell, e: Cell)
-    requires { ⌜ at + 5 ≤ length (now chart) ⌝ }
+    requires { ⌜ at + 5 ≤ VALUE ⌝ }
     ensures { λ _. ⌜ now (chart .exit) ≡ put-row (now (chart .entry)) at (a ∷ b ∷ c ∷ d ∷ e ∷ []) ⌝ }
 {
     put3(chart, at, a, b, c);
@@ -85,7 +87,7 @@ pub fn put7(
     f: Cell,
     g: Cell,
 )
-    requires { ⌜ at + 7 ≤ length (now chart) ⌝ }
+    requires { ⌜ at + 7 ≤ VALUE ⌝ }
     ensures { λ _. ⌜ now (chart .exit) ≡ put-row (now (chart .entry)) at (a ∷ b ∷ c ∷ d ∷ e ∷ f ∷ g ∷ []) ⌝ }
 {
     put5(chart, at, a, b, c, d, e);

@@ -7,6 +7,7 @@ use lib.ListN.{length, getD}
 use lib.IntN.{ℤ}
 use lib.Signed.{leZ}
 use lib.Dec.{eqb, leb, ltb}
+use Rattle.meaning.specs.declared.Answer.{Answer}
 use Rattle.meaning.specs.Lists.{has, every, from}
 use Rattle.meaning.specs.Chart.{Kind, kind-o, kind-a, kind-b, Guard, always, compares, Target, to, history, in-place}
 use Rattle.meaning.specs.Chart.{Act, set-to, add-to, take-to, send, tell, Owner, entry-of, exit-of, default-of, transition-of}
@@ -120,7 +121,12 @@ after-rule-0 false c = some 0
 unfoldable pub failing-rule-of : List ℤ → Option ℕ
 failing-rule-of v = after-rule-0 (rule-0 v) (chart-of v)
 
+-- answer 3 "a rule fails, the first named", with the rule's number as its place; else 0
+unfoldable pub verdict : Option ℕ → Answer
+verdict none = record { number = 0; place = 0 }
+verdict (some r) = record { number = 3; place = r }
+
 -- everything above, opened: for statements that compute
 unfoldable pub rules-open : ℕ
-unfolding rule-1 parent-fits rule-2 children-fit rule-3 default-fits rule-4 row-fits rule-5 guard-fits target-fits transition-fits rule-6 owner-fits within-row act-fits action-fits rule-7 first-failing failing-rule failing-rule-of
+unfolding rule-1 parent-fits rule-2 children-fit rule-3 default-fits rule-4 row-fits rule-5 guard-fits target-fits transition-fits rule-6 owner-fits within-row act-fits action-fits rule-7 first-failing failing-rule failing-rule-of verdict
 rules-open = 0

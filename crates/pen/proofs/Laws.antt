@@ -1,11 +1,12 @@
 -- Laws of writing. Assumes nothing.
 use mathlib.Core.Path.{_≡_, refl, sym, ap, _∙_}
-use mathlib.Core.Bool.{true, false, true≢false}
+use mathlib.Core.Bool.{Bool, true, false, cond, true≢false}
 use mathlib.Core.List.{List, [], _∷_, _++_, append-assoc, append-nil}
 use Prim.Native.Nat.{ℕ, _+_, _/_, _%_, _<_, _≤_}
 use native.Mathlib.Omega.{arith}
 use borrow.Author.Tests.{lt-ltb, le-ltb, ltb-true}
 use native.Mathlib.Numerals.{add-one}
+use lib.Dec.{ltb}
 use lib.ListN.{length, set, take, length-set}
 use lib.Seq.{take-suc-set}
 use lib.IntN.{ℤ, pos, negsuc, natAbs}
@@ -67,6 +68,20 @@ module _ (z : ℤ) (n : ℕ) (p r : Pen) (e : n ≡ natAbs z) where
       go : (z : ℤ) → n ≡ natAbs z → ltZ z (pos 0) ≡ false → r ≡ writes (numeral z) p
       go (pos k) e t = g ∙ rw e
       go (negsuc k) e t = absurd (true≢false t)
+
+-- the slice keeps its length
+write-long : (b : ℕ) (p : Pen) → length (write b p .buf) ≡ length (p .buf)
+unfolding write
+write-long b p = go (ltb (p .at) (length (p .buf)))
+  where
+    go : (t : Bool) → length (cond t (pen (set (p .buf) (p .at) b) (p .at + 1)) (pen (p .buf) (length (p .buf) + 1)) .buf) ≡ length (p .buf)
+    go true = length-set (p .buf) (p .at) b
+    go false = refl
+
+pub writes-long : (bs : List ℕ) (p : Pen) → length (writes bs p .buf) ≡ length (p .buf)
+unfolding writes
+writes-long [] p = refl
+writes-long (b ∷ bs) p = writes-long bs (write b p) ∙ write-long b p
 
 -- where there is room, the bytes stand behind what was there up to the place, and the next place is behind them
 pub record Stands (bs : List ℕ) (p q : Pen) : Type 0 where

@@ -2,3 +2,5 @@ pub mod OrderLaws
 pub mod LayLaws
 pub mod RowLaws
 pub mod HeldLaws
+pub mod ScanLaws
+pub mod ReadLaws

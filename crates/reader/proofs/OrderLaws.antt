@@ -6,7 +6,8 @@ use Prim.Native.Nat.{ℕ, _+_, _*_, _≤_, _<_}
 use native.Mathlib.Omega.{arith}
 use lib.Dec.{eqb, leb}
 use lib.IntN.{ℤ, pos}
-use lib.ListN.{set}
+use lib.ListN.{length, set}
+use lib.Seq.{set-out}
 use mir.Syntax.{w32}
 use mir.Val.{toZ, ofZ}
 use Rattle.numbers.specs.Reference.{NOWHERE}
@@ -111,3 +112,6 @@ pub counts-set : (t : Turns) (l a b c d : List ℤ) → a ≡ set l 0 (pos (t .s
     → d ≡ set c 4 (pos (t .actions)) → d ≡ with-counts t l
 unfolding with-counts
 counts-set t l a b c d ea eb ec ed = rw (ed, ec, eb, ea)
+
+pub count-none : (l : List ℤ) (at n : ℕ) → length l ≤ at → l ≡ set l at (pos n)
+count-none l at n h = sym (set-out l at (pos n) h)

@@ -1,4 +1,4 @@
--- What the walk over a text's lines leaves: its answer, and where that is 0 the value of the rows read, 0 past it. Assumes nothing.
+-- What the walk over a text's lines leaves: its answer, and where that is 0 and there is room the value of the rows read, 0 past it. Assumes nothing.
 use mathlib.Core.Path.{_≡_}
 use mathlib.Core.List.{List, [], _∷_, _++_}
 use Prim.Native.Nat.{ℕ, _-_, _≤_}
@@ -32,5 +32,5 @@ pub record Fit (r : Rows) : Type 0 where
 -- of what a text gives, o, the answer is a, and n lent numbers are l
 pub record Scanned (o : Outcome Rows) (a : Answer) (n : ℕ) (l : List ℤ) : Type 0 where
   pub answer : a ≡ answer-of o
-  pub numbers : (r : Rows) → o ≡ done r → (l ≡ value-of r ++ zeros (n - VALUE)) × Fit r
+  pub numbers : (r : Rows) → o ≡ done r → VALUE ≤ n → (l ≡ value-of r ++ zeros (n - VALUE)) × Fit r
   pub size : length l ≡ n

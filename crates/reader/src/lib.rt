@@ -1,6 +1,8 @@
 // "The reader walks the text line by line" (01): the text and a position in it, and where the next line ends. The struct is made,
 // asked and dropped in three thin functions over the covered `next_line`; the walk above takes plain slices and numbers.
 pub mod order;
+pub mod read;
+pub mod scan;
 
 use fields::LF;
 use fields::stop;

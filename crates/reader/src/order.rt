@@ -1,9 +1,9 @@
 // The order S, V, one E, T, A (01, "Chart text"): a line is read as the record that its first letter names, if that stands in its
 // place, and counted after it.
-use lines::layout::ACTION_COUNT;
-use lines::layout::STATE_COUNT;
-use lines::layout::TRANSITION_COUNT;
-use lines::layout::VAR_COUNT;
+use chart::layout::ACTION_COUNT;
+use chart::layout::STATE_COUNT;
+use chart::layout::TRANSITION_COUNT;
+use chart::layout::VAR_COUNT;
 use lines::line_a;
 use lines::line_e;
 use lines::line_s;
@@ -17,7 +17,6 @@ ghost use lib.ListN.{length, set};
 ghost use lib.IntN.{pos};
 ghost use lib.Seq.{slice};
 ghost use Rattle.numbers.specs.Reference.{NOWHERE};
-ghost use Rattle.meaning.specs.Value as value;
 ghost use Rattle.meaning.specs.Split.{fields};
 ghost use Rattle.meaning.specs.Line.{record-by, line-of};
 ghost use Rattle.lines.specs.Took.{Took};
@@ -25,7 +24,7 @@ ghost use Rattle.reader.specs.Order.{place-of, turns-after, Within, with
 
 // A line whose first field is the letter k.
 pub fn line(s: &[u8], from: usize, to: usize, k: u8, t: Turns, chart: &mut [i32]) -> usize
-    requires { ⌜ (from ≤ to) × (to ≤ length (now s)) × (value.VALUE ≤ length (now chart)) ⌝ }
+    requires { ⌜ (from ≤ to) × (to ≤ length (now s)) ⌝ }
     ensures { λ r. ⌜ Took (line-of (record-by k) t (fields (slice from to (now (s .entry))))) (place-of (record-by k) t) (now (chart .entry)) r (now (chart .exit)) ⌝ }
 {
     let stage = t.stage;
@@ -98,16 +97,19 @@ pub fn counted(k: u8, t: Turns) -> Turns
 
 // One count, at its place.
 fn put_count(chart: &mut [i32], at: usize, n: usize)
-    requires { ⌜ (at < length (now chart)) × (n < NOWHERE) ⌝ }
+    requires { ⌜ n < NOWHERE ⌝ }
     ensures { λ _. ⌜ now (chart .exit) ≡ set (now (chart .entry)) at (pos n) ⌝ }
 {
+    if chart.len() <= at {
+        return;
+    }
     let z = number(n);
     chart[at] = z;
 }
 
 // The counts, at their places.
 pub fn put_counts(chart: &mut [i32], t: Turns)
-    requires { ⌜ (value.VALUE ≤ length (now chart)) × Within t ⌝ }
+    requires { ⌜ Within t ⌝ }
     ensures { λ _. ⌜ now (chart .exit) ≡ with-counts t (now (chart .entry)) ⌝ }
 {
     put_count(chart, STATE_COUNT, t.states);

@@ -34,11 +34,11 @@ use Rattle.round.proofs.FieldsFree.{above, free-number, free-letter, fr
 -- ---- T
 
 -- a guard is absent, or a number, a sign and a number
-data GuardIs (v g x : ℤ) : Type 0 where
+pub data GuardIs (v g x : ℤ) : Type 0 where
   none-is : is-absent v ≡ true → is-absent g ≡ true → is-absent x ≡ true → GuardIs v g x
   some-is : inRange v ≡ true → one-of-letters SIGNS g ≡ true → inRange x ≡ true → GuardIs v g x
 
-guard-is : (v g x : ℤ) → guard-statable v g x ≡ true → GuardIs v g x
+pub guard-is : (v g x : ℤ) → guard-statable v g x ≡ true → GuardIs v g x
 unfolding guard-statable
 guard-is v g x e = go (is-absent v && (is-absent g && is-absent x)) refl e
   where

@@ -5,7 +5,7 @@ use mathlib.Core.List.{List, [], _∷_}
 use Prim.Native.Nat.{ℕ, _+_, _<_}
 use mathlib.Core.Path.{_≡_}
 use lib.Dec.{ltb}
-use lib.ListN.{length, set}
+use lib.ListN.{length, set, replicate}
 use lib.IntN.{ℤ}
 use Rattle.numbers.specs.Reference.{ref}
 use Rattle.meaning.specs.Value.{is-absent}
@@ -33,3 +33,7 @@ put-all (b ∷ bs) p = put-all bs (put-byte b p)
 -- a number that stands for a letter, or for "-"
 pub record IsLetter (z : ℤ) : Type 0 where
   pub byte : is-absent z ≡ false → ref z < 256
+
+-- a slice of n bytes that are all 0
+unfoldable pub zeros : ℕ → List ℕ
+zeros n = replicate n 0

@@ -102,7 +102,7 @@ add-put5 c = let h = has-room _ _ _ (sym (mark-five _ _ _ _ _ _ _ (c .before .be
 
 -- src/lib.rt:136:5
 put5-requires : tie.Need-put5-requires
-put5-requires c κs = let h = has-room _ _ _ (sym (mark-five _ _ _ _ _ _ _ (c .before .before .worse4 .ensures) (c .before .before .before .before .room .ensures) _ _ _ (c .before .before .before .worse3 .ensures) _ (c .before .before .before .before .before .worse2 .ensures) (c .before .before .before .before .before .before .worse .ensures)) ∙ c .before .if2 .left) in act-place h (c .before .before .before .before .before .before .before .before .before .before .before .before .before .before .before .before .before .before .before .before .pre .2)
+put5-requires c κs = let h = has-room _ _ _ (sym (mark-five _ _ _ _ _ _ _ (c .before .before .worse4 .ensures) (c .before .before .before .before .room .ensures) _ _ _ (c .before .before .before .worse3 .ensures) _ (c .before .before .before .before .before .worse2 .ensures) (c .before .before .before .before .before .before .worse .ensures)) ∙ c .before .if2 .left) in act-place h
 
 -- src/lib.rt:118:1
 same-length : tie.Need-same-length

@@ -1,3 +1,4 @@
+use Rattle.lines.proofs.PlaceLaws.{state-place}
 use native.Mathlib.Omega.{arith}
 use mathlib.Core.Path.{_≡_, refl, sym, _∙_}
 use borrow.Author.Tests.{not-true, not-false}
@@ -71,7 +72,7 @@ add-put3 c = let h = has-room _ _ _ (sym (mark-three _ _ _ _ _ _ _ (c .before .b
 
 -- src/lib.rt:113:5
 put3-requires : tie.Need-put3-requires
-put3-requires c κs = let h = has-room _ _ _ (sym (mark-three _ _ _ _ _ _ _ (c .before .before .worse .ensures) (c .before .before .before .before .room .ensures) (c .before .before .before .worse3 .ensures)) ∙ c .before .if2 .left) in let p = c .before .before .before .before .before .before .before .before .before .before .before .before .before .pre .2 in omega arith
+put3-requires c κs = let h = has-room _ _ _ (sym (mark-three _ _ _ _ _ _ _ (c .before .before .worse .ensures) (c .before .before .before .before .room .ensures) (c .before .before .before .worse3 .ensures)) ∙ c .before .if2 .left) in state-place h
 
 -- src/lib.rt:98:1
 same-length : tie.Need-same-length

@@ -94,7 +94,7 @@ add-put7 c = let h = has-room _ _ _ (sym (mark-seven _ _ _ _ _ _ _ (c .before .b
 
 -- src/lib.rt:162:5
 put7-requires : tie.Need-put7-requires
-put7-requires c κs = let h = has-room _ _ _ (sym (mark-seven _ _ _ _ _ _ _ (c .before .before .worse2 .ensures) (c .before .before .before .before .room .ensures) _ _ _ (c .before .before .before .worse32 .ensures) _ _ _ (c .before .before .before .before .before .worse3 .ensures) (c .before .before .before .before .before .before .worse .ensures)) ∙ c .before .if2 .left) in trans-place h (c .before .before .before .before .before .before .before .before .before .before .before .before .before .before .before .before .before .before .before .before .pre .2)
+put7-requires c κs = let h = has-room _ _ _ (sym (mark-seven _ _ _ _ _ _ _ (c .before .before .worse2 .ensures) (c .before .before .before .before .room .ensures) _ _ _ (c .before .before .before .worse32 .ensures) _ _ _ (c .before .before .before .before .before .worse3 .ensures) (c .before .before .before .before .before .before .worse .ensures)) ∙ c .before .if2 .left) in trans-place h
 
 -- src/lib.rt:141:1
 same-length : tie.Need-same-length

@@ -1,3 +1,4 @@
+use Rattle.lines.proofs.PlaceLaws.{var-place}
 use native.Mathlib.Omega.{arith}
 use mathlib.Core.Path.{_≡_, refl, sym, _∙_}
 use borrow.Author.Tests.{not-true, not-false}
@@ -61,7 +62,7 @@ add-put3 c = let h = has-room _ _ _ (sym (mark-three _ _ _ _ _ _ _ (c .before .b
 
 -- src/lib.rt:73:5
 put3-requires : tie.Need-put3-requires
-put3-requires c κs = let h = has-room _ _ _ (sym (mark-three _ _ _ _ _ _ _ (c .before .before .worse .ensures) (c .before .before .before .before .room .ensures) (c .before .before .before .worse3 .ensures)) ∙ c .before .if2 .left) in omega arith
+put3-requires c κs = let h = has-room _ _ _ (sym (mark-three _ _ _ _ _ _ _ (c .before .before .worse .ensures) (c .before .before .before .before .room .ensures) (c .before .before .before .worse3 .ensures)) ∙ c .before .if2 .left) in var-place h
 
 -- src/lib.rt:59:1
 same-length : tie.Need-same-length

@@ -1,4 +1,4 @@
-use Rattle.reader.proofs.OrderLaws.{count-set}
+use Rattle.reader.proofs.OrderLaws.{count-set, count-none}
 use borrow.Author.Needs.{needs}
 use Rattle.reader.proofs.order.put_count.Statement.{statement}
 use Rattle.reader.proofs.order.put_count.Tie as tie
@@ -7,24 +7,29 @@ use Rattle.reader.proofs.order.put_count.Lts as lts
 use Rattle.numbers.proofs.number.Reads as number-reads
 
 -- src/order.rt:104:9
+returns : tie.Need-returns
+returns c = count-none _ _ _ (c .if1 .taken)
+
+-- src/order.rt:106:9
 number-requires : tie.Need-number-requires
 number-requires c κs = search needs
 
--- src/order.rt:105:5
+-- src/order.rt:107:5
 mul-z : tie.Need-mul-z
 mul-z c = search needs
 
--- src/order.rt:105:5
+-- src/order.rt:107:5
 slice-set-from-z : tie.Need-slice-set-from-z
 slice-set-from-z c = search needs
 
--- src/order.rt:100:1
+-- src/order.rt:99:1
 same-length : tie.Need-same-length
 same-length c = search needs
 
--- src/order.rt:100:1
-returns : tie.Need-returns
-returns c = count-set (c .before .args .chart .now) (c .before .args .at) _ _ (c .number .ensures) (c .before .pre .1)
+-- src/order.rt:99:1
+returns-2 : tie.Need-returns-2
+returns-2 c = count-set (c .before .before .args .chart .now) (c .before .before .args .at) _ _ (c .number .ensures) (c .before .before .pre)
 
 pub put-count-spec : {M : Type 1} → statement M
-put-count-spec = tie.close (tie.spec number-requires mul-z slice-set-from-z same-length returns)
+put-count-spec =
+    tie.close (tie.spec returns number-requires mul-z slice-set-from-z same-length returns-2)

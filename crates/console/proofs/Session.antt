@@ -1,0 +1,90 @@
+-- The input, met byte by byte, prints what 01 says of its lines: "then posts and runs each line". Assumes nothing.
+use mathlib.Core.Path.{_≡_, refl, sym, ap, _∙_}
+use mathlib.Core.Bool.{Bool, true, false}
+use mathlib.Core.List.{List, [], _∷_, _++_, append-assoc, append-nil}
+use Prim.Native.Nat.{ℕ}
+use lib.Dec.{eqb}
+use Rattle.meaning.specs.declared.State.{State}
+use Rattle.meaning.specs.declared.Line.{Line}
+use Rattle.meaning.specs.Chart.{Chart}
+use Rattle.meaning.specs.Split.{LF, Parts, all, onto, cut, split, lines, fields}
+use Rattle.meaning.specs.Program.{Turn, turn, turns, line-of, input-lines}
+use Rattle.console.specs.declared.scan.Scan.{Scan}
+use Rattle.console.specs.Scan.{empty, fed, line-at, began, scan-on, scan-of}
+use Rattle.console.specs.Session.{Turns, Under, Passed, ended, by-end, by-began, passed, finished, all-printed}
+use Rattle.console.proofs.Lines.{scan-line, scan-began, none-began}
+
+-- what the lines print, one after the other
+unfoldable pub turns-by : Turns → State → List (List ℕ) → List ℕ
+turns-by f u [] = []
+turns-by f u (l ∷ ls) = let t = f u (line-of (fields l)) in t .printed ++ turns-by f (t .state) ls
+
+pub turns-of : (c : Chart) (u : State) (ls : List (List ℕ)) → turns-by (turn c) u ls ≡ turns c u ls
+unfolding turns-by turns
+turns-of c u [] = refl
+turns-of c u (l ∷ ls) = rw (turns-of c (turn c u (line-of (fields l)) .state) ls)
+
+-- what does the same to each line prints the same
+pub turns-same : (f g : Turns) → ((u : State) (l : Line) → f u l ≡ g u l) → (u : State) (ls : List (List ℕ)) → turns-by f u ls ≡ turns-by g u ls
+unfolding turns-by
+turns-same f g h u [] = refl
+turns-same f g h u (l ∷ ls) = rw (h u (line-of (fields l)), turns-same f g h (g u (line-of (fields l)) .state) ls)
+
+-- one byte more
+scan-snoc : (s : Scan) (bs : List ℕ) (b : ℕ) → scan-on s (bs ++ (b ∷ [])) ≡ fed (scan-on s bs) b
+unfolding scan-on
+scan-snoc s [] b = refl
+scan-snoc s (d ∷ bs) b = scan-snoc (fed s d) bs b
+
+abbrev after : State → List ℕ → Under
+after u bs = record { state = u; scan = scan-of bs }
+
+began-of : (b : ℕ) (bs : List ℕ) → began (scan-of (b ∷ bs)) ≡ true
+unfolding scan-of
+began-of b bs = scan-began b bs empty
+
+snoc-of : (pre : List ℕ) (b : ℕ) → scan-of (pre ++ (b ∷ [])) ≡ fed (scan-of pre) b
+unfolding scan-of
+snoc-of pre b = scan-snoc empty pre b
+
+-- before the first byte
+abbrev pub fresh : State → Under
+fresh u = record { state = u; scan = empty }
+
+none-fed : (u : State) → after u [] ≡ fresh u
+unfolding scan-of scan-on
+none-fed u = refl
+
+module _ (f : Turns) where
+  -- the end of the input behind these bytes of a line
+  at-end : (u : State) (pre : List ℕ) → finished f (after u pre) .printed ≡ turns-by f u (input-lines (pre ∷ []))
+  unfolding finished turns-by input-lines
+  at-end u [] = rw none-began
+  at-end u (b ∷ bs) = rw (began-of b bs, scan-line (b ∷ bs), append-nil)
+
+  -- a line that ends before others
+  line-first : (u : State) (pre : List ℕ) (q : Parts) (rest : State → List ℕ) → ((w : State) → rest w ≡ turns-by f w (input-lines (all q)))
+      → f u (line-at (scan-of pre)) .printed ++ rest (f u (line-at (scan-of pre)) .state) ≡ turns-by f u (input-lines (pre ∷ all q))
+  unfolding turns-by input-lines
+  line-first u pre q rest e = rw (scan-line pre, e (f u (line-of (fields pre)) .state))
+
+  -- the input from here, behind these bytes of a line
+  pub printed-from : (u : State) (pre bs : List ℕ) → all-printed f (after u pre) bs ≡ turns-by f u (input-lines (all (onto pre (split LF bs))))
+  unfolding all-printed passed split
+  printed-from u pre [] = at-end u pre ∙ rw append-nil
+  printed-from u pre (b ∷ bs) =
+      go (eqb b LF) (split LF bs) (λ w. printed-from w [] bs) (printed-from u (pre ++ (b ∷ [])) bs)
+    where
+      go : (t : Bool) (q : Parts)
+          → ((w : State) → all-printed f (after w []) bs ≡ turns-by f w (input-lines (all q)))
+          → all-printed f (after u (pre ++ (b ∷ []))) bs ≡ turns-by f u (input-lines (all (onto (pre ++ (b ∷ [])) q)))
+          → by-end f (after u pre) b t .printed ++ all-printed f (by-end f (after u pre) b t .under) bs
+          ≡ turns-by f u (input-lines (all (onto pre (cut t b q))))
+      go true q next on =
+          rw append-nil (line-first u pre q (λ w. all-printed f (fresh w) bs) (λ w. ap (λ s. all-printed f s bs) (sym (none-fed w)) ∙ next w))
+      go false q next on = ap (λ s. all-printed f (record { state = u; scan = s }) bs) (sym (snoc-of pre b)) ∙ on ∙ rw append-assoc
+
+-- the law: "then posts and runs each line"
+pub printed-all : (f : Turns) (u : State) (input : List ℕ) → all-printed f (fresh u) input ≡ turns-by f u (input-lines (lines input))
+unfolding lines
+printed-all f u input = ap (λ s. all-printed f s input) (sym (none-fed u)) ∙ printed-from f u [] input

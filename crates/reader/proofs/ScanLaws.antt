@@ -1,0 +1,164 @@
+-- Laws of the walk over a text's lines: what each way out of the loop gives, and what holds as it goes on. Assumes nothing.
+use mathlib.Core.Path.{_≡_, refl, sym, ap, _∙_, subst}
+use mathlib.Core.Bool.{Bool, true, false, cond}
+use mathlib.Core.List.{List, [], _∷_, _++_}
+use Prim.Native.Nat.{ℕ, zero, suc, _+_, _-_, _*_, _≤_, _<_}
+use native.Mathlib.Omega.{arith}
+use lib.Dec.{leb}
+use lib.IntN.{ℤ, pos}
+use lib.ListN.{length, length-append, length-set}
+use lib.Seq.{slice, slice-empty, slice-cons, take-length, sets, length-sets}
+use borrow.Author.Tests.{le-leb, lt-leb}
+use Rattle.meaning.specs.Value.{Rows, VALUE}
+use Rattle.meaning.specs.Split.{all, split, fields, lines}
+use Rattle.meaning.specs.Line.{Line, Record, letter-of, field, record-by, line-of}
+use Rattle.meaning.specs.Text.{Outcome, done, refused, answer, answer-of, Walk, start, turns-of, taken, further, after-line, line-taken, record-of, ending, walk, value-of}
+use Rattle.meaning.specs.declared.Answer.{Answer}
+use Rattle.meaning.specs.declared.Turns.{Turns}
+use Rattle.fields.specs.Parts.{Stop}
+use Rattle.lines.specs.Took.{Took}
+use Rattle.reader.specs.Order.{place-of, turns-after, Within, with-counts}
+use Rattle.reader.specs.Scanned.{zeros, Fit, Scanned}
+use Rattle.reader.proofs.LayLaws.{laid, laid-none, length-zeros}
+use Rattle.reader.proofs.RowLaws.{row-fits}
+use Rattle.reader.proofs.HeldLaws.{next-numbers, next-turns, next-fit, fit-start, turns-start, within-fit, counted-numbers}
+
+-- ---- the lines from a place on
+module _ (s : List ℕ) (at e : ℕ) (q : Stop 10 s at (length s) e) where
+  lines-last : e ≡ length s → lines (slice at (length s) s) ≡ slice at (length s) s ∷ []
+  unfolding lines
+  lines-last h = rw (q .head, q .last h, h)
+
+  lines-next : (e ≡ length s → ⊥) → lines (slice at (length s) s) ≡ slice at e s ∷ lines (slice (e + 1) (length s) s)
+  unfolding lines
+  lines-next h = rw (q .head, q .more h)
+
+  module _ (w : Walk) (n : ℕ) where
+    walk-cut : e ≡ length s → at < length s → walk n w (lines (slice at (length s) s)) ≡ refused 1 n
+    unfolding walk
+    walk-cut h k = rw (lines-last h, slice-cons at (length s) s 0 k (omega arith))
+
+    walk-last : e ≡ length s → length s ≤ at → walk n w (lines (slice at (length s) s)) ≡ cond (leb 2 (w .stage)) (done (w .rows)) (refused 1 n)
+    unfolding walk
+    walk-last h k =
+        let l = q .low in
+        let z : at ≡ length s = omega arith in
+        let y : slice at (length s) s ≡ [] = rw z (slice-empty (length s) s) in
+        rw (lines-last h, y)
+
+    walk-next : (e ≡ length s → ⊥) → walk n w (lines (slice at (length s) s)) ≡ line-taken (fields (slice at e s)) n w (λ v. walk (n + 1) v (lines (slice (e + 1) (length s) s)))
+    unfolding walk lines
+    walk-next h = rw (lines-next h)
+
+-- ---- what the loop keeps: n0 numbers are lent, s is the text
+pub record Walking (s : List ℕ) (n0 : ℕ) (l : List ℤ) (at n : ℕ) (t : Turns) : Type 0 where
+  pub read : Walk
+  pub turns : t ≡ turns-of read
+  pub numbers : VALUE ≤ n0 → l ≡ laid (read .rows) (zeros (n0 - VALUE))
+  pub fit : Fit (read .rows)
+  pub size : length l ≡ n0
+  pub inside : at ≤ length s
+  pub line : n ≤ at + 1
+  pub same : walk n read (lines (slice at (length s) s)) ≡ walk 1 start (lines s)
+
+pub walking-start : (s : List ℕ) (n0 : ℕ) (l : List ℤ) → l ≡ zeros n0 → Walking s n0 l 0 1 (record { stage = 0; states = 0; vars = 0; transitions = 0; actions = 0 })
+walking-start s n0 l e = record {
+  read = start;
+  turns = turns-start;
+  numbers = λ h. e ∙ laid-none n0 h;
+  fit = fit-start;
+  size = ap length e ∙ length-zeros n0;
+  inside = omega arith;
+  line = omega arith;
+  same = rw (take-length s);
+}
+
+module _ (s : List ℕ) (n0 : ℕ) (l : List ℤ) (at n : ℕ) (t : Turns) (w : Walking s n0 l at n t) where
+  pub walking-within : Within t
+  walking-within = within-fit (w .read) t (w .turns) (w .fit)
+
+  same-stage : t .stage ≡ w .read .stage
+  unfolding turns-of
+  same-stage = ap (λ (t : Turns). t .stage) (w .turns)
+
+  gives : (o : Outcome Rows) → walk n (w .read) (lines (slice at (length s) s)) ≡ o → walk 1 start (lines s) ≡ o
+  gives o e = sym (w .same) ∙ e
+
+  refusal : (a p : ℕ) (l′ : List ℤ) → length l′ ≡ n0 → walk 1 start (lines s) ≡ refused a p → Scanned (walk 1 start (lines s)) (answer a p) n0 l′
+  refusal a p l′ z e = record { answer = sym (ap answer-of e); numbers = λ r f h. impossible r (sym e ∙ f); size = z }
+    where
+      impossible : (r : Rows) → refused a p ≡ done r → (l′ ≡ value-of r ++ zeros (n0 - VALUE)) × Fit r
+      impossible r f = let z : _≡_ {A = ℕ} 0 1 = cc in absurd (omega arith)
+
+  module _ (e : ℕ) (q : Stop 10 s at (length s) e) where
+    pub scan-cut : e ≡ length s → at < length s → Scanned (walk 1 start (lines s)) (answer 1 n) n0 l
+    scan-cut h k = refusal 1 n l (w .size) (gives (refused 1 n) (walk-cut s at e q (w .read) n h k))
+
+    pub scan-missing : e ≡ length s → length s ≤ at → t .stage < 2 → Scanned (walk 1 start (lines s)) (answer 1 n) n0 l
+    scan-missing h k d =
+        let g = same-stage in
+        let z : leb 2 (w .read .stage) ≡ false = lt-leb 2 (w .read .stage) (omega arith) in
+        refusal 1 n l (w .size) (gives (refused 1 n) (walk-last s at e q (w .read) n h k ∙ ap (λ (b : Bool). cond b (done (w .read .rows)) (refused 1 n)) z))
+
+    pub scan-done : (l′ : List ℤ) → l′ ≡ with-counts t l → e ≡ length s → length s ≤ at → 2 ≤ t .stage → Scanned (walk 1 start (lines s)) (answer 0 0) n0 l′
+    unfolding with-counts
+    scan-done l′ f h k d =
+        let g = same-stage in
+        let z : leb 2 (w .read .stage) ≡ true = le-leb 2 (w .read .stage) (omega arith) in
+        let r : walk 1 start (lines s) ≡ done (w .read .rows) = gives (done (w .read .rows)) (walk-last s at e q (w .read) n h k ∙ ap (λ (b : Bool). cond b (done (w .read .rows)) (refused 1 n)) z) in
+        record {
+          answer = sym (ap answer-of r);
+          numbers = λ rows i v. rest rows v (sym r ∙ i);
+          size = ap length f ∙ sized t l ∙ w .size;
+        }
+      where
+        sized : (t : Turns) (l : List ℤ) → length (with-counts t l) ≡ length l
+        sized t l = simp length-set
+
+        rest : (rows : Rows) → VALUE ≤ n0 → done (w .read .rows) ≡ done rows → (l′ ≡ value-of rows ++ zeros (n0 - VALUE)) × Fit rows
+        rest rows v i =
+            let j : w .read .rows ≡ rows = cc in
+            let m : l′ ≡ value-of (w .read .rows) ++ zeros (n0 - VALUE) = f ∙ ap (with-counts t) (w .numbers v) ∙ counted-numbers (w .read) t (zeros (n0 - VALUE)) (w .turns) in
+            (rw j at m, subst (λ (r : Rows). Fit r) j (w .fit))
+
+    module _ (h : e ≡ length s → ⊥) (k m : ℕ) (l′ : List ℤ) (g : k ≡ letter-of (field (fields (slice at e s)) 0))
+        (o : Took (line-of (record-by k) t (fields (slice at e s))) (place-of (record-by k) t) l m l′) where
+      abbrev fs : List (List ℕ)
+      fs = fields (slice at e s)
+
+      -- the line as the walk has it
+      as-read : line-of (record-by k) t fs ≡ line-of (record-of fs) (turns-of (w .read)) fs
+      as-read = rw (g, w .turns)
+
+      mark-is : m ≡ line-of (record-of fs) (turns-of (w .read)) fs .mark
+      mark-is = o .mark ∙ ap (λ (l : Line). l .mark) as-read
+
+      next-is : walk 1 start (lines s) ≡ further m n (taken (record-of fs) (line-of (record-of fs) (turns-of (w .read)) fs .row) (w .read)) (λ v. walk (n + 1) v (lines (slice (e + 1) (length s) s)))
+      next-is = sym (w .same) ∙ walk-next s at e q (w .read) n h ∙ ap (λ (a : ℕ). further a n (taken (record-of fs) (line-of (record-of fs) (turns-of (w .read)) fs .row) (w .read)) (λ v. walk (n + 1) v (lines (slice (e + 1) (length s) s)))) (sym mark-is)
+
+      pub scan-fault : (m ≡ 0 → ⊥) → Scanned (walk 1 start (lines s)) (answer m n) n0 l′
+      scan-fault z = refusal m n l′ (o .size ∙ w .size) (next-is ∙ stops m (taken (record-of fs) (line-of (record-of fs) (turns-of (w .read)) fs .row) (w .read)) (λ v. walk (n + 1) v (lines (slice (e + 1) (length s) s))) z)
+        where
+          stops : (m : ℕ) (v : Walk) (more : Walk → Outcome Rows) → (m ≡ 0 → ⊥) → further m n v more ≡ refused m n
+          stops zero v more z = absurd (z refl)
+          stops (suc m) v more z = refl
+
+      pub scan-next : (u : Turns) → u ≡ turns-after (record-by k) t → m ≡ 0 → Walking s n0 l′ (e + 1) (n + 1) u
+      scan-next u i z =
+          let p = w .line in
+          let lo = q .low in
+          let hi = q .high in
+          let y = line-of (record-of fs) (turns-of (w .read)) fs .row in
+          let fits = row-fits (record-of fs) (turns-of (w .read)) fs (sym mark-is ∙ z) in
+          let stored : VALUE ≤ n0 → l′ ≡ sets (laid (w .read .rows) (zeros (n0 - VALUE))) (place-of (record-of fs) (turns-of (w .read))) y =
+          λ v. o .row z ∙ rw (g, w .turns, w .numbers v) in
+          record {
+            read = taken (record-of fs) y (w .read);
+            turns = i ∙ rw (g, w .turns) (next-turns (w .read) y (zeros (n0 - VALUE)) (w .fit) (record-of fs) fits);
+            numbers = λ v. stored v ∙ next-numbers (w .read) y (zeros (n0 - VALUE)) (w .fit) (record-of fs) fits;
+            fit = next-fit (w .read) y (zeros (n0 - VALUE)) (w .fit) (record-of fs) fits;
+            size = o .size ∙ w .size;
+            inside = omega arith;
+            line = omega arith;
+            same = sym (next-is ∙ rw z);
+          }

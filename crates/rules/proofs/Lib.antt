@@ -1,0 +1,5 @@
+pub mod Tests
+pub mod Every
+pub mod Children
+pub mod Letters
+pub mod Verdicts

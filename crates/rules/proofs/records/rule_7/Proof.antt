@@ -1,0 +1,73 @@
+-- `rule_7` tries each action. Assumes nothing.
+use mathlib.Core.Path.{_≡_, refl, sym, ap, _∙_}
+use Prim.Native.Nat.{_-_}
+use native.Mathlib.Omega.{arith}
+use lib.ListN.{drop}
+use Rattle.meaning.specs.Lists.{every}
+use Rattle.meaning.specs.Chart.{no-action}
+use Rattle.meaning.specs.Rules.{action-fits, rule-7}
+use Rattle.meaning.specs.Value.{chart-of}
+use Rattle.rules.proofs.Tests.{refuted, held}
+use Rattle.rules.proofs.Every.{every-stop, every-next, every-done}
+use borrow.Author.Needs.{needs}
+use Rattle.rules.proofs.records.rule_7.Statement.{statement}
+use Rattle.rules.proofs.records.rule_7.Tie as tie
+
+abbrev Inv-loop : tie.InvT-loop
+Inv-loop chart n i₀ i = every (action-fits (chart-of chart)) (drop i (chart-of chart .actions)) ≡ rule-7 (chart-of chart)
+
+abbrev μ-loop : tie.MeasureT-loop
+μ-loop chart n i₀ i = n - i
+
+action-count-requires : tie.Need-action-count-requires Inv-loop μ-loop
+action-count-requires c κs = search needs
+
+loop-holds : tie.Need-loop-holds Inv-loop μ-loop
+unfolding rule-7
+loop-holds c = refl
+
+action-row-requires : tie.Need-action-row-requires Inv-loop μ-loop
+action-row-requires c κs = search needs
+
+action-fits-requires : tie.Need-action-fits-requires Inv-loop μ-loop
+action-fits-requires c κs = search needs
+
+returns : tie.Need-returns Inv-loop μ-loop
+returns c =
+    let w = c .before .before .before .before .loop in
+    let k = chart-of (c .before .before .before .before .before .before .args .chart .now) in
+    every-stop (action-fits k) (k .actions) no-action (w .i) (omega arith) (refuted (c .before .action-fits .ensures ∙ ap (action-fits k) (c .before .before .action-row .ensures)) (c .if1 .taken)) (w .inv)
+
+add-i : tie.Need-add-i Inv-loop μ-loop
+add-i c = omega arith
+
+loop-less : tie.Need-loop-less Inv-loop μ-loop
+loop-less c = omega arith
+
+loop-again : tie.Need-loop-again Inv-loop μ-loop
+loop-again c =
+    let w = c .before .before .before .before .loop in
+    let k = chart-of (c .before .before .before .before .before .before .args .chart .now) in
+    every-next (action-fits k) (k .actions) no-action (w .i) (omega arith) (held (c .before .action-fits .ensures ∙ ap (action-fits k) (c .before .before .action-row .ensures)) (c .if1 .left)) (w .inv)
+
+returns-2 : tie.Need-returns-2 Inv-loop μ-loop
+returns-2 c =
+    let w = c .before .loop in
+    let k = chart-of (c .before .before .before .args .chart .now) in
+    every-done (action-fits k) (k .actions) no-action (w .i) (omega arith) (w .inv)
+
+pub rule-7-spec : {M : Type 1} → statement M
+rule-7-spec =
+    tie.close
+    (tie.spec
+    Inv-loop
+    μ-loop
+    action-count-requires
+    loop-holds
+    action-row-requires
+    action-fits-requires
+    returns
+    add-i
+    loop-less
+    loop-again
+    returns-2)

@@ -1,0 +1,74 @@
+-- `rule_4` tries each state. Assumes nothing.
+use mathlib.Core.Path.{_≡_, refl, sym, ap, _∙_}
+use Prim.Native.Nat.{ℕ, _-_}
+use mathlib.Core.Bool.{Bool}
+use native.Mathlib.Omega.{arith}
+use lib.ListN.{length}
+use Rattle.meaning.specs.Lists.{every, from}
+use Rattle.meaning.specs.Chart.{Chart}
+use Rattle.meaning.specs.Tree.{kind-of, all-states}
+use Rattle.meaning.specs.Rules.{default-fits, rule-4}
+use Rattle.meaning.specs.Value.{chart-of}
+use Rattle.rules.proofs.Tests.{refuted, held}
+use Rattle.rules.proofs.Every.{all-start, all-stop, all-next, all-done}
+use borrow.Author.Needs.{needs}
+use Rattle.rules.proofs.states.rule_4.Statement.{statement}
+use Rattle.rules.proofs.states.rule_4.Tie as tie
+
+abbrev tried : Chart → ℕ → Bool
+tried k s = default-fits k s (kind-of k s)
+
+abbrev Inv-loop : tie.InvT-loop
+Inv-loop chart n s₀ s = every (tried (chart-of chart)) (from s (length (chart-of chart .states) - s)) ≡ rule-4 (chart-of chart)
+
+abbrev μ-loop : tie.MeasureT-loop
+μ-loop chart n s₀ s = n - s
+
+state-count-requires : tie.Need-state-count-requires Inv-loop μ-loop
+state-count-requires c κs = search needs
+
+loop-holds : tie.Need-loop-holds Inv-loop μ-loop
+unfolding rule-4 all-states
+loop-holds c = all-start (tried (chart-of (c .before .args .chart .now))) (length (chart-of (c .before .args .chart .now) .states))
+
+default-fits-requires : tie.Need-default-fits-requires Inv-loop μ-loop
+default-fits-requires c κs = search needs
+
+returns : tie.Need-returns Inv-loop μ-loop
+returns c =
+    let w = c .before .before .before .loop in
+    let k = chart-of (c .before .before .before .before .before .args .chart .now) in
+    all-stop (tried k) (length (k .states)) (w .s) (omega arith) (refuted (c .before .default-fits .ensures) (c .if1 .taken)) (w .inv)
+
+add-s : tie.Need-add-s Inv-loop μ-loop
+add-s c = omega arith
+
+loop-less : tie.Need-loop-less Inv-loop μ-loop
+loop-less c = omega arith
+
+loop-again : tie.Need-loop-again Inv-loop μ-loop
+loop-again c =
+    let w = c .before .before .before .loop in
+    let k = chart-of (c .before .before .before .before .before .args .chart .now) in
+    all-next (tried k) (length (k .states)) (w .s) (omega arith) (held (c .before .default-fits .ensures) (c .if1 .left)) (w .inv)
+
+returns-2 : tie.Need-returns-2 Inv-loop μ-loop
+returns-2 c =
+    let w = c .before .loop in
+    let k = chart-of (c .before .before .before .args .chart .now) in
+    all-done (tried k) (length (k .states)) (w .s) (omega arith) (w .inv)
+
+pub rule-4-spec : {M : Type 1} → statement M
+rule-4-spec =
+    tie.close
+    (tie.spec
+    Inv-loop
+    μ-loop
+    state-count-requires
+    loop-holds
+    default-fits-requires
+    returns
+    add-s
+    loop-less
+    loop-again
+    returns-2)

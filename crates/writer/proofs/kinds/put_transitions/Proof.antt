@@ -1,0 +1,84 @@
+use mathlib.Core.Path.{_≡_, refl, sym, ap, _∙_}
+use Prim.Native.Nat.{_-_, _≤_, _<_}
+use borrow.Author.Needs.{needs}
+use native.Mathlib.Omega.{arith}
+use lib.ListN.{length}
+use Rattle.meaning.specs.Value.{rows-of}
+use Rattle.meaning.specs.Line.{t-text}
+use Rattle.writer.specs.Pen.{pen, put-all}
+use Rattle.writer.proofs.LoopLaws.{left-from, left-more, left-none, transitions-count, transitions-at, trans-asks}
+use Rattle.writer.proofs.kinds.put_transitions.Statement.{statement}
+use Rattle.writer.proofs.kinds.put_transitions.Tie as tie
+use Rattle.writer.proofs.kinds.put_transitions.Reads as reads
+use Rattle.writer.proofs.kinds.put_transitions.Lts as lts
+use Rattle.chart.proofs.transition_count.Reads as transition-count-reads
+use Rattle.writer.proofs.rows.put_transition.Reads as put-transition-reads
+
+abbrev Inv-loop : tie.InvT-loop
+Inv-loop chart text₀ at n p₀ i₀ text p i =
+    (put-all (left-from t-text (rows-of chart .transitions) i) (pen text p) ≡ put-all (left-from t-text (rows-of chart .transitions) 0) (pen text₀ at)) × (i ≤ n) × (length text ≡ length text₀)
+
+abbrev μ-loop : tie.MeasureT-loop
+μ-loop chart text₀ at n p₀ i₀ text p i = n - i
+
+-- src/kinds.rt:55:9
+transition-count-requires : tie.Need-transition-count-requires Inv-loop μ-loop
+transition-count-requires c κs = search needs
+
+-- src/kinds.rt:58:5
+loop-holds : tie.Need-loop-holds Inv-loop μ-loop
+loop-holds c = (refl, omega arith, refl)
+
+-- src/kinds.rt:59:9
+put-transition-requires : tie.Need-put-transition-requires Inv-loop μ-loop
+put-transition-requires c κs =
+    let v = c .before .before .before .before .before .args .chart .now in
+    let n = (c .before .before .before .transition-count .ensures ∙ transitions-count (c .before .before .before .before .before .args .chart .now)) in
+    trans-asks v (c .before .before .loop .i) (c .before .before .before .before .before .pre) (omega arith)
+
+-- src/kinds.rt:60:9
+add-i : tie.Need-add-i Inv-loop μ-loop
+add-i c = search needs
+
+-- src/kinds.rt:58:5
+loop-less : tie.Need-loop-less Inv-loop μ-loop
+loop-less c = search needs
+
+-- src/kinds.rt:58:5
+loop-again : tie.Need-loop-again Inv-loop μ-loop
+loop-again c =
+    let v = c .before .before .before .before .before .before .before .before .args .chart .now in
+    let i = c .before .before .before .before .before .loop .i in
+    let n = (c .before .before .before .before .before .before .transition-count .ensures ∙ transitions-count (c .before .before .before .before .before .before .before .before .args .chart .now)) in
+    let h : i < length (rows-of v .transitions) = omega arith in (
+      left-more t-text (rows-of v .transitions) i _ _ _ h (transitions-at v i h) (c .before .before .put-transition .ensures) ∙ c .before .before .before .before .before .loop .inv .0,
+      omega arith,
+      search needs,
+    )
+
+-- src/kinds.rt:51:1
+same-length : tie.Need-same-length Inv-loop μ-loop
+same-length c = search needs
+
+-- src/kinds.rt:51:1
+returns : tie.Need-returns Inv-loop μ-loop
+returns c =
+    let v = c .before .before .before .before .args .chart .now in
+    let i = c .before .loop .i in
+    let n = (c .before .before .transition-count .ensures ∙ transitions-count (c .before .before .before .before .args .chart .now)) in
+    left-none t-text (rows-of v .transitions) i _ _ (omega arith) (c .before .loop .inv .0)
+
+pub put-transitions-spec : {M : Type 1} → statement M
+put-transitions-spec =
+    tie.close
+    (tie.spec
+    Inv-loop
+    μ-loop
+    transition-count-requires
+    loop-holds
+    put-transition-requires
+    add-i
+    loop-less
+    loop-again
+    same-length
+    returns)
