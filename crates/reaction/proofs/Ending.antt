@@ -21,6 +21,9 @@ use Rattle.widget.specs.declared.Went.{Went}
 abbrev pub Ends : Outcome → List ℤ → Called → List ℤ → Type 0
 Ends o t r t₁ = (r ≡ called o) × (t₁ ≡ lent (length t) o)
 
+pub ends-as : {o p : Outcome} (t : List ℤ) {r : Called} {t₁ : List ℤ} → p ≡ o → Ends o t r t₁ → Ends p t r t₁
+ends-as t {r} {t₁} e h = subst (λ x. Ends x t r t₁) (sym e) h
+
 pub cleared : (n p : ℕ) (u : State) (t t₁ : List ℤ) → t₁ ≡ take 0 t ++ replicate (length t - 0) (pos 0) → t₁ ≡ lent (length t) (refused n p u)
 unfolding lent refused padded
 cleared n p u t t₁ e = e

@@ -2,3 +2,4 @@ pub mod Going
 pub mod Firing
 pub mod Settling
 pub mod Ending
+pub mod RunLaws
