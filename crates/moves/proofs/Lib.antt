@@ -1,1 +1,5 @@
 pub mod Falling
+pub mod Among
+pub mod Visiting
+pub mod Descending
+pub mod Arriving

@@ -1,0 +1,329 @@
+// Entering states below a state that is in (01, "Firing" and "History"): one state, with its parent's default actions where
+// due; down by defaults; down by the slots; the restore at a history's owner; and the path to a target or to an owner.
+// `left` is how many states there can be below this one: it falls with every level.
+use super::ways::Goal;
+use super::ways::Next;
+use super::ways::by_default;
+use super::ways::goes_on;
+use super::ways::next_of;
+use super::ways::slot_of;
+use super::ways::stored;
+use acts::enter;
+use acts::perform_all;
+use chart::kind_of;
+use chart::state_count;
+use chart::tree::is_child;
+use chart::tree::is_o;
+use meaning::chart::Owner;
+use numbers::Place;
+use queue::Queue;
+use sizes::STATES;
+use sizes::VARIABLES;
+use widget::Went;
+ghost use mathlib.Core.Path.{_≡_};
+ghost use mathlib.Core.Bool.{Bool};
+ghost use mathlib.Core.List.{List};
+ghost use Prim.Native.Nat.{_≤_, _<_};
+ghost use lib.ListN.{length};
+ghost use lib.IntN.{ℤ};
+ghost use Rattle.sizes.specs.Sizes.{STATES as states};
+ghost use Rattle.meaning.specs.Steps.{each};
+ghost use Rattle.meaning.specs.Tree.{kind-of as kind-in};
+ghost use Rattle.meaning.specs.Entry.{plain, below, by-defaults, visit as visits, revisit as revisits, restore as restores};
+ghost use Rattle.meaning.specs.Value.{chart-of};
+ghost use Rattle.walks.specs.Walks.{Ruled};
+ghost use Rattle.widget.specs.View.{Within, Did};
+ghost use Rattle.moves.specs.Moves.{way-by, stored-way, goal-way, goal-visit, defaulting, visit-as, Inside, Led};
+
+// Enters s, a child of p, which goes on so: "a state entered by its parent's default has that default's actions run just
+// before it".
+fn visit(
+    chart: &[i32],
+    arg: i32,
+    next: Next,
+    p: usize,
+    s: usize,
+    active: &mut [bool; STATES],
+    vars: &mut [i32; VARIABLES],
+    queue: Queue,
+    trace: &mut [i32],
+    at: usize,
+) -> Went
+    requires { ⌜ Ruled (now chart) × (s < states) × (at ≤ length (now trace)) ⌝ }
+    ensures { λ r. ⌜ Within (now (trace .entry)) r (now (trace .exit)) × ((slots : List ℤ) → Did (visits (chart-of (now (chart .entry))) arg (visit-as (defaulting (kind-in (chart-of (now (chart .entry))) p) (way-by next)) p s)) (now (active .entry)) slots (now (vars .entry)) queue (now (trace .entry)) at r (now (active .exit)) slots (now (vars .exit)) (now (trace .exit))) ⌝ }
+{
+    if !by_default(chart, p, next) {
+        return enter(chart, arg, s, active, vars, queue, trace, at);
+    }
+    let first = perform_all(chart, arg, Owner::DefaultOf(p), vars, queue, trace, at);
+    if first.number != 0 {
+        return first;
+    }
+    let waiting = first.queue;
+    enter(chart, arg, s, active, vars, waiting, trace, first.at)
+}
+
+// Enters s in a restore, without default actions; 14, a restore meets an empty slot below its owner.
+fn revisit(
+    chart: &[i32],
+    arg: i32,
+    s: usize,
+    active: &mut [bool; STATES],
+    slots: &[i32; STATES],
+    vars: &mut [i32; VARIABLES],
+    queue: Queue,
+    trace: &mut [i32],
+    at: usize,
+) -> Went
+    requires { ⌜ Ruled (now chart) × (s < states) × (length (now slots) ≡ states) × (at ≤ length (now trace)) ⌝ }
+    ensures { λ r. ⌜ Did (revisits (chart-of (now (chart .entry))) arg (plain s)) (now (active .entry)) (now (slots .entry)) (now (vars .entry)) queue (now (trace .entry)) at r (now (active .exit)) (now (slots .entry)) (now (vars .exit)) (now (trace .exit)) ⌝ }
+{
+    let went = enter(chart, arg, s, active, vars, queue, trace, at);
+    if went.number != 0 {
+        return went;
+    }
+    if !is_o(kind_of(chart, s)) {
+        return went;
+    }
+    let Place::Empty = slot_of(slots, s) else {
+        return went;
+    };
+    let waiting = went.queue;
+    Went {
+        number: 14,
+        at: went.at,
+        queue: waiting,
+    }
+}
+
+// Below s, which is in, everything is entered by default.
+pub fn by_defaults(
+    chart: &[i32],
+    arg: i32,
+    s: usize,
+    left: usize,
+    active: &mut [bool; STATES],
+    vars: &mut [i32; VARIABLES],
+    queue: Queue,
+    trace: &mut [i32],
+    at: usize,
+) -> Went
+    requires { ⌜ Ruled (now chart) × (s < length (chart-of (now chart) .states)) × (at ≤ length (now trace)) ⌝ }
+    ensures { λ r. ⌜ Within (now (trace .entry)) r (now (trace .exit)) × ((slots : List ℤ) → Did (each (visits (chart-of (now (chart .entry))) arg) (below (chart-of (now (chart .entry))) by-defaults left s)) (now (active .entry)) slots (now (vars .entry)) queue (now (trace .entry)) at r (now (active .exit)) slots (now (vars .exit)) (now (trace .exit))) ⌝ }
+{
+    let kids = goes_on(chart, s, Next::Defaults, left);
+    let mut went = Went {
+        number: 0,
+        at: at,
+        queue: queue,
+    };
+    for d in kids.first..kids.end {
+        if !is_child(chart, s, d) {
+            continue;
+        }
+        let waiting = went.queue;
+        went = visit(
+            chart,
+            arg,
+            Next::Defaults,
+            s,
+            d,
+            active,
+            vars,
+            waiting,
+            trace,
+            went.at,
+        );
+        if went.number != 0 {
+            return went;
+        }
+        let onward = went.queue;
+        went = by_defaults(
+            chart,
+            arg,
+            d,
+            left - 1,
+            active,
+            vars,
+            onward,
+            trace,
+            went.at,
+        );
+        if went.number != 0 {
+            return went;
+        }
+    }
+    went
+}
+
+// "Its stored child is entered and so on down by the slots, without default actions".
+pub fn by_slots(
+    chart: &[i32],
+    arg: i32,
+    s: usize,
+    left: usize,
+    active: &mut [bool; STATES],
+    slots: &[i32; STATES],
+    vars: &mut [i32; VARIABLES],
+    queue: Queue,
+    trace: &mut [i32],
+    at: usize,
+) -> Went
+    requires { ⌜ Ruled (now chart) × (s < length (chart-of (now chart) .states)) × Led (chart-of (now chart)) (now slots) × (at ≤ length (now trace)) ⌝ }
+    ensures { λ r. ⌜ Did (each (revisits (chart-of (now (chart .entry))) arg) (below (chart-of (now (chart .entry))) (stored-way (now (slots .entry))) left s)) (now (active .entry)) (now (slots .entry)) (now (vars .entry)) queue (now (trace .entry)) at r (now (active .exit)) (now (slots .entry)) (now (vars .exit)) (now (trace .exit)) ⌝ }
+{
+    let kids = goes_on(chart, s, stored(slots, s), left);
+    let mut went = Went {
+        number: 0,
+        at: at,
+        queue: queue,
+    };
+    for d in kids.first..kids.end {
+        if !is_child(chart, s, d) {
+            continue;
+        }
+        let waiting = went.queue;
+        went = revisit(chart, arg, d, active, slots, vars, waiting, trace, went.at);
+        if went.number != 0 {
+            return went;
+        }
+        let onward = went.queue;
+        went = by_slots(
+            chart,
+            arg,
+            d,
+            left - 1,
+            active,
+            slots,
+            vars,
+            onward,
+            trace,
+            went.at,
+        );
+        if went.number != 0 {
+            return went;
+        }
+    }
+    went
+}
+
+// "If its slot is filled, its stored child is entered and so on down by the slots .. If empty, the default is taken": below
+// the owner b, which is in.
+pub fn restore(
+    chart: &[i32],
+    arg: i32,
+    b: usize,
+    active: &mut [bool; STATES],
+    slots: &[i32; STATES],
+    vars: &mut [i32; VARIABLES],
+    queue: Queue,
+    trace: &mut [i32],
+    at: usize,
+) -> Went
+    requires { ⌜ Ruled (now chart) × (b < length (chart-of (now chart) .states)) × Led (chart-of (now chart)) (now slots) × (at ≤ length (now trace)) ⌝ }
+    ensures { λ r. ⌜ Did (restores (chart-of (now (chart .entry))) arg b) (now (active .entry)) (now (slots .entry)) (now (vars .entry)) queue (now (trace .entry)) at r (now (active .exit)) (now (slots .entry)) (now (vars .exit)) (now (trace .exit)) ⌝ }
+{
+    let left = state_count(chart);
+    let Place::Empty = slot_of(slots, b) else {
+        return by_slots(chart, arg, b, left, active, slots, vars, queue, trace, at);
+    };
+    by_defaults(chart, arg, b, left, active, vars, queue, trace, at)
+}
+
+// Enters s, a child of p on the way to the goal; "History: the owner is entered", and then what its slot says.
+fn arrive(
+    chart: &[i32],
+    arg: i32,
+    goal: Goal,
+    p: usize,
+    s: usize,
+    active: &mut [bool; STATES],
+    slots: &[i32; STATES],
+    vars: &mut [i32; VARIABLES],
+    queue: Queue,
+    trace: &mut [i32],
+    at: usize,
+) -> Went
+    requires { ⌜ Ruled (now chart) × (s < length (chart-of (now chart) .states)) × Led (chart-of (now chart)) (now slots) × (at ≤ length (now trace)) ⌝ }
+    ensures { λ r. ⌜ Did (goal-visit (chart-of (now (chart .entry))) arg goal (visit-as (defaulting (kind-in (chart-of (now (chart .entry))) p) (goal-way (chart-of (now (chart .entry))) goal p)) p s)) (now (active .entry)) (now (slots .entry)) (now (vars .entry)) queue (now (trace .entry)) at r (now (active .exit)) (now (slots .entry)) (now (vars .exit)) (now (trace .exit)) ⌝ }
+{
+    let next = next_of(chart, goal, p);
+    let went = visit(chart, arg, next, p, s, active, vars, queue, trace, at);
+    if went.number != 0 {
+        return went;
+    }
+    let Goal::Owner(b) = goal else {
+        return went;
+    };
+    if s != b {
+        return went;
+    }
+    let waiting = went.queue;
+    restore(chart, arg, b, active, slots, vars, waiting, trace, went.at)
+}
+
+// Below s, which is in: "the path from below the scope to the target; in each a state every component; below that,
+// defaults", or the same to the owner of a history.
+pub fn towards(
+    chart: &[i32],
+    arg: i32,
+    goal: Goal,
+    s: usize,
+    left: usize,
+    active: &mut [bool; STATES],
+    slots: &[i32; STATES],
+    vars: &mut [i32; VARIABLES],
+    queue: Queue,
+    trace: &mut [i32],
+    at: usize,
+) -> Went
+    requires { ⌜ Ruled (now chart) × Inside (chart-of (now chart)) goal × (s < length (chart-of (now chart) .states)) × Led (chart-of (now chart)) (now slots) × (at ≤ length (now trace)) ⌝ }
+    ensures { λ r. ⌜ Did (each (goal-visit (chart-of (now (chart .entry))) arg goal) (below (chart-of (now (chart .entry))) (goal-way (chart-of (now (chart .entry))) goal) left s)) (now (active .entry)) (now (slots .entry)) (now (vars .entry)) queue (now (trace .entry)) at r (now (active .exit)) (now (slots .entry)) (now (vars .exit)) (now (trace .exit)) ⌝ }
+{
+    let kids = goes_on(chart, s, next_of(chart, goal, s), left);
+    let mut went = Went {
+        number: 0,
+        at: at,
+        queue: queue,
+    };
+    for d in kids.first..kids.end {
+        if !is_child(chart, s, d) {
+            continue;
+        }
+        let waiting = went.queue;
+        went = arrive(
+            chart,
+            arg,
+            goal,
+            s,
+            d,
+            active,
+            slots,
+            vars,
+            waiting,
+            trace,
+            went.at,
+        );
+        if went.number != 0 {
+            return went;
+        }
+        let onward = went.queue;
+        went = towards(
+            chart,
+            arg,
+            goal,
+            d,
+            left - 1,
+            active,
+            slots,
+            vars,
+            onward,
+            trace,
+            went.at,
+        );
+        if went.number != 0 {
+            return went;
+        }
+    }
+    went
+}
