@@ -25,7 +25,7 @@ use Rattle.widget.specs.declared.Went.{Went}
 use Rattle.invariants.proofs.Good.{Good}
 use Rattle.invariants.proofs.Slots.{slot-child}
 use Rattle.reaction.specs.Ready.{Ready}
-use Rattle.reaction.specs.Led.{Led}
+use Rattle.moves.specs.Moves.{Led}
 
 pub sized : (v : List ℤ) → Ruled v → Sized-chart (chart-of v)
 sized v r = sized-chart v (rules-passed v r .0)
@@ -48,6 +48,9 @@ module _ {F : Step Ctx} {a : List Bool} {sl vs : List ℤ} {q : Queue} {t : List
 
 -- the slots of a widget that is ready lead to children
 pub ready-led : {v : List ℤ} {a : List Bool} {sl vs : List ℤ} {q : Queue} {t : List ℤ} {at : ℕ} → Ready v a sl vs q t at → Led (chart-of v) sl
-ready-led {v} {a} {sl} {vs} {q} {t} {at} h s d e =
-    let k = slot-child (chart-of v) sl (unfold ctx in h .good .slots) s d e in
-    (k .1, k .2)
+ready-led {v} {a} {sl} {vs} {q} {t} {at} h = record { long = unfold ctx in h .good .sized .slots; holding = holding }
+  where
+    holding : (s d : ℕ) → placeOf (getD sl s (negsuc 0)) ≡ holds d → (is-child (chart-of v) s d ≡ true) × (d < length (chart-of v .states))
+    holding s d e =
+        let k = slot-child (chart-of v) sl (unfold ctx in h .good .slots) s d e in
+        (k .1, k .2)

@@ -3,3 +3,5 @@ pub mod Firing
 pub mod Settling
 pub mod Ending
 pub mod RunLaws
+pub mod StartLaws
+pub mod ByRules

@@ -1,44 +1,18 @@
 // Steps (01, "One reaction"): all chosen transitions fire, in their order; null steps follow until none is enabled.
 use choice::Chosen;
 use choice::choose;
+use firing::fire;
 use queue::Queue;
 use sizes::NULL_STEPS;
 use sizes::STATES;
 use sizes::VARIABLES;
 use widget::Went;
-ghost use mathlib.Core.Path.{_≡_};
-ghost use Prim.Native.Nat.{_≤_, _<_};
-ghost use lib.ListN.{length};
-ghost use lib.IntN.{pos};
 ghost use Rattle.meaning.specs.Steps.{each};
 ghost use Rattle.meaning.specs.Reaction.{fire as fires, step as one-step, settle as settles};
 ghost use Rattle.meaning.specs.Value.{chart-of};
-ghost use Rattle.walks.specs.Walks.{Ruled};
 ghost use Rattle.widget.specs.View.{Did};
 ghost use Rattle.choice.specs.Choice.{picked};
-ghost use Rattle.reaction.specs.Led.{Led};
 ghost use Rattle.reaction.specs.Ready.{Ready, Fires};
-
-pub fn fire(
-    chart: &[i32],
-    arg: i32,
-    t: usize,
-    active: &mut [bool; STATES],
-    slots: &mut [i32; STATES],
-    vars: &mut [i32; VARIABLES],
-    queue: Queue,
-    trace: &mut [i32],
-    at: usize,
-) -> Went
-    requires { ⌜ Ruled (now chart) × (t < length (chart-of (now chart) .transitions)) × Led (chart-of (now chart)) (now slots) × (at ≤ length (now trace)) ⌝ }
-    ensures { λ r. ⌜ Did (fires (chart-of (now (chart .entry))) arg t) (now (active .entry)) (now (slots .entry)) (now (vars .entry)) queue (now (trace .entry)) at r (now (active .exit)) (now (slots .exit)) (now (vars .exit)) (now (trace .exit)) ⌝ }
-{
-    Went {
-        number: 0,
-        at: at,
-        queue: queue,
-    }
-}
 
 // "They fire in that order": the chosen, one after the other.
 fn fire_all(
