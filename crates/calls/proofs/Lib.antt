@@ -4,3 +4,4 @@ pub mod Values
 pub mod Slots
 pub mod Whole
 pub mod Answering
+pub mod Ruled

@@ -3,3 +3,4 @@ pub mod Lines
 pub mod ReportLaws
 pub mod Room
 pub mod Session
+pub mod Lent

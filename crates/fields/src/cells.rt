@@ -16,6 +16,12 @@ ghost use Rattle.meaning.specs.Number.{number-of};
 ghost use Rattle.meaning.specs.Split.{fields};
 ghost use Rattle.meaning.specs.Line.{field as field-of, cell-of, letter-by, count-cell, is-turn, number-cell, dash-cell, letter-cell, number-or-dash, letter-or-dash, target-cells};
 
+// A field that is "-".
+const DASH: Cell = Cell {
+    mark: 0,
+    value: ABSENT,
+};
+
 // What a number field gives.
 fn cell_of(n: Num) -> Cell
     ensures { λ r. ⌜ r ≡ cell-of n ⌝ }
@@ -85,10 +91,7 @@ pub fn dash_at(s: &[u8], from: usize, to: usize, k: usize) -> Cell
     ensures { λ r. ⌜ r ≡ dash-cell (field-of (fields (slice from to (now (s .entry)))) k) ⌝ }
 {
     if letter_at(s, from, to, k) == b'-' {
-        return Cell {
-            mark: 0,
-            value: ABSENT,
-        };
+        return DASH;
     }
     Cell { mark: 1, value: 0 }
 }
@@ -170,13 +173,9 @@ pub fn target_at(s: &[u8], from: usize, to: usize, k: usize) -> Aim
 {
     let plain = Cell { mark: 0, value: 0 };
     if letter_at(s, from, to, k) == b'-' {
-        let dash = Cell {
-            mark: 0,
-            value: ABSENT,
-        };
         return Aim {
-            letter: dash,
-            state: dash,
+            letter: DASH,
+            state: DASH,
         };
     }
     let p = field(s, from, to, k);

@@ -109,9 +109,13 @@ first-failing n [] = none
 first-failing n (true ∷ bs) = first-failing (suc n) bs
 first-failing n (false ∷ bs) = some n
 
+-- R1 to R7, in order
+abbrev pub rules-of : Chart → List Bool
+rules-of c = rule-1 c ∷ rule-2 c ∷ rule-3 c ∷ rule-4 c ∷ rule-5 c ∷ rule-6 c ∷ rule-7 c ∷ []
+
 -- the first of R1 to R7 that fails
 unfoldable pub failing-rule : Chart → Option ℕ
-failing-rule c = first-failing 1 (rule-1 c ∷ rule-2 c ∷ rule-3 c ∷ rule-4 c ∷ rule-5 c ∷ rule-6 c ∷ rule-7 c ∷ [])
+failing-rule c = first-failing 1 (rules-of c)
 
 abbrev pub after-rule-0 : Bool → Chart → Option ℕ
 after-rule-0 true c = failing-rule c

@@ -11,7 +11,7 @@ use Rattle.sizes.specs.Sizes.{STATES, VARIABLES, EVENTS, TRANSITIONS, INSTRUCTI
 use Rattle.numbers.specs.Equal.{eqZ}
 use Rattle.numbers.specs.Range.{inRange}
 use Rattle.numbers.specs.Reference.{ref}
-use Rattle.meaning.specs.Lists.{every, every-from, concat-map, chunks}
+use Rattle.meaning.specs.Lists.{every, concat-map, chunks}
 use Rattle.meaning.specs.Chart.{equal, less, more, Guard, always, compares, set-to, add-to, take-to, send, tell, VarRow}
 use Rattle.meaning.specs.Value.{num, size-by, count-fits, VAR-ROW, var-by, var-statable}
 use Rattle.meaning.specs.Rules.{row-fits}
@@ -165,21 +165,26 @@ all-blocks-fill ns k = leZ (pos 0) (num ns 5) && blocks-fill (k .instructions) (
 pub data Field : Type 0 where
   a-state a-parent a-variable an-event a-constant a-skip unused : Field
 
--- the numbers after the code, for the codes 0 to 11; there is no code 0
-abbrev pub FORMS : List (List Field)
+-- the three numbers after the code
+pub data Form : Type 0 where
+  no-form : Form
+  form : Field → Field → Field → Form
+
+-- for the codes 0 to 11; "codes are 1 to 11"
+abbrev pub FORMS : List Form
 FORMS =
-    []
-    ∷ (a-state ∷ unused ∷ unused ∷ [])
-    ∷ (a-state ∷ a-parent ∷ unused ∷ [])
-    ∷ (a-state ∷ a-skip ∷ unused ∷ [])
-    ∷ (a-state ∷ a-skip ∷ unused ∷ [])
-    ∷ (a-state ∷ a-skip ∷ unused ∷ [])
-    ∷ (a-state ∷ a-state ∷ a-skip ∷ [])
-    ∷ (a-variable ∷ a-constant ∷ unused ∷ [])
-    ∷ (a-variable ∷ a-constant ∷ unused ∷ [])
-    ∷ (a-variable ∷ unused ∷ unused ∷ [])
-    ∷ (an-event ∷ a-constant ∷ unused ∷ [])
-    ∷ (a-constant ∷ unused ∷ unused ∷ [])
+    no-form
+    ∷ form a-state unused unused
+    ∷ form a-state a-parent unused
+    ∷ form a-state a-skip unused
+    ∷ form a-state a-skip unused
+    ∷ form a-state a-skip unused
+    ∷ form a-state a-state a-skip
+    ∷ form a-variable a-constant unused
+    ∷ form a-variable a-constant unused
+    ∷ form a-variable unused unused
+    ∷ form an-event a-constant unused
+    ∷ form a-constant unused unused
     ∷ []
 
 -- "states, variables and events named exist, p may be -1, a sent event is 1 or more, constants are in range, unused numbers are 0; and a
@@ -193,13 +198,13 @@ field-fits k left a-constant z = inRange z
 field-fits k left a-skip z = count-fits 0 left z
 field-fits k left unused z = eqZ z (pos 0)
 
--- "codes are 1 to 11": no other has a form
-unfoldable pub form-fits : Counts → ℕ → List Field → List ℤ → Bool
-form-fits k left [] row = false
-form-fits k left (f ∷ fs) row = every-from (λ i g. field-fits k left g (num row i)) 1 (f ∷ fs)
+unfoldable pub form-fits : Counts → ℕ → Form → List ℤ → Bool
+form-fits k left no-form row = false
+form-fits k left (form f g h) row = field-fits k left f (num row 1) && (field-fits k left g (num row 2) && field-fits k left h (num row 3))
 
+-- the instruction that the row begins with
 unfoldable pub instr-fits : Counts → ℕ → List ℤ → Bool
-instr-fits k left row = form-fits k left (getD FORMS (ref (num row 0)) []) row
+instr-fits k left row = form-fits k left (getD FORMS (ref (num row 0)) no-form) row
 
 -- for each instruction of a block of n: how many of the block follow it
 unfoldable pub left-after-each : ℕ → List ℕ
@@ -210,11 +215,11 @@ left-after-each (suc n) = n ∷ left-after-each n
 unfoldable pub left-in-blocks : List ℤ → Counts → List ℕ
 left-in-blocks ns k = concat-map left-after-each (k .start ∷ map (λ row. ref (num row 9)) (head-rows ns k))
 
-unfoldable pub code-fits : Counts → List ℕ → List (List ℤ) → Bool
-code-fits k lefts [] = true
-code-fits k [] (row ∷ rows) = false
-code-fits k (left ∷ lefts) (row ∷ rows) = elim (instr-fits k left row) [
-  | true ↦ code-fits k lefts rows
+-- instruction after instruction; for each, how many of its block follow it
+unfoldable pub code-fits : Counts → List ℕ → List ℤ → Bool
+code-fits k [] ns = true
+code-fits k (left ∷ lefts) ns = elim (instr-fits k left ns) [
+  | true ↦ code-fits k lefts (drop INSTR-ROW ns)
   | false ↦ false
 ]
 
@@ -222,7 +227,7 @@ code-fits k (left ∷ lefts) (row ∷ rows) = elim (instr-fits k left row) [
 
 unfoldable pub rows-well-formed : List ℤ → Counts → Bool
 rows-well-formed ns k = elim (every var-keeps (var-rows ns k) && (every (head-fits k) (head-rows ns k) && all-blocks-fill ns k)) [
-  | true ↦ code-fits k (left-in-blocks ns k) (code-rows ns k)
+  | true ↦ code-fits k (left-in-blocks ns k) (drop (code-at k) ns)
   | false ↦ false
 ]
 
@@ -231,10 +236,12 @@ unfoldable pub is-whole : List ℤ → Counts → Bool
 is-whole ns k = leb (plan-end k) (length ns)
 
 unfoldable pub well-formed : List ℤ → Bool
-well-formed ns = elim (counts-keep ns && is-whole ns (counts-of ns)) [
-  | true ↦ rows-well-formed ns (counts-of ns)
-  | false ↦ false
-]
+well-formed ns =
+    let k = counts-of ns in
+    elim (counts-keep ns && is-whole ns k) [
+      | true ↦ rows-well-formed ns k
+      | false ↦ false
+    ]
 
 -- everything above, opened: for statements that compute
 unfoldable pub well-formed-open : ℕ

@@ -13,14 +13,11 @@ use Rattle.numbers.specs.declared.Place.the-variants.{At as holds}
 use Rattle.meaning.specs.Chart.{Chart}
 use Rattle.meaning.specs.declared.chart.Kind.{Kind}
 use Rattle.meaning.specs.declared.chart.Kind.the-variants.{A as kind-a, B as kind-b, O as kind-o}
-use Rattle.meaning.specs.declared.chart.Owner.the-variants.{TransitionOf as transition-of}
-use Rattle.meaning.specs.Effects.{perform-all}
-use Rattle.meaning.specs.Reaction.{leave-all}
 use Rattle.meaning.specs.Lists.{concat-map, from, keep}
-use Rattle.meaning.specs.Steps.{Step, _then_, each}
-use Rattle.meaning.specs.Tree.{kind-of, is-child, descendants}
+use Rattle.meaning.specs.Steps.{Step}
+use Rattle.meaning.specs.Tree.{kind-of, is-child}
 use Rattle.meaning.specs.Widget.{Ctx}
-use Rattle.meaning.specs.Entry.{Visit, plain, by-default, Way, on-to, defaults, stops, below, all-below, slot-way, towards, towards-owner, visit, visit-towards}
+use Rattle.meaning.specs.Entry.{Visit, plain, by-default, Way, on-to, defaults, stops, below, slot-way, towards, towards-owner, visit, visit-towards}
 use Rattle.moves.specs.declared.ways.Next.{Next}
 use Rattle.moves.specs.declared.ways.Next.the-variants.{OnTo, Defaults, Stops}
 use Rattle.moves.specs.declared.ways.Goal.{Goal}
@@ -83,10 +80,3 @@ pub record Kids (c : Chart) (next : Way) (s left first end : ℕ) : Type 0 where
   pub more : first < end → 0 < left
   pub goes : (way : ℕ → Way) → way s ≡ next
       → below c way left s ≡ concat-map (λ d. visit-as (defaulting (kind-of c s) next) s d ∷ below c way (left - 1) d) (keep (is-child c s) (from first (end - first)))
-
--- "the active states of the span are left .. Then the transition's actions. Then states are entered": from the scope to the goal
-unfoldable pub moving : Chart → ℤ → ℕ → Goal → ℕ → Step Ctx
-moving c a t goal from =
-    leave-all c a (descendants c from)
-    then perform-all c a (transition-of t)
-    then each (goal-visit c a goal) (all-below c (goal-way c goal) from)

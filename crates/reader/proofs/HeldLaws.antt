@@ -52,14 +52,17 @@ module _ (r : Rows) (z y : List ℤ) (f : Fit r) where
   wide-area : (n k m : ℕ) (rs : List (List ℤ)) → Wide k rs → length rs ≤ m → m * k ≤ n → length rs * k ≤ m * k → length (area n rs) ≡ n
   wide-area n k m rs w h g l = let e = length-flat k rs w in length-area n rs (omega arith)
 
-  s-long : length (area (STATES * STATE-ROW) (r .states)) ≡ STATES * STATE-ROW
+  pub s-long : length (area (STATES * STATE-ROW) (r .states)) ≡ STATES * STATE-ROW
   s-long = let h = f .few-states in wide-area (STATES * STATE-ROW) STATE-ROW STATES (r .states) (f .states) h (omega arith) (omega arith)
 
-  v-long : length (area (VARIABLES * VAR-ROW) (r .vars)) ≡ VARIABLES * VAR-ROW
+  pub v-long : length (area (VARIABLES * VAR-ROW) (r .vars)) ≡ VARIABLES * VAR-ROW
   v-long = let h = f .few-vars in wide-area (VARIABLES * VAR-ROW) VAR-ROW VARIABLES (r .vars) (f .vars) h (omega arith) (omega arith)
 
-  t-long : length (area (TRANSITIONS * TRANS-ROW) (r .transitions)) ≡ TRANSITIONS * TRANS-ROW
+  pub t-long : length (area (TRANSITIONS * TRANS-ROW) (r .transitions)) ≡ TRANSITIONS * TRANS-ROW
   t-long = let h = f .few-transitions in wide-area (TRANSITIONS * TRANS-ROW) TRANS-ROW TRANSITIONS (r .transitions) (f .transitions) h (omega arith) (omega arith)
+
+  pub a-long : length (area (ACTIONS * ACT-ROW) (r .actions)) ≡ ACTIONS * ACT-ROW
+  a-long = let h = f .few-actions in wide-area (ACTIONS * ACT-ROW) ACT-ROW ACTIONS (r .actions) (f .actions) h (omega arith) (omega arith)
 
   store-s : length (r .states) < STATES → length y ≡ STATE-ROW → sets (laid r z) (STATES-AT + length (r .states) * STATE-ROW) y ≡ laid (with-row s-record y r) z
   unfolding laid with-row five

@@ -15,7 +15,7 @@ use Rattle.sizes.specs.Sizes.{TEXT}
 use Rattle.meaning.specs.Value.{Rows, VALUE}
 use Rattle.meaning.specs.Split.{fields, lines}
 use Rattle.meaning.specs.Line.{line-of}
-use Rattle.meaning.specs.Text.{Outcome, done, refused, answer, answer-of, Walk, start, turns-of, taken, further, record-of, ending, walk, read-text, value-of}
+use Rattle.meaning.specs.Text.{Outcome, done, refused, answer, answer-of, Walk, start, turns-of, taken, further, record-of, ending, walk, read-unless, read-text, value-of}
 use Rattle.meaning.specs.declared.Answer.{Answer}
 use Rattle.reader.specs.Scanned.{zeros, Fit, Scanned}
 use Rattle.reader.specs.RowsRead.{roomy-if, roomy, Left, RowsRead}
@@ -51,6 +51,14 @@ never-zero n w (line ∷ next ∷ rest) p e = go (line-of (record-of (fields lin
         → ((v : Walk) → walk (n + 1) v (next ∷ rest) ≡ refused 0 p → ⊥) → ⊥
     go zero e ih = ih (taken (record-of (fields line)) (line-of (record-of (fields line)) (turns-of w) (fields line) .row) w) e
     go (suc m) e ih = let z : _≡_ {A = ℕ} 0 1 = cc in absurd (omega arith)
+
+pub read-never-zero : (s : List ℕ) (p : ℕ) → read-text s ≡ refused 0 p → ⊥
+unfolding read-text
+read-never-zero s p e = go (ltb TEXT (length s)) e
+  where
+    go : (b : Bool) → read-unless b s ≡ refused 0 p → ⊥
+    go true e = let z : _≡_ {A = ℕ} 0 1 = cc in absurd (omega arith)
+    go false e = never-zero 1 start (lines s) p e
 
 -- ---- the whole
 module _ (s : List ℕ) (n : ℕ) where

@@ -13,6 +13,15 @@ ghost use Rattle.meaning.specs.Split.{lines};
 ghost use Rattle.meaning.specs.Text.{walk as walk-of, start};
 ghost use Rattle.reader.specs.Scanned.{zeros, Scanned};
 
+// Before the first line.
+const START: Turns = Turns {
+    stage: 0,
+    states: 0,
+    vars: 0,
+    transitions: 0,
+    actions: 0,
+};
+
 // From numbers that are all 0. Where the answer is not 0, or there are too few for a value, what stands in them afterwards is of no use.
 pub fn walk(text: &[u8], chart: &mut [i32]) -> Answer
     requires { ⌜ now chart ≡ zeros (length (now chart)) ⌝ }
@@ -20,27 +29,19 @@ pub fn walk(text: &[u8], chart: &mut [i32]) -> Answer
 {
     let mut at: usize = 0;
     let mut n: usize = 1;
-    let mut turns = Turns {
-        stage: 0,
-        states: 0,
-        vars: 0,
-        transitions: 0,
-        actions: 0,
-    };
+    let mut turns = START;
     loop {
         let step = line_from(text, at);
         let Step::Line(e) = step else {
+            let fault = Answer {
+                number: 1,
+                place: n,
+            };
             if at < text.len() {
-                return Answer {
-                    number: 1,
-                    place: n,
-                };
+                return fault;
             }
             if turns.stage < 2 {
-                return Answer {
-                    number: 1,
-                    place: n,
-                };
+                return fault;
             }
             put_counts(chart, turns);
             return Answer {

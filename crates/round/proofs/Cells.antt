@@ -1,28 +1,25 @@
 -- Fields of a line both ways: a field that reads well is the written form of its value; a value that a text can state, written, reads as itself.
 -- In the order: marks; tests of letters and absence; what was read is what is written; what is written reads the same. Assumes nothing.
 use mathlib.Core.Path.{_≡_, refl, sym, ap, _∙_}
-use mathlib.Core.Bool.{Bool, true, false, not, cond, _&&_, _||_, true≢false, false≢true}
-use mathlib.Core.List.{List, [], _∷_, _++_}
-use Prim.Native.Nat.{ℕ, zero, suc, _+_, _-_, _≤_, _<_}
+use mathlib.Core.Bool.{Bool, true, false, cond, _&&_, _||_, true≢false, false≢true}
+use mathlib.Core.List.{List, [], _∷_}
+use Prim.Native.Nat.{ℕ, zero, suc, _≤_, _<_}
 use native.Mathlib.Omega.{arith}
-use lib.Dec.{eqb, leb, ltb}
+use lib.Dec.{eqb, ltb}
 use lib.IntN.{ℤ, pos, negsuc, natAbs}
-use lib.ListN.{length, getD}
-use borrow.Author.Tests.{eq-eqb, ne-eqb, eqb-true, eqb-false, leb-true, le-leb, ltb-true}
-use Rattle.sizes.specs.Sizes.{MOST}
-use Rattle.numbers.specs.Equal.{eqZ}
+use borrow.Author.Tests.{ne-eqb, eqb-true, eqb-false, ltb-true}
 use Rattle.numbers.specs.Range.{inRange}
 use Rattle.numbers.specs.Reference.{ref}
 use Rattle.numbers.proofs.Laws.{eqZ-true, eqZ-refl, eqZ-ne}
 use Rattle.meaning.specs.Lists.{has}
-use Rattle.meaning.specs.Value.{ABSENT, is-letter, is-absent, one-of-letters, number-if, guard-statable, target-statable}
-use Rattle.meaning.specs.Number.{number-of, digits, numeral}
-use Rattle.meaning.specs.Line.{worse, room, cell, cell-of, letter-of, is-dash, number-cell, dash-cell, letter-cell, number-or-dash, letter-or-dash}
-use Rattle.meaning.specs.Line.{starts-with-h, without-h, target-cells-by, target-cells, number-text, letter-text, target-text}
+use Rattle.meaning.specs.Value.{ABSENT, is-letter, is-absent, one-of-letters, number-if, target-statable}
+use Rattle.meaning.specs.Number.{number-of, numeral}
+use Rattle.meaning.specs.Line.{worse, room, cell, cell-of, letter-of, is-dash, number-cell, dash-cell, letter-cell, number-or-dash}
+use Rattle.meaning.specs.Line.{starts-with-h, target-cells-by, target-cells, number-text, letter-text, target-text}
 use Rattle.meaning.specs.declared.Num.{Num}
 use Rattle.meaning.specs.declared.Num.the-variants.{Is, Beyond, Not}
 use Rattle.meaning.specs.declared.Cell.{Cell}
-use Rattle.round.proofs.Numbers.{no, number-writes, number-back, in-range-size, size-in-range, lead, Lead}
+use Rattle.round.proofs.Numbers.{no, number-writes, number-back, in-range-size, size-in-range, lead}
 
 -- ---- marks: neither 1 nor 2
 

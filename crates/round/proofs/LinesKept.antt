@@ -1,23 +1,22 @@
 -- A line that the reader takes is the written form of the row that it states, and a text can state that row: for S, V, E, T and A.
 -- In the order: lists by their places; lines of the right form; the five kinds. Assumes nothing.
 use mathlib.Core.Path.{_≡_, refl, sym, ap, _∙_, subst}
-use mathlib.Core.Bool.{Bool, true, false, not, cond, _&&_, _||_, true≢false, false≢true}
-use mathlib.Core.List.{List, [], _∷_, _++_}
-use Prim.Native.Nat.{ℕ, zero, suc, _+_, _≤_, _<_}
+use mathlib.Core.Bool.{Bool, true, false, not, cond}
+use mathlib.Core.List.{List, [], _∷_}
+use Prim.Native.Nat.{ℕ, zero, suc, _≤_, _<_}
 use native.Mathlib.Omega.{arith}
-use lib.Dec.{eqb, leb, ltb}
+use lib.Dec.{eqb, leb}
 use lib.IntN.{ℤ, pos, negsuc}
 use lib.ListN.{length, getD}
-use borrow.Author.Tests.{eqb-true, leb-true, not-true, not-false}
+use borrow.Author.Tests.{eqb-true, leb-true}
 use Rattle.sizes.specs.Sizes.{STATES, VARIABLES, EVENTS, TRANSITIONS, ACTIONS}
-use Rattle.numbers.specs.Range.{inRange}
 use Rattle.meaning.specs.Lists.{has}
-use Rattle.meaning.specs.Value.{ABSENT, STATE-ROW, VAR-ROW, TRANS-ROW, ACT-ROW, num, is-letter, is-absent, one-of-letters, number-if}
-use Rattle.meaning.specs.Value.{state-statable, var-statable, guard-statable, target-statable, trans-statable, action-statable}
+use Rattle.meaning.specs.Value.{STATE-ROW, VAR-ROW, TRANS-ROW, ACT-ROW, num}
+use Rattle.meaning.specs.Value.{state-statable, var-statable, guard-statable, trans-statable, action-statable}
 use Rattle.meaning.specs.Number.{number-of, numeral}
-use Rattle.meaning.specs.Split.{fields, joined}
-use Rattle.meaning.specs.Line.{Line, worse, worst, marks, values, room, line-if, cell, field, letter-of, is-dash, is-turn, formed}
-use Rattle.meaning.specs.Line.{number-cell, dash-cell, letter-cell, number-or-dash, letter-or-dash, count-cell, trans-cells, target-cells, target-cells-by, starts-with-h}
+use Rattle.meaning.specs.Split.{fields}
+use Rattle.meaning.specs.Line.{Line, worst, marks, room, line-if, cell, field, letter-of, is-dash, is-turn, formed}
+use Rattle.meaning.specs.Line.{number-cell, letter-cell, number-or-dash, letter-or-dash, count-cell, target-cells, target-cells-by, starts-with-h}
 use Rattle.meaning.specs.Line.{s-line, v-line, e-line, t-line, a-line, number-text, letter-text, s-text, v-text, e-text, t-text, a-text}
 use Rattle.meaning.specs.declared.Num.{Num}
 use Rattle.meaning.specs.declared.Num.the-variants.{Is, Beyond, Not}

@@ -1,21 +1,19 @@
 -- Numbers of the text both ways: a number of the range, written, reads as itself; a field that reads as a number is its written form.
 -- In the order: tests; the writer without its count; reading what is written; writing what was read. Assumes nothing.
-use mathlib.Core.Path.{_≡_, refl, sym, ap, _∙_}
-use mathlib.Core.Bool.{Bool, true, false, cond, _&&_, false≢true}
+use mathlib.Core.Path.{_≡_, refl, ap, _∙_}
+use mathlib.Core.Bool.{Bool, true, false, cond}
 use mathlib.Core.List.{List, [], _∷_, _++_, append-assoc, append-nil}
 use mathlib.Core.Option.{Option, none, some}
 use Prim.Native.Nat.{ℕ, zero, suc, _+_, _-_, _*_, _/_, _%_, _≤_, _<_, min}
 use native.Mathlib.Omega.{arith}
-use lib.Dec.{ltb, eqb, leb}
+use lib.Dec.{ltb, eqb}
 use lib.IntN.{ℤ, pos, negsuc, natAbs}
-use lib.Signed.{leZ}
 use lib.ListN.{length, length-append}
 use borrow.Author.Tests.{ltb-true, ltb-false, lt-ltb, le-ltb, leb-true, le-leb, ne-eqb, eqb-true, eqb-false}
 use Rattle.sizes.specs.Sizes.{MOST}
-use Rattle.numbers.specs.Range.{inRange, within, lowest, highest}
+use Rattle.numbers.specs.Range.{inRange, lowest, highest}
 use Rattle.numbers.proofs.Ranges.{within-low, within-high, within-both}
 use Rattle.meaning.specs.Number.{BEYOND, value, alone, unless-zero, natural, capped, natural-of, plain, minus, signed, number-of, by-size, digits-in, digits, numeral}
-use Rattle.meaning.specs.declared.Num.{Num}
 use Rattle.meaning.specs.declared.Num.the-variants as num
 use Rattle.meaning.specs.declared.Nat.{Nat}
 use Rattle.meaning.specs.declared.Nat.the-variants as nat

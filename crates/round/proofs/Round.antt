@@ -1,12 +1,11 @@
 -- Chart text both ways, the two theorems. Accepted text is written back to the same bytes; a chart that passes the rules, written and
 -- read again, is the same chart. In the order: what a rule's verdict says; read then written; written then read. Assumes nothing.
-use mathlib.Core.Path.{_≡_, refl, sym, ap, _∙_}
-use mathlib.Core.Bool.{Bool, true, false, cond, _&&_}
+use mathlib.Core.Path.{_≡_, refl}
+use mathlib.Core.Bool.{Bool, true, false, _&&_}
 use mathlib.Core.List.{List, [], _∷_}
 use mathlib.Core.Option.{Option, none, some}
-use Prim.Native.Nat.{ℕ, suc, _≤_}
-use native.Mathlib.Omega.{arith}
-use lib.Dec.{leb, ltb}
+use Prim.Native.Nat.{ℕ, _≤_}
+use lib.Dec.{leb}
 use lib.IntN.{ℤ}
 use lib.ListN.{length, length-map}
 use borrow.Author.Tests.{leb-true, le-leb, le-ltb}
@@ -15,10 +14,9 @@ use Rattle.meaning.specs.Value.{Rows, VALUE, state-by, rows-of, chart-by, chart
 use Rattle.meaning.specs.Chart.{Chart}
 use Rattle.meaning.specs.Tree.{is-o, kind-of}
 use Rattle.meaning.specs.Rules.{rule-1, rule-2, rule-3, rule-4, rule-5, rule-6, rule-7, first-failing, failing-rule, after-rule-0, failing-rule-of}
-use Rattle.meaning.specs.Text.{Outcome, done, refused, value-of, by-rule, checked-if, checked, read-text, read, text-by, text-of, fitting, written-by, write}
+use Rattle.meaning.specs.Text.{Outcome, done, refused, value-of, by-rule, checked-if, checked, read-text, read, text-of, write}
 use Rattle.round.proofs.Numbers.{no}
 use Rattle.round.proofs.Cells.{both}
-use Rattle.round.proofs.Shaped.{Shaped}
 use Rattle.round.proofs.WalkKept.{text-kept}
 use Rattle.round.proofs.WalkRead.{text-short, text-reads}
 use Rattle.round.proofs.Values.{rows-back, value-keeps, value-shaped}

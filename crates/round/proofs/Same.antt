@@ -1,21 +1,20 @@
 -- The value that a read of a written value gives: it agrees with the value written on the counts and at every place within the counts,
 -- and is 0 at each place past them. In the order: one kind's rows; the counts; the whole value. Assumes nothing.
 use mathlib.Core.Path.{_≡_, refl, sym, ap, _∙_}
-use mathlib.Core.Bool.{Bool, true, false, _&&_}
-use mathlib.Core.List.{List, [], _∷_, _++_, append-assoc}
+use mathlib.Core.Bool.{Bool, true, _&&_}
+use mathlib.Core.List.{List, [], _++_}
 use Prim.Native.Nat.{ℕ, zero, suc, _+_, _-_, _*_, _≤_, _<_}
 use native.Mathlib.Omega.{arith}
 use native.Mathlib.Nat.{mul-le-mul-right}
 use lib.IntN.{ℤ, pos}
-use lib.ListN.{length, getD, take, drop, replicate, length-append, length-drop, List·getD-append, getD-replicate}
+use lib.ListN.{length, drop, replicate, length-drop, List·getD-append, getD-replicate}
 use lib.Seq.{getD-take, getD-drop, getD-append-add}
 use Rattle.sizes.specs.Sizes.{STATES, VARIABLES, EVENTS, TRANSITIONS, ACTIONS}
 use Rattle.numbers.specs.Reference.{ref}
 use Rattle.meaning.specs.Lists.{padded, chunks}
-use Rattle.meaning.specs.Value.{Rows, num, COUNTS, STATE-ROW, VAR-ROW, TRANS-ROW, ACT-ROW, STATES-AT, VARS-AT, TRANSITIONS-AT, ACTIONS-AT, VALUE, size-by, rows-of, count-fits, counts-fit, rule-0}
+use Rattle.meaning.specs.Value.{num, COUNTS, STATE-ROW, VAR-ROW, TRANS-ROW, ACT-ROW, STATES-AT, VARS-AT, TRANSITIONS-AT, ACTIONS-AT, VALUE, size-by, rows-of, count-fits, counts-fit, rule-0}
 use Rattle.meaning.specs.Text.{flat, area, value-of}
 use Rattle.round.proofs.Cells.{both}
-use Rattle.round.proofs.Shaped.{Shaped, Fitting}
 use Rattle.round.proofs.Values.{flat-length, flat-chunks, chunks-length, chunks-long, area-length, size-is, states-from, vars-from, transitions-from, actions-from, value-length, counted-is, counts-of, enough, value-shaped}
 
 -- ---- one kind's rows

@@ -1,9 +1,9 @@
 -- Cutting and joining: a text cut and joined is the same text; parts without the separator, joined and cut, are the same parts.
 -- In the order: parts without a separator; fields of a line; lines of a text; what is free of separators; lengths. Assumes nothing.
-use mathlib.Core.Path.{_≡_, refl, sym, ap, _∙_}
+use mathlib.Core.Path.{_≡_, refl, ap, _∙_}
 use mathlib.Core.Bool.{Bool, true, false}
 use mathlib.Core.List.{List, [], _∷_, _++_, append-assoc, append-nil}
-use Prim.Native.Nat.{ℕ, zero, suc, _+_, _*_, _/_, _%_, _≤_, _<_}
+use Prim.Native.Nat.{ℕ, suc, _+_, _*_, _/_, _%_, _≤_, _<_}
 use native.Mathlib.Omega.{arith}
 use native.Mathlib.Nat.{mul-suc}
 use lib.Dec.{eqb}
@@ -11,7 +11,7 @@ use lib.IntN.{ℤ, pos, negsuc}
 use lib.ListN.{length, length-append}
 use borrow.Author.Tests.{eq-eqb, ne-eqb, eqb-true}
 use Rattle.meaning.specs.Number.{digits, numeral}
-use Rattle.meaning.specs.Split.{TAB, LF, Parts, parts, all, onto, cut, split, fields, lines, tails, joined, ended}
+use Rattle.meaning.specs.Split.{TAB, LF, parts, all, onto, cut, split, fields, lines, tails, joined, ended}
 use Rattle.round.proofs.Numbers.{by-digits, digits-one, digits-more}
 
 -- ---- parts without a separator

@@ -3,21 +3,20 @@
 use mathlib.Core.Path.{_≡_, refl, sym, ap, _∙_}
 use mathlib.Core.Bool.{Bool, true, false, cond, _&&_, false≢true}
 use mathlib.Core.List.{List, [], _∷_, _++_, append-assoc, append-nil}
-use Prim.Native.Nat.{ℕ, zero, suc, _+_, _-_, _*_, _≤_, _<_}
+use Prim.Native.Nat.{ℕ, zero, suc, _+_, _-_, _*_, _≤_}
 use native.Mathlib.Omega.{arith}
 use native.Mathlib.Nat.{suc-mul, mul-le-mul-right}
 use lib.Dec.{leb}
 use lib.IntN.{ℤ, pos, negsuc}
-use lib.Signed.{leZ}
-use lib.ListN.{length, getD, take, drop, replicate, length-append, length-take, length-drop, length-replicate}
+use lib.ListN.{length, take, drop, replicate, length-append, length-drop, length-replicate}
 use lib.Seq.{take-at, drop-at, drop-drop, length-take-le, take-add}
 use borrow.Author.Tests.{leb-true, le-leb}
 use Rattle.sizes.specs.Sizes.{STATES, VARIABLES, EVENTS, TRANSITIONS, ACTIONS}
 use Rattle.numbers.specs.Reference.{ref}
 use Rattle.meaning.specs.Lists.{every, every-from, padded, chunks}
-use Rattle.meaning.specs.Value.{Rows, num, COUNTS, STATE-ROW, VAR-ROW, TRANS-ROW, ACT-ROW, STATES-AT, VARS-AT, TRANSITIONS-AT, ACTIONS-AT, VALUE}
+use Rattle.meaning.specs.Value.{Rows, num, STATE-ROW, VAR-ROW, TRANS-ROW, ACT-ROW, STATES-AT, VARS-AT, TRANSITIONS-AT, ACTIONS-AT, VALUE}
 use Rattle.meaning.specs.Value.{state-statable, var-statable, trans-statable, action-statable, size-by, rows-of, count-fits, counts-fit, rows-statable, rule-0}
-use Rattle.meaning.specs.Text.{flat, area, areas, value-of}
+use Rattle.meaning.specs.Text.{flat, area, value-of}
 use Rattle.round.proofs.Cells.{both}
 use Rattle.round.proofs.Shaped.{Shaped, Count, Fitting, AllLong}
 

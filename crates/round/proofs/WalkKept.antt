@@ -1,27 +1,27 @@
 -- The lines that the walk takes are the written forms of the rows that it hands over, in their order, and a text can state those rows.
 -- In the order: lines so far and stages; one more line of each kind; one more line; the walk; the text. Assumes nothing.
 use mathlib.Core.Path.{_≡_, refl, sym, ap, _∙_}
-use mathlib.Core.Bool.{Bool, true, false, cond, _&&_, false≢true}
+use mathlib.Core.Bool.{Bool, true, false, cond, false≢true}
 use mathlib.Core.List.{List, [], _∷_, _++_, append-assoc, append-nil}
-use Prim.Native.Nat.{ℕ, zero, suc, _+_, _≤_, _<_}
+use Prim.Native.Nat.{ℕ, zero, suc, _+_, _≤_}
 use native.Mathlib.Omega.{arith}
 use lib.Dec.{eqb, leb, ltb}
-use lib.IntN.{ℤ, pos}
-use lib.ListN.{length, getD}
-use borrow.Author.Tests.{eqb-true, leb-true, leb-false, le-leb, lt-leb}
-use Rattle.sizes.specs.Sizes.{STATES, VARIABLES, EVENTS, TRANSITIONS, ACTIONS, TEXT}
-use Rattle.meaning.specs.Lists.{every, every-from, map-from}
-use Rattle.meaning.specs.Value.{Rows, num, STATE-ROW, VAR-ROW, TRANS-ROW, ACT-ROW, state-statable, var-statable, trans-statable, action-statable}
+use lib.IntN.{ℤ}
+use lib.ListN.{length}
+use borrow.Author.Tests.{eqb-true, leb-true, le-leb, lt-leb}
+use Rattle.sizes.specs.Sizes.{STATES, VARIABLES, TRANSITIONS, ACTIONS, TEXT}
+use Rattle.meaning.specs.Lists.{map-from}
+use Rattle.meaning.specs.Value.{Rows, STATE-ROW, VAR-ROW, TRANS-ROW, ACT-ROW, state-statable, var-statable, trans-statable, action-statable}
 use Rattle.meaning.specs.Split.{LF, fields, lines, tails, ended}
 use Rattle.meaning.specs.Line.{Line, Record, s-record, v-record, e-record, t-record, a-record, no-record, letter-of, field, record-by, in-order, stage-after}
 use Rattle.meaning.specs.Line.{line-by, line-in-order, line-of, s-line, v-line, e-line, t-line, a-line, s-text, v-text, e-text, t-text, a-text}
-use Rattle.meaning.specs.Text.{Outcome, done, refused, Walk, start, turns-of, with-row, taken, further, after-line, record-of, ending, walk, no-rows, read-unless, read-text, text-by}
+use Rattle.meaning.specs.Text.{done, refused, Walk, start, turns-of, with-row, taken, further, record-of, ending, walk, no-rows, read-unless, read-text, text-by}
 use Rattle.meaning.specs.declared.Turns.{Turns}
 use Rattle.round.proofs.Numbers.{no}
 use Rattle.round.proofs.Splits.{glued, glued-lines, ended-append}
 use Rattle.round.proofs.Cells.{Good, zero-good}
 use Rattle.round.proofs.LinesKept.{RowKept, EventsKept, s-kept, v-kept, e-kept, t-kept, a-kept}
-use Rattle.round.proofs.Shaped.{Shaped, Count, Fitting, map-from-more, no-states, none-of, no-events, fitting-from-more, fitting-more}
+use Rattle.round.proofs.Shaped.{Shaped, map-from-more, no-states, none-of, no-events, fitting-from-more, fitting-more}
 
 -- ---- lines so far, and the stages
 

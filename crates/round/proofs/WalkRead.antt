@@ -1,25 +1,24 @@
 -- The written form of rows that a text can state reads as those rows. In the order: lines that are taken, one behind another;
 -- rows of one kind; the five kinds; all lines; how long they are; the text. Assumes nothing.
 use mathlib.Core.Path.{_≡_, refl, sym, ap, _∙_, subst}
-use mathlib.Core.Bool.{Bool, true, false, cond, _&&_, false≢true}
+use mathlib.Core.Bool.{Bool, true}
 use mathlib.Core.List.{List, [], _∷_, _++_, append-assoc, append-nil}
-use Prim.Native.Nat.{ℕ, zero, suc, _+_, _*_, _≤_, _<_}
+use Prim.Native.Nat.{ℕ, suc, _+_, _≤_, _<_}
 use native.Mathlib.Omega.{arith}
-use lib.Dec.{eqb, leb, ltb}
 use lib.IntN.{ℤ, pos}
 use lib.ListN.{length, length-append}
-use borrow.Author.Tests.{eq-eqb, leb-true, le-leb, le-ltb}
+use borrow.Author.Tests.{eq-eqb, le-leb, le-ltb}
 use Rattle.sizes.specs.Sizes.{STATES, VARIABLES, EVENTS, TRANSITIONS, ACTIONS, TEXT}
 use Rattle.meaning.specs.Lists.{every, every-from, map-from}
-use Rattle.meaning.specs.Value.{Rows, num, STATE-ROW, VAR-ROW, TRANS-ROW, ACT-ROW, state-statable, var-statable, trans-statable, action-statable}
+use Rattle.meaning.specs.Value.{Rows, STATE-ROW, VAR-ROW, TRANS-ROW, ACT-ROW, state-statable, var-statable, trans-statable, action-statable}
 use Rattle.meaning.specs.Split.{LF, fields, lines, ended}
-use Rattle.meaning.specs.Line.{Line, Record, s-record, v-record, e-record, t-record, a-record, in-order, stage-after, line-by, line-of, s-text, v-text, e-text, t-text, a-text}
-use Rattle.meaning.specs.Text.{Outcome, done, refused, Walk, start, turns-of, with-row, taken, line-taken, ending, walk, read-unless, read-text, text-by}
+use Rattle.meaning.specs.Line.{in-order, stage-after, line-by, line-of, s-text, v-text, e-text, t-text, a-text}
+use Rattle.meaning.specs.Text.{Outcome, done, Walk, start, turns-of, with-row, line-taken, ending, walk, read-text, text-by}
 use Rattle.round.proofs.Splits.{Free, AllFree, AllShort, all-free-append, lines-ended, ended-append, ended-length}
 use Rattle.round.proofs.Cells.{both}
 use Rattle.round.proofs.LinesRead.{s-free, s-short, s-named, s-reads, v-free, v-short, v-named, v-reads, e-free, e-short, e-named, e-reads, a-free, a-short, a-named, a-reads}
 use Rattle.round.proofs.TransRead.{t-free, t-short, t-named, t-reads}
-use Rattle.round.proofs.Shaped.{Shaped, Count, Fitting, AllLong}
+use Rattle.round.proofs.Shaped.{Shaped, Fitting, AllLong}
 
 -- ---- lines that are taken
 

@@ -3,3 +3,4 @@ pub mod Every
 pub mod Children
 pub mod Letters
 pub mod Verdicts
+pub mod Kept

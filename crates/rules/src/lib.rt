@@ -6,7 +6,10 @@ pub mod value;
 
 use meaning::Answer;
 ghost use mathlib.Core.Path.{_≡_};
-ghost use Rattle.meaning.specs.Rules.{failing-rule, failing-rule-of, verdict};
+ghost use mathlib.Core.Bool.{true};
+ghost use mathlib.Core.List.{_∷_};
+ghost use lib.ListN.{getD};
+ghost use Rattle.meaning.specs.Rules.{rules-of, failing-rule, failing-rule-of, verdict};
 ghost use Rattle.meaning.specs.Value.{chart-of};
 
 // Answer 3 with the number of the rule as its place.
@@ -19,30 +22,35 @@ fn fails(rule: usize) -> Answer
     }
 }
 
+// The last rule's number.
+const RULES: usize = 7;
+
+// Does the chart keep this rule of R1 to R7? There is no other.
+fn holds(chart: &[i32], rule: usize) -> bool
+    ensures { λ r. ⌜ r ≡ getD (true ∷ rules-of (chart-of (now (chart .entry)))) rule true ⌝ }
+{
+    match rule {
+        1 => states::rule_1(chart),
+        2 => states::rule_2(chart),
+        3 => states::rule_3(chart),
+        4 => states::rule_4(chart),
+        5 => records::rule_5(chart),
+        6 => records::rule_6(chart),
+        7 => records::rule_7(chart),
+        _ => true,
+    }
+}
+
 // R1 to R7, for a chart that was read from a text.
 pub fn check_rows(chart: &[i32]) -> Answer
     ensures { λ r. ⌜ r ≡ verdict (failing-rule (chart-of (now (chart .entry)))) ⌝ }
 {
-    if !states::rule_1(chart) {
-        return fails(1);
-    }
-    if !states::rule_2(chart) {
-        return fails(2);
-    }
-    if !states::rule_3(chart) {
-        return fails(3);
-    }
-    if !states::rule_4(chart) {
-        return fails(4);
-    }
-    if !records::rule_5(chart) {
-        return fails(5);
-    }
-    if !records::rule_6(chart) {
-        return fails(6);
-    }
-    if !records::rule_7(chart) {
-        return fails(7);
+    let mut rule = 1;
+    while rule <= RULES {
+        if !holds(chart, rule) {
+            return fails(rule);
+        }
+        rule += 1;
     }
     Answer {
         number: 0,

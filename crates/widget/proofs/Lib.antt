@@ -4,3 +4,4 @@ pub mod Effects
 pub mod Loops
 pub mod Every
 pub mod Tests
+pub mod Ending

@@ -1,27 +1,26 @@
 -- Laws of the loops over a chart's rows: what is still to be put from row i on, the rows by their numbers, and what a row that is put
 -- keeps. In the order: what is left; rows of a value that keeps R0; all kinds together. Assumes nothing.
-use mathlib.Core.Path.{_≡_, refl, sym, ap, _∙_}
-use mathlib.Core.Bool.{Bool, true, false, _&&_}
+use mathlib.Core.Path.{_≡_, sym, ap, _∙_}
+use mathlib.Core.Bool.{Bool, true}
 use mathlib.Core.List.{List, [], _∷_, _++_, append-assoc}
 use Prim.Native.Nat.{ℕ, zero, suc, _+_, _*_, _≤_, _<_}
 use native.Mathlib.Omega.{arith}
 use native.Mathlib.Numerals.{add-one}
-use lib.IntN.{ℤ, pos}
+use lib.IntN.{ℤ}
 use lib.ListN.{length, getD, take, drop, length-map, drop-of-length-le}
 use lib.Seq.{drop-cons, drop-drop}
 use Rattle.sizes.specs.Sizes.{STATES, VARIABLES, TRANSITIONS, ACTIONS}
 use Rattle.meaning.specs.Lists.{every, every-from, chunks, map-from}
-use Rattle.meaning.specs.Value.{Rows, num, STATE-ROW, VAR-ROW, TRANS-ROW, ACT-ROW, STATES-AT, VARS-AT, TRANSITIONS-AT, ACTIONS-AT}
-use Rattle.meaning.specs.Value.{state-statable, var-statable, trans-statable, action-statable, state-by, var-by, trans-by, action-by, size-by, rows-of, chart-by, chart-of, rule-0}
+use Rattle.meaning.specs.Value.{num, STATE-ROW, VAR-ROW, TRANS-ROW, ACT-ROW, STATES-AT, VARS-AT, TRANSITIONS-AT, ACTIONS-AT}
+use Rattle.meaning.specs.Value.{state-statable, trans-statable, action-statable, state-by, var-by, trans-by, action-by, size-by, rows-of, chart-by, chart-of, rule-0}
 use Rattle.meaning.specs.Split.{LF, ended}
 use Rattle.meaning.specs.Line.{s-text, v-text, e-text, t-text, a-text}
 use Rattle.meaning.specs.Text.{text-by, text-of}
 use Rattle.chart.proofs.Rows.{chunk-at, length-chunks}
 use Rattle.round.proofs.Cells.{both}
 use Rattle.round.proofs.Splits.{ended-append}
-use Rattle.round.proofs.Shaped.{Shaped, Fitting}
 use Rattle.round.proofs.Values.{value-shaped}
-use Rattle.writer.specs.Pen.{Pen, pen, put-byte, put-all, IsLetter}
+use Rattle.writer.specs.Pen.{Pen, put-all, IsLetter}
 use Rattle.writer.specs.Row.{row-in, with-lf}
 use Rattle.writer.proofs.PenLaws.{all-append}
 use Rattle.writer.proofs.LetterLaws.{state-letter, trans-letter, action-letters}

@@ -1,17 +1,17 @@
 -- Laws of the lines that the code's proofs cite: fields put one behind another are the written form of a row. In the order: one field
 -- more; the numbers of a row; the five kinds. Assumes nothing.
-use mathlib.Core.Path.{_≡_, refl, sym, ap, _∙_}
+use mathlib.Core.Path.{_≡_, sym, ap, _∙_}
 use mathlib.Core.List.{List, [], _∷_, _++_, append-assoc}
 use Prim.Native.Nat.{ℕ, _+_, _*_, _<_}
 use native.Mathlib.Omega.{arith}
 use lib.IntN.{ℤ, pos}
-use lib.ListN.{getD, take, drop}
+use lib.ListN.{getD}
 use Rattle.meaning.specs.Value.{num, STATE-ROW, VAR-ROW, TRANS-ROW, ACT-ROW, STATES-AT, VARS-AT, TRANSITIONS-AT, ACTIONS-AT}
 use Rattle.meaning.specs.Number.{numeral}
 use Rattle.meaning.specs.Split.{TAB, LF, tails, joined}
 use Rattle.meaning.specs.Line.{number-text, letter-text, target-text, s-text, v-text, e-text, t-text, a-text}
 use Rattle.chart.proofs.Rows.{num-at, num-first}
-use Rattle.writer.specs.Pen.{Pen, pen, put-byte, put-all, IsLetter}
+use Rattle.writer.specs.Pen.{Pen, put-byte, put-all, IsLetter}
 use Rattle.writer.specs.Row.{row-in, with-lf}
 use Rattle.writer.proofs.PenLaws.{all-append}
 

@@ -1,7 +1,7 @@
 -- The size of a signed number: what its negation and its casts ask. r is the number as an i64, as the code holds it. Assumes nothing.
-use mathlib.Core.Path.{_≡_, refl, ap, _∙_}
-use mathlib.Core.Bool.{Bool, true, false, true≢false}
-use Prim.Native.Nat.{ℕ, suc, _+_, _<_, _≤_, _^_}
+use mathlib.Core.Path.{_≡_, ap}
+use mathlib.Core.Bool.{true, false, true≢false}
+use Prim.Native.Nat.{suc, _+_, _<_, _≤_, _^_}
 use native.Mathlib.Omega.{arith}
 use borrow.Author.Tests.{ltb-true}
 use lib.Dec.{T}

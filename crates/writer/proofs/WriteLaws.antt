@@ -1,7 +1,7 @@
 -- Laws of writing into a slice that is 0: where the text fits it stands there and 0 past it; where it does not, the pen's place lies past
 -- the slice. In the order: a slice set to 0; where the text fits, and where it does not; what the caller sees. Assumes nothing.
 use mathlib.Core.Path.{_≡_, refl, sym, ap, _∙_}
-use mathlib.Core.Bool.{Bool, true, false, cond}
+use mathlib.Core.Bool.{Bool, true, false}
 use mathlib.Core.List.{List, [], _∷_, _++_, append-nil}
 use mathlib.Core.Option.{Option, none, some}
 use Prim.Native.Nat.{ℕ, zero, suc, _+_, _-_, _≤_, _<_}
@@ -13,8 +13,8 @@ use lib.ListN.{length, set, replicate, drop, length-set, length-replicate}
 use lib.Seq.{sets, sets-eq, drop-length}
 use borrow.Author.Tests.{lt-ltb, le-ltb, ltb-true, ltb-false}
 use Rattle.meaning.specs.Lists.{padded}
-use Rattle.meaning.specs.Rules.{failing-rule-of}
-use Rattle.meaning.specs.Text.{Outcome, done, refused, answer, lent, text-of, write, written, lent-bytes}
+use Rattle.meaning.specs.Rules.{failing-rule-of, verdict}
+use Rattle.meaning.specs.Text.{answer, answer-of, count-of, lent, text-of, written-by, write, written, lent-bytes}
 use Rattle.meaning.specs.declared.Answer.{Answer}
 use Rattle.meaning.specs.declared.Written.{Written}
 use Rattle.writer.specs.Pen.{Pen, pen, put-if, put-byte, put-all, zeros}
@@ -121,3 +121,23 @@ module _ (v : List ℤ) (allowed : failing-rule-of v ≡ none) (o l : List ℕ) 
       go : (t : Bool) → ltb n (length (text-of v)) ≡ t → Seen (told (answer 0 0) e) l
       go true x = let y = ended-over (ltb-true n (length (text-of v)) x) in absurd (omega arith)
       go false x = let i = ended-in (ltb-false n (length (text-of v)) x) in rw (i .0, i .1) (seen-in (ltb-false n (length (text-of v)) x))
+
+-- ---- the verdict of the rules
+
+module _ (v : List ℤ) (a : Answer) (e : a ≡ verdict (failing-rule-of v)) where
+  pub passed : a .number ≡ 0 → failing-rule-of v ≡ none
+  unfolding verdict
+  passed h = go (failing-rule-of v) (ap (λ (x : Answer). x .number) (sym e) ∙ h)
+    where
+      go : (o : Option ℕ) → verdict o .number ≡ 0 → o ≡ none
+      go none h = refl
+      go (some k) h = absurd (omega arith)
+
+  pub wrote-refused : (n k : ℕ) (m : List ℕ) → (a .number ≡ 0 → ⊥) → k ≡ n → m ≡ zeros k → (record { answer = a; length = 0 } ≡ written v n) × (m ≡ lent-bytes n (write v n))
+  unfolding verdict written write lent-bytes lent zeros
+  wrote-refused n k m h ek em = go (failing-rule-of v) e
+    where
+      go : (o : Option ℕ) → a ≡ verdict o
+          → (_≡_ {A = Written} (record { answer = a; length = 0 }) (record { answer = answer-of (written-by o v n); length = count-of (written-by o v n) })) × (m ≡ lent 0 n (written-by o v n))
+      go none x = absurd (h (ap (λ (y : Answer). y .number) x))
+      go (some r) x = (ap (λ (y : Answer). record { answer = y; length = 0 }) x, em ∙ ap zeros ek)

@@ -1,3 +1,4 @@
+-- `fields::exactly` meets its contract: each way out is a law of the files beside. Assumes nothing.
 use borrow.Author.Needs.{needs}
 use Rattle.fields.proofs.FieldLaws.{count-none, count-last, count-next}
 use Prim.Native.Nat.{ℕ, _<_}
@@ -19,7 +20,6 @@ exactly-at t = and 1 exactly-kinds.ps (is 1 exactly-kinds.ps μ-exactly t) exact
 abbrev exactly-below : ℕ → In 1 exactly-kinds.ps
 exactly-below t = and 1 exactly-kinds.ps (falls 1 exactly-kinds.ps _<_ μ-exactly t) exactly.Pre
 
--- src/lib.rt:33:9
 exactly-returns : (t : ℕ) → exactly-lts.Need-returns (
   stop-reads.Asked,
   stop-reads.Learnt,
@@ -28,7 +28,6 @@ exactly-returns : (t : ℕ) → exactly-lts.Need-returns (
 ) (exactly-at t) exactly.Post
 exactly-returns t c = let a = c .before .before .args in count-none (a .s .now) (a .from) (a .to) _ (c .if1 .taken)
 
--- src/lib.rt:35:9
 exactly-stop-requires : (t : ℕ) → exactly-lts.Need-stop-requires (
   stop-reads.Asked,
   stop-reads.Learnt,
@@ -37,7 +36,6 @@ exactly-stop-requires : (t : ℕ) → exactly-lts.Need-stop-requires (
 ) (exactly-at t) exactly.Post
 exactly-stop-requires t c κs = search needs
 
--- src/lib.rt:37:9
 exactly-returns-2 : (t : ℕ) → exactly-lts.Need-returns-2 (
   stop-reads.Asked,
   stop-reads.Learnt,
@@ -46,7 +44,6 @@ exactly-returns-2 : (t : ℕ) → exactly-lts.Need-returns-2 (
 ) (exactly-at t) exactly.Post
 exactly-returns-2 t c = count-last _ _ _ _ (c .before .stop .ensures) _ (c .if2 .taken)
 
--- src/lib.rt:39:16
 exactly-add-exactly : (t : ℕ) → exactly-lts.Need-add-exactly (
   stop-reads.Asked,
   stop-reads.Learnt,
@@ -55,7 +52,6 @@ exactly-add-exactly : (t : ℕ) → exactly-lts.Need-add-exactly (
 ) (exactly-at t) exactly.Post
 exactly-add-exactly t c = search needs
 
--- src/lib.rt:39:27
 exactly-sub-exactly : (t : ℕ) → exactly-lts.Need-sub-exactly (
   stop-reads.Asked,
   stop-reads.Learnt,
@@ -64,7 +60,6 @@ exactly-sub-exactly : (t : ℕ) → exactly-lts.Need-sub-exactly (
 ) (exactly-at t) exactly.Post
 exactly-sub-exactly t c = search needs
 
--- src/lib.rt:39:5
 exactly-exactly-requires : (t : ℕ) → exactly-lts.Need-exactly-requires (
   stop-reads.Asked,
   stop-reads.Learnt,
@@ -73,7 +68,6 @@ exactly-exactly-requires : (t : ℕ) → exactly-lts.Need-exactly-requires (
 ) (exactly-at t) exactly.Post
 exactly-exactly-requires t c κs = search needs
 
--- src/lib.rt:28:1
 exactly-returns-3 : (t : ℕ) → exactly-lts.Need-returns-3 (
   stop-reads.Asked,
   stop-reads.Learnt,

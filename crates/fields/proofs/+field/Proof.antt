@@ -1,3 +1,4 @@
+-- `fields::field` meets its contract: each way out is a law of the files beside. Assumes nothing.
 use borrow.Author.Needs.{needs}
 use Rattle.fields.proofs.FieldLaws.{field-first, field-none, field-next}
 use Prim.Native.Nat.{ℕ, _<_}
@@ -19,7 +20,6 @@ field-at t = and 1 field-kinds.ps (is 1 field-kinds.ps μ-field t) field.Pre
 abbrev field-below : ℕ → In 1 field-kinds.ps
 field-below t = and 1 field-kinds.ps (falls 1 field-kinds.ps _<_ μ-field t) field.Pre
 
--- src/lib.rt:53:9
 field-stop-requires : (t : ℕ) → field-lts.Need-stop-requires (
   stop-reads.Asked,
   stop-reads.Learnt,
@@ -28,7 +28,6 @@ field-stop-requires : (t : ℕ) → field-lts.Need-stop-requires (
 ) (field-at t) field.Post
 field-stop-requires t c κs = search needs
 
--- src/lib.rt:55:9
 field-returns : (t : ℕ) → field-lts.Need-returns (
   stop-reads.Asked,
   stop-reads.Learnt,
@@ -37,7 +36,6 @@ field-returns : (t : ℕ) → field-lts.Need-returns (
 ) (field-at t) field.Post
 field-returns t c = field-first _ _ _ _ (c .before .stop .ensures) _ (c .if1 .taken)
 
--- src/lib.rt:58:9
 field-returns-2 : (t : ℕ) → field-lts.Need-returns-2 (
   stop-reads.Asked,
   stop-reads.Learnt,
@@ -46,7 +44,6 @@ field-returns-2 : (t : ℕ) → field-lts.Need-returns-2 (
 ) (field-at t) field.Post
 field-returns-2 t c = field-none _ _ _ _ (c .before .before .stop .ensures) _ (c .before .if1 .left) (c .if2 .taken)
 
--- src/lib.rt:60:14
 field-add-field : (t : ℕ) → field-lts.Need-add-field (
   stop-reads.Asked,
   stop-reads.Learnt,
@@ -55,7 +52,6 @@ field-add-field : (t : ℕ) → field-lts.Need-add-field (
 ) (field-at t) field.Post
 field-add-field t c = search needs
 
--- src/lib.rt:60:25
 field-sub-field : (t : ℕ) → field-lts.Need-sub-field (
   stop-reads.Asked,
   stop-reads.Learnt,
@@ -64,7 +60,6 @@ field-sub-field : (t : ℕ) → field-lts.Need-sub-field (
 ) (field-at t) field.Post
 field-sub-field t c = search needs
 
--- src/lib.rt:60:5
 field-field-requires : (t : ℕ) → field-lts.Need-field-requires (
   stop-reads.Asked,
   stop-reads.Learnt,
@@ -73,7 +68,6 @@ field-field-requires : (t : ℕ) → field-lts.Need-field-requires (
 ) (field-at t) field.Post
 field-field-requires t c κs = search needs
 
--- src/lib.rt:49:1
 field-returns-3 : (t : ℕ) → field-lts.Need-returns-3 (
   stop-reads.Asked,
   stop-reads.Learnt,

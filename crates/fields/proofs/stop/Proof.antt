@@ -1,10 +1,9 @@
+-- `fields::stop` meets its contract: the loop keeps what is named in its invariant. Assumes nothing.
 use borrow.Author.Needs.{needs}
 use Prim.Native.Nat.{_-_}
 use Rattle.fields.proofs.SplitLaws.{Sought, sought-start, sought-more, stop-found, stop-none}
 use Rattle.fields.proofs.stop.Statement.{statement}
 use Rattle.fields.proofs.stop.Tie as tie
-use Rattle.fields.proofs.stop.Reads as reads
-use Rattle.fields.proofs.stop.Lts as lts
 
 abbrev Inv-loop : tie.InvT-loop
 Inv-loop s from to sep i₀ i = Sought sep s from to i
@@ -12,35 +11,28 @@ Inv-loop s from to sep i₀ i = Sought sep s from to i
 abbrev μ-loop : tie.MeasureT-loop
 μ-loop s from to sep i₀ i = to - i
 
--- src/lib.rt:18:5
 loop-holds : tie.Need-loop-holds Inv-loop μ-loop
 loop-holds c = sought-start _ _ _ _ (c .pre .0)
 
--- src/lib.rt:19:12
 shared-slice-read-if1 : tie.Need-shared-slice-read-if1 Inv-loop μ-loop
 shared-slice-read-if1 c = search needs
 
--- src/lib.rt:20:13
 returns : tie.Need-returns Inv-loop μ-loop
 returns c =
     let l = c .before .before in
     stop-found _ _ _ _ _ (l .before .loop .inv) (l .before .before .pre .1) (l .loop-test .taken) (c .if1 .taken)
 
--- src/lib.rt:22:9
 add-i : tie.Need-add-i Inv-loop μ-loop
 add-i c = search needs
 
--- src/lib.rt:18:5
 loop-less : tie.Need-loop-less Inv-loop μ-loop
 loop-less c = search needs
 
--- src/lib.rt:18:5
 loop-again : tie.Need-loop-again Inv-loop μ-loop
 loop-again c =
     let l = c .before .before in
     sought-more _ _ _ _ _ (l .before .loop .inv) (l .before .before .pre .1) (l .loop-test .taken) (c .if1 .left)
 
--- src/lib.rt:13:1
 returns-2 : tie.Need-returns-2 Inv-loop μ-loop
 returns-2 c = stop-none _ _ _ _ _ (c .before .loop .inv) (c .before .before .pre .1) (c .loop-test .left)
 

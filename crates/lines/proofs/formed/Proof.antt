@@ -1,31 +1,22 @@
+-- `lines::formed` meets its contract: each way out is a law of the files beside. Assumes nothing.
 use borrow.Author.Tests.{not-true, not-false}
 use Rattle.lines.proofs.LineLaws.{formed-not, formed-is}
 use borrow.Author.Needs.{needs}
 use Rattle.lines.proofs.formed.Statement.{statement}
 use Rattle.lines.proofs.formed.Tie as tie
-use Rattle.lines.proofs.formed.Reads as reads
-use Rattle.lines.proofs.formed.Lts as lts
-use Rattle.fields.proofs.cells.is_turn.Reads as is-turn-reads
-use Rattle.fields.proofs.cells.num_at.Reads as num-at-reads
-use Rattle.fields.proofs.exactly.Reads as exactly-reads
 
--- src/lib.rt:52:9
 exactly-requires : tie.Need-exactly-requires
 exactly-requires c κs = search needs
 
--- src/lib.rt:53:9
 returns : tie.Need-returns
 returns c = formed-not _ _ _ _ (c .before .exactly .ensures) (not-true _ (c .if1 .taken))
 
--- src/lib.rt:55:13
 num-at-requires : tie.Need-num-at-requires
 num-at-requires c κs = search needs
 
--- src/lib.rt:55:5
 is-turn-requires : tie.Need-is-turn-requires
 is-turn-requires c κs = search needs
 
--- src/lib.rt:48:1
 returns-2 : tie.Need-returns-2
 returns-2 c = formed-is _ _ _ _ (c .before .before .before .exactly .ensures) _ _ (not-false _ (c .before .before .if1 .left)) (c .before .num-at .ensures) (c .is-turn .ensures)
 

@@ -1,54 +1,38 @@
+-- `lines::line_e` meets its contract: each way out is a law of the files beside. Assumes nothing.
 use borrow.Author.Tests.{not-true, not-false}
 use Rattle.lines.proofs.LineLaws.{e-wrong, e-is, took-wrong, took-not, took-row}
 use Rattle.lines.proofs.MarkLaws.{mark-one}
 use borrow.Author.Needs.{needs}
 use Rattle.lines.proofs.line_e.Statement.{statement}
 use Rattle.lines.proofs.line_e.Tie as tie
-use Rattle.lines.proofs.line_e.Reads as reads
-use Rattle.lines.proofs.line_e.Lts as lts
-use Rattle.fields.proofs.cells.count_cell.Reads as count-cell-reads
-use Rattle.fields.proofs.cells.num_at.Reads as num-at-reads
-use Rattle.fields.proofs.exactly.Reads as exactly-reads
-use Rattle.lines.proofs.marks.put.Reads as put-reads
-use Rattle.lines.proofs.marks.worse.Reads as worse-reads
 
--- src/lib.rt:85:9
 exactly-requires : tie.Need-exactly-requires
 exactly-requires c κs = search needs
 
--- src/lib.rt:86:9
 returns : tie.Need-returns
 returns c = took-wrong _ _ _ (e-wrong _ _ (c .before .exactly .ensures) (not-true _ (c .if1 .taken)))
 
--- src/lib.rt:88:28
 num-at-requires : tie.Need-num-at-requires
 num-at-requires c κs = search needs
 
--- src/lib.rt:88:9
 count-cell-requires : tie.Need-count-cell-requires
 count-cell-requires c κs = search needs
 
--- src/lib.rt:89:22
 worse-requires : tie.Need-worse-requires
 worse-requires c κs = search needs
 
--- src/lib.rt:89:9
 worse-requires-2 : tie.Need-worse-requires-2
 worse-requires-2 c κs = search needs
 
--- src/lib.rt:91:9
 returns-2 : tie.Need-returns-2
 returns-2 c = took-not _ _ _ _ _ _ (e-is _ _ (c .before .before .before .before .before .before .exactly .ensures) _ _ (not-false _ (c .before .before .before .before .before .if1 .left)) (c .before .before .before .before .num-at .ensures) (c .before .before .before .count-cell .ensures)) (mark-one _ _ _ (c .before .worse2 .ensures) (c .before .before .worse .ensures)) (c .if2 .taken)
 
--- src/lib.rt:93:5
 put-requires : tie.Need-put-requires
 put-requires c κs = search needs
 
--- src/lib.rt:81:1
 same-length : tie.Need-same-length
 same-length c = search needs
 
--- src/lib.rt:81:1
 returns-3 : tie.Need-returns-3
 returns-3 c = took-row _ _ _ _ _ _ (e-is _ _ (c .before .before .before .before .before .before .before .before .before .exactly .ensures) _ _ (not-false _ (c .before .before .before .before .before .before .before .before .if1 .left)) (c .before .before .before .before .before .before .before .num-at .ensures) (c .before .before .before .before .before .before .count-cell .ensures)) (mark-one _ _ _ (c .before .before .before .before .worse2 .ensures) (c .before .before .before .before .before .worse .ensures)) _ (c .before .before .before .if2 .left) (c .before .put .ensures)
 

@@ -1,3 +1,4 @@
+-- `lines::line_s` meets its contract: each way out is a law of the files beside. Assumes nothing.
 use Rattle.lines.proofs.PlaceLaws.{state-place}
 use native.Mathlib.Omega.{arith}
 use mathlib.Core.Path.{_≡_, refl, sym, _∙_}
@@ -7,78 +8,52 @@ use Rattle.lines.proofs.MarkLaws.{mark-three, has-room}
 use borrow.Author.Needs.{needs}
 use Rattle.lines.proofs.line_s.Statement.{statement}
 use Rattle.lines.proofs.line_s.Tie as tie
-use Rattle.lines.proofs.line_s.Reads as reads
-use Rattle.lines.proofs.line_s.Lts as lts
-use Rattle.fields.proofs.cells.number_or_dash_at.Reads as number-or-dash-at-reads
-use Rattle.fields.proofs.cells.one_of_at.Reads as one-of-at-reads
-use Rattle.fields.proofs.letter_at.Reads as letter-at-reads
-use Rattle.lines.proofs.formed.Reads as formed-reads
-use Rattle.lines.proofs.marks.put3.Reads as put3-reads
-use Rattle.lines.proofs.marks.room.Reads as room-reads
-use Rattle.lines.proofs.marks.worse.Reads as worse-reads
-use Rattle.lines.proofs.marks.worse3.Reads as worse3-reads
 
--- src/lib.rt:102:9
 formed-requires : tie.Need-formed-requires
 formed-requires c κs = (c .before .pre .0, c .before .pre .1)
 
--- src/lib.rt:103:9
 returns : tie.Need-returns
 returns c = took-wrong _ _ _ (s-wrong _ _ _ (c .before .formed .ensures) (not-true _ (c .if1 .taken)))
 
--- src/lib.rt:105:9
 number-or-dash-at-requires : tie.Need-number-or-dash-at-requires
 number-or-dash-at-requires c κs = (c .before .before .before .pre .0, c .before .before .before .pre .1)
 
--- src/lib.rt:106:42
 slice-aggregate-one-of-at : tie.Need-slice-aggregate-one-of-at
 slice-aggregate-one-of-at c = search needs
 
--- src/lib.rt:106:9
 one-of-at-requires : tie.Need-one-of-at-requires
 one-of-at-requires c κs = (c .before .before .before .before .before .pre .0, c .before .before .before .before .before .pre .1)
 
--- src/lib.rt:107:16
 letter-at-requires : tie.Need-letter-at-requires
 letter-at-requires c κs = (c .before .before .before .before .before .before .pre .0, c .before .before .before .before .before .before .pre .1)
 
--- src/lib.rt:108:9
 number-or-dash-at-requires-2 : tie.Need-number-or-dash-at-requires-2
 number-or-dash-at-requires-2 c κs = (c .before .before .before .before .before .before .before .pre .0, c .before .before .before .before .before .before .before .pre .1)
 
--- src/lib.rt:109:19
 room-requires : tie.Need-room-requires
 room-requires c κs = search needs
 
--- src/lib.rt:109:39
 worse3-requires : tie.Need-worse3-requires
 worse3-requires c κs = search needs
 
--- src/lib.rt:109:9
 worse-requires : tie.Need-worse-requires
 worse-requires c κs = search needs
 
--- src/lib.rt:111:9
 returns-2 : tie.Need-returns-2
 returns-2 c = took-not _ _ _ _ _ _ (s-is _ _ _ (c .before .before .before .before .before .before .before .before .before .before .formed .ensures) _ _ _ (not-false _ (c .before .before .before .before .before .before .before .before .before .if1 .left)) _ (c .before .before .before .before .before .letter-at .ensures) (c .before .before .before .before .before .before .before .before .number-or-dash-at .ensures) (c .before .before .before .before .before .before .one-of-at .ensures) (c .before .before .before .before .number-or-dash-at2 .ensures)) (mark-three _ _ _ _ _ _ _ (c .before .worse .ensures) (c .before .before .before .room .ensures) (c .before .before .worse3 .ensures)) (c .if2 .taken)
 
--- src/lib.rt:113:29
 mul-put3 : tie.Need-mul-put3
 mul-put3 c = let h = has-room _ _ _ (sym (mark-three _ _ _ _ _ _ _ (c .before .before .worse .ensures) (c .before .before .before .before .room .ensures) (c .before .before .before .worse3 .ensures)) ∙ c .before .if2 .left) in record { fits = omega arith }
 
--- src/lib.rt:113:17
 add-put3 : tie.Need-add-put3
 add-put3 c = let h = has-room _ _ _ (sym (mark-three _ _ _ _ _ _ _ (c .before .before .worse .ensures) (c .before .before .before .before .room .ensures) (c .before .before .before .worse3 .ensures)) ∙ c .before .if2 .left) in record { fits = omega arith }
 
--- src/lib.rt:113:5
 put3-requires : tie.Need-put3-requires
 put3-requires c κs = let h = has-room _ _ _ (sym (mark-three _ _ _ _ _ _ _ (c .before .before .worse .ensures) (c .before .before .before .before .room .ensures) (c .before .before .before .worse3 .ensures)) ∙ c .before .if2 .left) in state-place h
 
--- src/lib.rt:98:1
 same-length : tie.Need-same-length
 same-length c = search needs
 
--- src/lib.rt:98:1
 returns-3 : tie.Need-returns-3
 returns-3 c = took-row _ _ _ _ _ _ (s-is _ _ _ (c .before .before .before .before .before .before .before .before .before .before .before .before .before .formed .ensures) _ _ _ (not-false _ (c .before .before .before .before .before .before .before .before .before .before .before .before .if1 .left)) _ (c .before .before .before .before .before .before .before .before .letter-at .ensures) (c .before .before .before .before .before .before .before .before .before .before .before .number-or-dash-at .ensures) (c .before .before .before .before .before .before .before .before .before .one-of-at .ensures) (c .before .before .before .before .before .before .before .number-or-dash-at2 .ensures)) (mark-three _ _ _ _ _ _ _ (c .before .before .before .before .worse .ensures) (c .before .before .before .before .before .before .room .ensures) (c .before .before .before .before .before .worse3 .ensures)) _ (c .before .before .before .if2 .left) (c .before .put3 .ensures)
 

@@ -1,3 +1,4 @@
+-- `numerals::number` meets its contract: each way out is a law of the files beside. Assumes nothing.
 use mathlib.Core.Path.{_∙_, sym, ap, subst}
 use Prim.Native.Nat.{_<_}
 use native.Mathlib.Omega.{arith}
@@ -6,48 +7,34 @@ use Rattle.numerals.proofs.ReadLaws.{num-empty, num-minus, num-plain, n
 use borrow.Author.Needs.{needs}
 use Rattle.numerals.proofs.number.Statement.{statement}
 use Rattle.numerals.proofs.number.Tie as tie
-use Rattle.numerals.proofs.number.Reads as reads
-use Rattle.numerals.proofs.number.Lts as lts
-use Rattle.numerals.proofs.minus_of.Reads as minus-of-reads
-use Rattle.numerals.proofs.natural.Reads as natural-reads
-use Rattle.numerals.proofs.plain_of.Reads as plain-of-reads
 
--- src/lib.rt:103:9
 returns : tie.Need-returns
 returns c = num-empty _ _ _ (c .if1 .taken)
 
--- src/lib.rt:105:8
 shared-slice-read-if2 : tie.Need-shared-slice-read-if2
 shared-slice-read-if2 c = search needs
 
--- src/lib.rt:106:36
 add-natural : tie.Need-add-natural
 add-natural c = search needs
 
--- src/lib.rt:106:25
 natural-requires : tie.Need-natural-requires
 natural-requires c κs = search needs
 
--- src/lib.rt:106:9
 minus-of-requires : tie.Need-minus-of-requires
 minus-of-requires c κs = rw (c .natural .ensures) (nat-small _)
 
--- src/lib.rt:106:9
 returns-2 : tie.Need-returns-2
 returns-2 c =
     let s = c .before .before .before .before .before .before in
     let h : s .args .from < s .args .to = omega arith in
     c .minus-of .ensures ∙ ap minus (c .before .natural .ensures) ∙ sym (num-minus _ _ _ h (s .pre .1) (c .before .before .if2 .taken))
 
--- src/lib.rt:108:14
 natural-requires-2 : tie.Need-natural-requires-2
 natural-requires-2 c κs = search needs
 
--- src/lib.rt:108:5
 plain-of-requires : tie.Need-plain-of-requires
 plain-of-requires c κs = rw (c .natural2 .ensures) (nat-small _)
 
--- src/lib.rt:98:1
 returns-3 : tie.Need-returns-3
 returns-3 c =
     let s = c .before .before .before .before .before .before in

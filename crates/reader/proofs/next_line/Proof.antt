@@ -1,25 +1,19 @@
+-- `reader::next_line` meets its contract: each way out is a law of the files beside. Assumes nothing.
 use native.Mathlib.Omega.{arith}
 use Rattle.reader.specs.Heard.{stop-at}
 use borrow.Author.Needs.{needs}
 use Rattle.reader.proofs.next_line.Statement.{statement}
 use Rattle.reader.proofs.next_line.Tie as tie
-use Rattle.reader.proofs.next_line.Reads as reads
-use Rattle.reader.proofs.next_line.Lts as lts
-use Rattle.fields.proofs.stop.Reads as stop-reads
 
--- src/lib.rt:21:9
 returns : tie.Need-returns
 returns c = λ h. absurd (omega arith)
 
--- src/lib.rt:23:9
 stop-requires : tie.Need-stop-requires
 stop-requires c κs = search needs
 
--- src/lib.rt:25:9
 returns-2 : tie.Need-returns-2
 returns-2 c = λ h. stop-at (c .if2 .taken) (c .before .stop .ensures)
 
--- src/lib.rt:16:1
 returns-3 : tie.Need-returns-3
 returns-3 c = search needs
 

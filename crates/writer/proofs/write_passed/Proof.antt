@@ -1,39 +1,29 @@
+-- `write_passed`: the slice is set to 0, the text put from its start on, and the place after it tells whether all of it fitted. Assumes nothing.
 use Rattle.writer.proofs.WriteLaws.{wrote-over, wrote-in}
 use Rattle.round.proofs.Round.{passes}
 use native.Mathlib.Omega.{arith}
 use borrow.Author.Needs.{needs}
 use Rattle.writer.proofs.write_passed.Statement.{statement}
 use Rattle.writer.proofs.write_passed.Tie as tie
-use Rattle.writer.proofs.write_passed.Reads as reads
-use Rattle.writer.proofs.write_passed.Lts as lts
-use Rattle.writer.proofs.clear.Reads as clear-reads
-use Rattle.writer.proofs.kinds.put_chart.Reads as put-chart-reads
 
--- src/lib.rt:31:5
 clear-requires : tie.Need-clear-requires
 clear-requires c κs = search needs
 
--- src/lib.rt:32:9
 put-chart-requires : tie.Need-put-chart-requires
 put-chart-requires c κs = passes (c .before .before .before .before .before .before .args .chart .now) (c .before .before .before .before .before .before .pre) .keeps
 
--- src/lib.rt:34:9
 clear-requires-2 : tie.Need-clear-requires-2
 clear-requires-2 c κs = search needs
 
--- src/lib.rt:39:9
 same-length : tie.Need-same-length
 same-length c = search needs
 
--- src/lib.rt:39:9
 returns : tie.Need-returns
 returns c = wrote-over (c .before .before .before .before .before .before .before .before .before .before .before .before .before .before .args .chart .now) (c .before .before .before .before .before .before .before .before .before .before .before .before .before .before .pre) _ _ _ _ (c .before .before .before .before .before .before .before .before .before .before .before .clear .ensures) (c .before .before .before .before .before .before .before .put-chart .ensures) (omega arith) _ _ (omega arith) (c .before .before .clear2 .ensures)
 
--- src/lib.rt:27:1
 same-length-2 : tie.Need-same-length-2
 same-length-2 c = search needs
 
--- src/lib.rt:27:1
 returns-2 : tie.Need-returns-2
 returns-2 c = wrote-in (c .before .before .before .before .before .before .before .before .before .before .args .chart .now) (c .before .before .before .before .before .before .before .before .before .before .pre) _ _ _ _ (c .before .before .before .before .before .before .before .clear .ensures) (c .before .before .before .put-chart .ensures) (omega arith)
 

@@ -1,3 +1,4 @@
+-- `fields::cells::among` meets its contract: the loop keeps what is named in its invariant. Assumes nothing.
 use Rattle.meaning.specs.Lists.{has}
 use lib.ListN.{length, drop}
 use native.Mathlib.Omega.{arith}
@@ -7,8 +8,6 @@ use Rattle.fields.proofs.CellLaws.{among-here, among-next, among-none}
 use borrow.Author.Needs.{needs}
 use Rattle.fields.proofs.cells.among.Statement.{statement}
 use Rattle.fields.proofs.cells.among.Tie as tie
-use Rattle.fields.proofs.cells.among.Reads as reads
-use Rattle.fields.proofs.cells.among.Lts as lts
 
 abbrev Inv-loop : tie.InvT-loop
 Inv-loop letter letters i₀ i = (i ≤ length letters) × (has letter (drop i letters) ≡ has letter letters)
@@ -16,31 +15,24 @@ Inv-loop letter letters i₀ i = (i ≤ length letters) × (has letter (drop i l
 abbrev μ-loop : tie.MeasureT-loop
 μ-loop letter letters i₀ i = length letters - i
 
--- src/cells.rt:106:5
 loop-holds : tie.Need-loop-holds Inv-loop μ-loop
 loop-holds c = (omega arith, refl)
 
--- src/cells.rt:107:22
 shared-slice-read-if1 : tie.Need-shared-slice-read-if1 Inv-loop μ-loop
 shared-slice-read-if1 c = search needs
 
--- src/cells.rt:108:13
 returns : tie.Need-returns Inv-loop μ-loop
 returns c = let l = c .before .before in sym (among-here _ _ _ (l .loop-test .taken) (c .if1 .taken)) ∙ l .before .loop .inv .1
 
--- src/cells.rt:110:9
 add-i : tie.Need-add-i Inv-loop μ-loop
 add-i c = search needs
 
--- src/cells.rt:106:5
 loop-less : tie.Need-loop-less Inv-loop μ-loop
 loop-less c = search needs
 
--- src/cells.rt:106:5
 loop-again : tie.Need-loop-again Inv-loop μ-loop
 loop-again c = let l = c .before .before in (omega arith, among-next _ _ _ (l .loop-test .taken) (c .if1 .left) ∙ l .before .loop .inv .1)
 
--- src/cells.rt:102:1
 returns-2 : tie.Need-returns-2 Inv-loop μ-loop
 returns-2 c = sym (among-none _ _ _ (c .before .loop .inv .0) (c .loop-test .left)) ∙ c .before .loop .inv .1
 

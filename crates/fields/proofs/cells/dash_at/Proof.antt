@@ -1,20 +1,15 @@
+-- `fields::cells::dash_at` meets its contract: each way out is a law of the files beside. Assumes nothing.
 use Rattle.fields.proofs.CellLaws.{dash-is, dash-not}
 use borrow.Author.Needs.{needs}
 use Rattle.fields.proofs.cells.dash_at.Statement.{statement}
 use Rattle.fields.proofs.cells.dash_at.Tie as tie
-use Rattle.fields.proofs.cells.dash_at.Reads as reads
-use Rattle.fields.proofs.cells.dash_at.Lts as lts
-use Rattle.fields.proofs.letter_at.Reads as letter-at-reads
 
--- src/cells.rt:92:8
 letter-at-requires : tie.Need-letter-at-requires
 letter-at-requires c κs = search needs
 
--- src/cells.rt:93:9
 returns : tie.Need-returns
 returns c = dash-is _ _ (c .before .letter-at .ensures) (c .if1 .taken)
 
--- src/cells.rt:88:1
 returns-2 : tie.Need-returns-2
 returns-2 c = dash-not _ _ (c .before .letter-at .ensures) (c .if1 .left)
 

@@ -1,21 +1,15 @@
+-- `fields::cells::number_at` meets its contract: each way out is a law of the files beside. Assumes nothing.
 use Rattle.fields.proofs.CellLaws.{number-is}
 use borrow.Author.Needs.{needs}
 use Rattle.fields.proofs.cells.number_at.Statement.{statement}
 use Rattle.fields.proofs.cells.number_at.Tie as tie
-use Rattle.fields.proofs.cells.number_at.Reads as reads
-use Rattle.fields.proofs.cells.number_at.Lts as lts
-use Rattle.fields.proofs.cells.cell_of.Reads as cell-of-reads
-use Rattle.fields.proofs.cells.num_at.Reads as num-at-reads
 
--- src/cells.rt:84:13
 num-at-requires : tie.Need-num-at-requires
 num-at-requires c κs = search needs
 
--- src/cells.rt:84:5
 cell-of-requires : tie.Need-cell-of-requires
 cell-of-requires c κs = search needs
 
--- src/cells.rt:80:1
 returns : tie.Need-returns
 returns c = number-is _ _ _ (c .before .num-at .ensures) (c .cell-of .ensures)
 

@@ -1,25 +1,18 @@
+-- `fields::cells::number_or_dash_at` meets its contract: each way out is a law of the files beside. Assumes nothing.
 use Rattle.fields.proofs.CellLaws.{wanted-number, no-number}
 use borrow.Author.Needs.{needs}
 use Rattle.fields.proofs.cells.number_or_dash_at.Statement.{statement}
 use Rattle.fields.proofs.cells.number_or_dash_at.Tie as tie
-use Rattle.fields.proofs.cells.number_or_dash_at.Reads as reads
-use Rattle.fields.proofs.cells.number_or_dash_at.Lts as lts
-use Rattle.fields.proofs.cells.dash_at.Reads as dash-at-reads
-use Rattle.fields.proofs.cells.number_at.Reads as number-at-reads
 
--- src/cells.rt:142:9
 number-at-requires : tie.Need-number-at-requires
 number-at-requires c κs = search needs
 
--- src/cells.rt:142:9
 returns : tie.Need-returns
 returns c = wanted-number _ _ _ (c .before .if1 .taken) (c .number-at .ensures)
 
--- src/cells.rt:144:5
 dash-at-requires : tie.Need-dash-at-requires
 dash-at-requires c κs = search needs
 
--- src/cells.rt:137:1
 returns-2 : tie.Need-returns-2
 returns-2 c = no-number _ _ _ (c .before .if1 .left) (c .dash-at .ensures)
 

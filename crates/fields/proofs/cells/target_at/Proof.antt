@@ -1,3 +1,4 @@
+-- `fields::cells::target_at` meets its contract: each way out is a law of the files beside. Assumes nothing.
 use lib.ListN.{length}
 use Prim.Native.Nat.{_≤_, _<_}
 use native.Mathlib.Omega.{arith}
@@ -5,46 +6,31 @@ use Rattle.fields.proofs.CellLaws.{aim-dash, aim-empty, aim-history, ai
 use borrow.Author.Needs.{needs}
 use Rattle.fields.proofs.cells.target_at.Statement.{statement}
 use Rattle.fields.proofs.cells.target_at.Tie as tie
-use Rattle.fields.proofs.cells.target_at.Reads as reads
-use Rattle.fields.proofs.cells.target_at.Lts as lts
-use Rattle.fields.proofs.cells.cell_of.Reads as cell-of-reads
-use Rattle.fields.proofs.field.Reads as field-reads
-use Rattle.fields.proofs.letter_at.Reads as letter-at-reads
-use Rattle.numerals.proofs.number.Reads as number-reads
 
--- src/cells.rt:168:8
 letter-at-requires : tie.Need-letter-at-requires
 letter-at-requires c κs = search needs
 
--- src/cells.rt:173:9
 returns : tie.Need-returns
 returns c = aim-dash _ _ (c .before .letter-at .ensures) (c .if1 .taken)
 
--- src/cells.rt:178:9
 field-requires : tie.Need-field-requires
 field-requires c κs = search needs
 
--- src/cells.rt:182:9
 returns-2 : tie.Need-returns-2
 returns-2 c = aim-empty _ _ _ _ _ (c .before .field .ensures .is) (c .before .before .before .letter-at .ensures) (c .before .before .if1 .left) (c .if2 .taken)
 
--- src/cells.rt:187:8
 shared-slice-read-if3 : tie.Need-shared-slice-read-if3
 shared-slice-read-if3 c = search needs
 
--- src/cells.rt:192:39
 add-number : tie.Need-add-number
 add-number c = search needs
 
--- src/cells.rt:192:29
 number-requires : tie.Need-number-requires
 number-requires c κs = search needs
 
--- src/cells.rt:192:13
 cell-of-requires : tie.Need-cell-of-requires
 cell-of-requires c κs = search needs
 
--- src/cells.rt:193:9
 returns-3 : tie.Need-returns-3
 returns-3 c =
     let p = c .before .before .before .before .before .field .result in
@@ -57,15 +43,12 @@ returns-3 c =
     let t : p .to ≤ length (c .before .before .before .before .before .before .before .before .before .args .s .now) = omega arith in
     aim-history _ _ _ _ _ (q .is) (c .before .before .before .before .before .before .before .letter-at .ensures) (c .before .before .before .before .before .before .if1 .left) k t _ _ (c .cell-of .ensures) (c .before .before .if3 .taken) (c .before .number .ensures)
 
--- src/cells.rt:198:25
 number-requires-2 : tie.Need-number-requires-2
 number-requires-2 c κs = search needs
 
--- src/cells.rt:198:9
 cell-of-requires-2 : tie.Need-cell-of-requires-2
 cell-of-requires-2 c κs = search needs
 
--- src/cells.rt:163:1
 returns-4 : tie.Need-returns-4
 returns-4 c =
     let p = c .before .before .before .before .before .field .result in

@@ -1,28 +1,22 @@
+-- `lines::marks::put` meets its contract: each way out is a law of the files beside. Assumes nothing.
 use Rattle.lines.specs.Took.{put-row}
 use Rattle.lines.proofs.MarkLaws.{put-none}
 use borrow.Author.Needs.{needs}
 use Rattle.lines.proofs.marks.put.Statement.{statement}
 use Rattle.lines.proofs.marks.put.Tie as tie
-use Rattle.lines.proofs.marks.put.Reads as reads
-use Rattle.lines.proofs.marks.put.Lts as lts
 
--- src/marks.rt:45:9
 returns : tie.Need-returns
 returns c = put-none _ _ _ (c .if1 .taken)
 
--- src/marks.rt:48:5
 mul-z : tie.Need-mul-z
 mul-z c = search needs
 
--- src/marks.rt:48:5
 slice-set-from-z : tie.Need-slice-set-from-z
 slice-set-from-z c = search needs
 
--- src/marks.rt:41:1
 same-length : tie.Need-same-length
 same-length c = search needs
 
--- src/marks.rt:41:1
 returns-2 : tie.Need-returns-2
 unfolding put-row
 returns-2 c = search needs

@@ -1,14 +1,11 @@
+-- `lines::marks::room` meets its contract: each way out is a law of the files beside. Assumes nothing.
 use Rattle.lines.proofs.MarkLaws.{room-in, room-out}
 use Rattle.lines.proofs.marks.room.Statement.{statement}
 use Rattle.lines.proofs.marks.room.Tie as tie
-use Rattle.lines.proofs.marks.room.Reads as reads
-use Rattle.lines.proofs.marks.room.Lts as lts
 
--- src/lib.rt:113:1
 returns : tie.Need-returns
 returns c = room-in _ _ (c .if1 .taken)
 
--- src/lib.rt:113:1
 returns-2 : tie.Need-returns-2
 returns-2 c = room-out _ _ (c .if1 .left)
 

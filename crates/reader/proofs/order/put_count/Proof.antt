@@ -1,32 +1,24 @@
+-- `reader::order::put_count` meets its contract: each way out is a law of the files beside. Assumes nothing.
 use Rattle.reader.proofs.OrderLaws.{count-set, count-none}
 use borrow.Author.Needs.{needs}
 use Rattle.reader.proofs.order.put_count.Statement.{statement}
 use Rattle.reader.proofs.order.put_count.Tie as tie
-use Rattle.reader.proofs.order.put_count.Reads as reads
-use Rattle.reader.proofs.order.put_count.Lts as lts
-use Rattle.numbers.proofs.number.Reads as number-reads
 
--- src/order.rt:104:9
 returns : tie.Need-returns
 returns c = count-none _ _ _ (c .if1 .taken)
 
--- src/order.rt:106:9
 number-requires : tie.Need-number-requires
 number-requires c κs = search needs
 
--- src/order.rt:107:5
 mul-z : tie.Need-mul-z
 mul-z c = search needs
 
--- src/order.rt:107:5
 slice-set-from-z : tie.Need-slice-set-from-z
 slice-set-from-z c = search needs
 
--- src/order.rt:99:1
 same-length : tie.Need-same-length
 same-length c = search needs
 
--- src/order.rt:99:1
 returns-2 : tie.Need-returns-2
 returns-2 c = count-set (c .before .before .args .chart .now) (c .before .before .args .at) _ _ (c .number .ensures) (c .before .before .pre)
 

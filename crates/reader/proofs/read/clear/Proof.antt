@@ -1,3 +1,4 @@
+-- `reader::read::clear` meets its contract: the loop keeps what is named in its invariant. Assumes nothing.
 use Prim.Native.Nat.{_≤_, _-_}
 use mathlib.Core.Path.{_≡_}
 use mathlib.Core.List.{_++_}
@@ -9,8 +10,6 @@ use Rattle.reader.specs.Scanned.{zeros}
 use Rattle.reader.proofs.ReadLaws.{fill-step, fill-all}
 use Rattle.reader.proofs.read.clear.Statement.{statement}
 use Rattle.reader.proofs.read.clear.Tie as tie
-use Rattle.reader.proofs.read.clear.Reads as reads
-use Rattle.reader.proofs.read.clear.Lts as lts
 
 abbrev Inv-loop : tie.InvT-loop
 Inv-loop chart₀ i₀ chart i = (i ≤ length chart₀) × (chart ≡ replicate i (pos 0) ++ drop i chart₀) × (length chart ≡ length chart₀)
@@ -18,37 +17,29 @@ Inv-loop chart₀ i₀ chart i = (i ≤ length chart₀) × (chart ≡ replicate
 abbrev μ-loop : tie.MeasureT-loop
 μ-loop chart₀ i₀ chart i = length chart₀ - i
 
--- src/lib.rt:34:5
 loop-holds : tie.Need-loop-holds Inv-loop μ-loop
 loop-holds c = search needs
 
--- src/lib.rt:35:9
 mul-chart : tie.Need-mul-chart Inv-loop μ-loop
 mul-chart c = search needs
 
--- src/lib.rt:35:9
 slice-set-of-chart : tie.Need-slice-set-of-chart Inv-loop μ-loop
 slice-set-of-chart c = search needs
 
--- src/lib.rt:36:9
 add-i : tie.Need-add-i Inv-loop μ-loop
 add-i c = search needs
 
--- src/lib.rt:34:5
 loop-less : tie.Need-loop-less Inv-loop μ-loop
 loop-less c = search needs
 
--- src/lib.rt:34:5
 loop-again : tie.Need-loop-again Inv-loop μ-loop
 loop-again c =
     let l = c .before .loop .inv in
     (omega arith, fill-step (pos 0) _ (c .before .before .args .chart .now) (c .before .loop .i) (l .1) (omega arith), search needs)
 
--- src/lib.rt:30:1
 same-length : tie.Need-same-length Inv-loop μ-loop
 same-length c = search needs
 
--- src/lib.rt:30:1
 returns : tie.Need-returns Inv-loop μ-loop
 unfolding zeros
 returns c = fill-all (pos 0) _ (c .before .before .args .chart .now) (c .before .loop .i) (c .before .loop .inv .1) (omega arith) (omega arith)

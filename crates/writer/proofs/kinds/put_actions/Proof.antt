@@ -1,4 +1,5 @@
-use mathlib.Core.Path.{_≡_, refl, sym, ap, _∙_}
+-- `put_actions`: what is left from row i on, put behind what was put, is the whole. Assumes nothing.
+use mathlib.Core.Path.{_≡_, refl, _∙_}
 use Prim.Native.Nat.{_-_, _≤_, _<_}
 use borrow.Author.Needs.{needs}
 use native.Mathlib.Omega.{arith}
@@ -9,10 +10,6 @@ use Rattle.writer.specs.Pen.{pen, put-all}
 use Rattle.writer.proofs.LoopLaws.{left-from, left-more, left-none, actions-count, actions-at, action-asks}
 use Rattle.writer.proofs.kinds.put_actions.Statement.{statement}
 use Rattle.writer.proofs.kinds.put_actions.Tie as tie
-use Rattle.writer.proofs.kinds.put_actions.Reads as reads
-use Rattle.writer.proofs.kinds.put_actions.Lts as lts
-use Rattle.chart.proofs.action_count.Reads as action-count-reads
-use Rattle.writer.proofs.rows.put_action.Reads as put-action-reads
 
 abbrev Inv-loop : tie.InvT-loop
 Inv-loop chart text₀ at n p₀ i₀ text p i =
@@ -21,30 +18,24 @@ Inv-loop chart text₀ at n p₀ i₀ text p i =
 abbrev μ-loop : tie.MeasureT-loop
 μ-loop chart text₀ at n p₀ i₀ text p i = n - i
 
--- src/kinds.rt:70:9
 action-count-requires : tie.Need-action-count-requires Inv-loop μ-loop
 action-count-requires c κs = search needs
 
--- src/kinds.rt:73:5
 loop-holds : tie.Need-loop-holds Inv-loop μ-loop
 loop-holds c = (refl, omega arith, refl)
 
--- src/kinds.rt:74:9
 put-action-requires : tie.Need-put-action-requires Inv-loop μ-loop
 put-action-requires c κs =
     let v = c .before .before .before .before .before .args .chart .now in
     let n = (c .before .before .before .action-count .ensures ∙ actions-count (c .before .before .before .before .before .args .chart .now)) in
     action-asks v (c .before .before .loop .i) (c .before .before .before .before .before .pre) (omega arith)
 
--- src/kinds.rt:75:9
 add-i : tie.Need-add-i Inv-loop μ-loop
 add-i c = search needs
 
--- src/kinds.rt:73:5
 loop-less : tie.Need-loop-less Inv-loop μ-loop
 loop-less c = search needs
 
--- src/kinds.rt:73:5
 loop-again : tie.Need-loop-again Inv-loop μ-loop
 loop-again c =
     let v = c .before .before .before .before .before .before .before .before .args .chart .now in
@@ -56,11 +47,9 @@ loop-again c =
       search needs,
     )
 
--- src/kinds.rt:66:1
 same-length : tie.Need-same-length Inv-loop μ-loop
 same-length c = search needs
 
--- src/kinds.rt:66:1
 returns : tie.Need-returns Inv-loop μ-loop
 returns c =
     let v = c .before .before .before .before .args .chart .now in

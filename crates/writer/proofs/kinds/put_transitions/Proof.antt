@@ -1,4 +1,5 @@
-use mathlib.Core.Path.{_≡_, refl, sym, ap, _∙_}
+-- `put_transitions`: what is left from row i on, put behind what was put, is the whole. Assumes nothing.
+use mathlib.Core.Path.{_≡_, refl, _∙_}
 use Prim.Native.Nat.{_-_, _≤_, _<_}
 use borrow.Author.Needs.{needs}
 use native.Mathlib.Omega.{arith}
@@ -9,10 +10,6 @@ use Rattle.writer.specs.Pen.{pen, put-all}
 use Rattle.writer.proofs.LoopLaws.{left-from, left-more, left-none, transitions-count, transitions-at, trans-asks}
 use Rattle.writer.proofs.kinds.put_transitions.Statement.{statement}
 use Rattle.writer.proofs.kinds.put_transitions.Tie as tie
-use Rattle.writer.proofs.kinds.put_transitions.Reads as reads
-use Rattle.writer.proofs.kinds.put_transitions.Lts as lts
-use Rattle.chart.proofs.transition_count.Reads as transition-count-reads
-use Rattle.writer.proofs.rows.put_transition.Reads as put-transition-reads
 
 abbrev Inv-loop : tie.InvT-loop
 Inv-loop chart text₀ at n p₀ i₀ text p i =
@@ -21,30 +18,24 @@ Inv-loop chart text₀ at n p₀ i₀ text p i =
 abbrev μ-loop : tie.MeasureT-loop
 μ-loop chart text₀ at n p₀ i₀ text p i = n - i
 
--- src/kinds.rt:55:9
 transition-count-requires : tie.Need-transition-count-requires Inv-loop μ-loop
 transition-count-requires c κs = search needs
 
--- src/kinds.rt:58:5
 loop-holds : tie.Need-loop-holds Inv-loop μ-loop
 loop-holds c = (refl, omega arith, refl)
 
--- src/kinds.rt:59:9
 put-transition-requires : tie.Need-put-transition-requires Inv-loop μ-loop
 put-transition-requires c κs =
     let v = c .before .before .before .before .before .args .chart .now in
     let n = (c .before .before .before .transition-count .ensures ∙ transitions-count (c .before .before .before .before .before .args .chart .now)) in
     trans-asks v (c .before .before .loop .i) (c .before .before .before .before .before .pre) (omega arith)
 
--- src/kinds.rt:60:9
 add-i : tie.Need-add-i Inv-loop μ-loop
 add-i c = search needs
 
--- src/kinds.rt:58:5
 loop-less : tie.Need-loop-less Inv-loop μ-loop
 loop-less c = search needs
 
--- src/kinds.rt:58:5
 loop-again : tie.Need-loop-again Inv-loop μ-loop
 loop-again c =
     let v = c .before .before .before .before .before .before .before .before .args .chart .now in
@@ -56,11 +47,9 @@ loop-again c =
       search needs,
     )
 
--- src/kinds.rt:51:1
 same-length : tie.Need-same-length Inv-loop μ-loop
 same-length c = search needs
 
--- src/kinds.rt:51:1
 returns : tie.Need-returns Inv-loop μ-loop
 returns c =
     let v = c .before .before .before .before .args .chart .now in

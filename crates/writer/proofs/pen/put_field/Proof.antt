@@ -1,26 +1,19 @@
+-- `put_field`: a tab, then the number. Assumes nothing.
 use Rattle.writer.proofs.PenLaws.{field-numeral}
 use mir.Facts.{toZ-ofZ}
 use borrow.Author.Needs.{needs}
 use Rattle.writer.proofs.pen.put_field.Statement.{statement}
 use Rattle.writer.proofs.pen.put_field.Tie as tie
-use Rattle.writer.proofs.pen.put_field.Reads as reads
-use Rattle.writer.proofs.pen.put_field.Lts as lts
-use Rattle.writer.proofs.pen.put.Reads as put-reads
-use Rattle.writer.proofs.pen.put_numeral.Reads as put-numeral-reads
 
--- src/pen.rt:68:9
 put-requires : tie.Need-put-requires
 put-requires c κs = search needs
 
--- src/pen.rt:69:5
 put-numeral-requires : tie.Need-put-numeral-requires
 put-numeral-requires c κs = search needs
 
--- src/pen.rt:65:1
 same-length : tie.Need-same-length
 same-length c = search needs
 
--- src/pen.rt:65:1
 returns : tie.Need-returns
 returns c = field-numeral _ _ _ _ (c .before .before .before .before .before .before .put .ensures) (rw (toZ-ofZ (c .before .before .before .before .before .before .before .before .before .fits .z)) at (c .before .before .put-numeral .ensures))
 

@@ -1,3 +1,4 @@
+-- `put_letter`: a tab, then "-" or the letter, which is a byte. Assumes nothing.
 use native.Mathlib.Omega.{arith}
 use Rattle.writer.proofs.PenLaws.{field-letter, field-no-letter}
 use mathlib.Core.Path.{sym, _∙_}
@@ -5,39 +6,27 @@ use mir.Facts.{toZ-ofZ}
 use borrow.Author.Needs.{needs}
 use Rattle.writer.proofs.pen.put_letter.Statement.{statement}
 use Rattle.writer.proofs.pen.put_letter.Tie as tie
-use Rattle.writer.proofs.pen.put_letter.Reads as reads
-use Rattle.writer.proofs.pen.put_letter.Lts as lts
-use Rattle.chart.proofs.decode.is_absent.Reads as is-absent-reads
-use Rattle.numbers.proofs.reference.Reads as reference-reads
-use Rattle.writer.proofs.pen.put.Reads as put-reads
 
--- src/pen.rt:88:9
 put-requires : tie.Need-put-requires
 put-requires c κs = search needs
 
--- src/pen.rt:89:8
 is-absent-requires : tie.Need-is-absent-requires
 is-absent-requires c κs = search needs
 
--- src/pen.rt:90:9
 put-requires-2 : tie.Need-put-requires-2
 put-requires-2 c κs = search needs
 
--- src/pen.rt:90:9
 same-length : tie.Need-same-length
 same-length c = search needs
 
--- src/pen.rt:90:9
 returns : tie.Need-returns
 returns c =
     let a = rw (toZ-ofZ (c .before .before .before .before .before .before .before .before .before .before .before .fits .z)) at (c .before .before .before .before .before .is-absent .ensures) in
     field-no-letter _ _ _ _ (sym a ∙ c .before .before .before .before .if1 .taken) (c .before .before .before .before .before .before .before .before .put .ensures) (c .before .before .put2 .ensures)
 
--- src/pen.rt:92:9
 reference-requires : tie.Need-reference-requires
 reference-requires c κs = search needs
 
--- src/pen.rt:93:18
 cast-put : tie.Need-cast-put
 cast-put c =
     let f = c .before .before .before .before .before .before .before .before .before .fits .z in
@@ -46,15 +35,12 @@ cast-put c =
     let h = c .before .before .before .before .before .before .before .before .before .pre .byte (sym a ∙ c .before .before .if1 .left) in
     record { fits = omega arith }
 
--- src/pen.rt:93:5
 put-requires-3 : tie.Need-put-requires-3
 put-requires-3 c κs = search needs
 
--- src/pen.rt:84:1
 same-length-2 : tie.Need-same-length-2
 same-length-2 c = search needs
 
--- src/pen.rt:84:1
 returns-2 : tie.Need-returns-2
 returns-2 c =
     let a = rw (toZ-ofZ (c .before .before .before .before .before .before .before .before .before .before .before .before .fits .z)) at (c .before .before .before .before .before .before .is-absent .ensures) in

@@ -1,45 +1,33 @@
+-- `put_numeral`: a minus where the number is below 0, then its size. Assumes nothing.
 use Rattle.writer.proofs.PenLaws.{numeral-minus, numeral-plain}
 use mir.Facts.{toZ-ofZ}
 use borrow.Author.Needs.{needs}
 use Rattle.writer.proofs.pen.put_numeral.Statement.{statement}
 use Rattle.writer.proofs.pen.put_numeral.Tie as tie
-use Rattle.writer.proofs.pen.put_numeral.Reads as reads
-use Rattle.writer.proofs.pen.put_numeral.Lts as lts
-use Rattle.writer.proofs.pen.put.Reads as put-reads
-use Rattle.writer.proofs.pen.put_digits.Reads as put-digits-reads
-use Rattle.writer.proofs.pen.size.Reads as size-reads
 
--- src/pen.rt:56:9
 size-requires : tie.Need-size-requires
 size-requires c κs = search needs
 
--- src/pen.rt:58:13
 put-requires : tie.Need-put-requires
 put-requires c κs = search needs
 
--- src/pen.rt:59:9
 put-digits-requires : tie.Need-put-digits-requires
 put-digits-requires c κs = search needs
 
--- src/pen.rt:59:9
 same-length : tie.Need-same-length
 same-length c = search needs
 
--- src/pen.rt:59:9
 returns : tie.Need-returns
 returns c =
     let f = c .before .before .before .before .before .before .before .before .before .before .before .fits .z in
     numeral-minus _ _ _ _ (rw (toZ-ofZ f) at (c .before .before .before .before .before .before .before .before .before .size .ensures)) _ (rw (toZ-ofZ f) at (c .before .before .before .before .before .before .before .before .if1 .taken)) (c .before .before .before .before .before .before .put .ensures) (c .before .before .put-digits .ensures)
 
--- src/pen.rt:61:5
 put-digits-requires-2 : tie.Need-put-digits-requires-2
 put-digits-requires-2 c κs = search needs
 
--- src/pen.rt:53:1
 same-length-2 : tie.Need-same-length-2
 same-length-2 c = search needs
 
--- src/pen.rt:53:1
 returns-2 : tie.Need-returns-2
 returns-2 c =
     let f = c .before .before .before .before .before .before .before .fits .z in

@@ -1,3 +1,4 @@
+-- `put_action`: the fields one behind another are the written form of the row. Assumes nothing.
 use Rattle.writer.proofs.RowLaws.{row-letter, row-letter-first, a-put}
 use Rattle.meaning.specs.Value.{ACTIONS-AT, ACT-ROW}
 use native.Mathlib.Omega.{arith}
@@ -6,95 +7,68 @@ use Rattle.numbers.proofs.Laws.{back32}
 use borrow.Author.Needs.{needs}
 use Rattle.writer.proofs.rows.put_action.Statement.{statement}
 use Rattle.writer.proofs.rows.put_action.Tie as tie
-use Rattle.writer.proofs.rows.put_action.Reads as reads
-use Rattle.writer.proofs.rows.put_action.Lts as lts
-use Rattle.chart.proofs.number_at.Reads as number-at-reads
-use Rattle.writer.proofs.pen.put.Reads as put-reads
-use Rattle.writer.proofs.pen.put_field.Reads as put-field-reads
-use Rattle.writer.proofs.pen.put_letter.Reads as put-letter-reads
-use Rattle.writer.proofs.pen.put_number.Reads as put-number-reads
 
--- src/rows.rt:104:29
 mul-from : tie.Need-mul-from
 mul-from c = search needs
 
--- src/rows.rt:104:16
 add-from : tie.Need-add-from
 add-from c = search needs
 
--- src/rows.rt:105:9
 number-at-requires : tie.Need-number-at-requires
 number-at-requires c κs = search needs
 
--- src/rows.rt:106:34
 add-number-at : tie.Need-add-number-at
 add-number-at c = search needs
 
--- src/rows.rt:106:9
 number-at-requires-2 : tie.Need-number-at-requires-2
 number-at-requires-2 c κs = search needs
 
--- src/rows.rt:107:32
 add-number-at-2 : tie.Need-add-number-at-2
 add-number-at-2 c = search needs
 
--- src/rows.rt:107:9
 number-at-requires-3 : tie.Need-number-at-requires-3
 number-at-requires-3 c κs = search needs
 
--- src/rows.rt:108:34
 add-number-at-3 : tie.Need-add-number-at-3
 add-number-at-3 c = search needs
 
--- src/rows.rt:108:9
 number-at-requires-4 : tie.Need-number-at-requires-4
 number-at-requires-4 c κs = search needs
 
--- src/rows.rt:109:35
 add-number-at-4 : tie.Need-add-number-at-4
 add-number-at-4 c = search needs
 
--- src/rows.rt:109:9
 number-at-requires-5 : tie.Need-number-at-requires-5
 number-at-requires-5 c κs = search needs
 
--- src/rows.rt:110:9
 put-requires : tie.Need-put-requires
 put-requires c κs = search needs
 
--- src/rows.rt:111:9
 put-letter-requires : tie.Need-put-letter-requires
 put-letter-requires c κs =
     let y = c .before .before .before .before .before .before .before .before .before .number-at in
     row-letter-first ACTIONS-AT ACT-ROW _ _ _ (omega arith) (back32 (y .result) (y .ok) ∙ y .ensures) (c .before .before .before .before .before .before .before .before .before .before .before .pre .1 .0)
 
--- src/rows.rt:112:9
 put-field-requires : tie.Need-put-field-requires
 put-field-requires c κs = search needs
 
--- src/rows.rt:113:9
 put-letter-requires-2 : tie.Need-put-letter-requires-2
 put-letter-requires-2 c κs =
     let y = c .before .before .before .before .before .before .before .before .before .before .before .before .before .before .before .number-at3 in
     row-letter ACTIONS-AT ACT-ROW 2 _ _ _ (omega arith) (back32 (y .result) (y .ok) ∙ y .ensures) (c .before .before .before .before .before .before .before .before .before .before .before .before .before .before .before .before .before .before .before .pre .1 .1)
 
--- src/rows.rt:114:9
 put-field-requires-2 : tie.Need-put-field-requires-2
 put-field-requires-2 c κs = search needs
 
--- src/rows.rt:115:9
 put-number-requires : tie.Need-put-number-requires
 put-number-requires c κs = search needs
 
--- src/rows.rt:116:5
 put-requires-2 : tie.Need-put-requires-2
 put-requires-2 c κs = search needs
 
--- src/rows.rt:100:1
 same-length : tie.Need-same-length
 same-length c = search needs
 
--- src/rows.rt:100:1
 returns : tie.Need-returns
 returns c =
     let n1 = c .before .before .before .before .before .before .before .before .before .before .before .before .before .before .before .before .before .before .before .before .before .before .before .before .before .before .before .before .before .before .before .before .number-at in

@@ -1,3 +1,4 @@
+-- `put_state`: the fields one behind another are the written form of the row. Assumes nothing.
 use Rattle.writer.proofs.RowLaws.{row-letter, s-put}
 use Rattle.meaning.specs.Value.{STATES-AT, STATE-ROW}
 use native.Mathlib.Omega.{arith}
@@ -6,78 +7,54 @@ use Rattle.numbers.proofs.Laws.{back32}
 use borrow.Author.Needs.{needs}
 use Rattle.writer.proofs.rows.put_state.Statement.{statement}
 use Rattle.writer.proofs.rows.put_state.Tie as tie
-use Rattle.writer.proofs.rows.put_state.Reads as reads
-use Rattle.writer.proofs.rows.put_state.Lts as lts
-use Rattle.chart.proofs.number_at.Reads as number-at-reads
-use Rattle.numbers.proofs.number.Reads as number-reads
-use Rattle.writer.proofs.pen.put.Reads as put-reads
-use Rattle.writer.proofs.pen.put_field.Reads as put-field-reads
-use Rattle.writer.proofs.pen.put_letter.Reads as put-letter-reads
-use Rattle.writer.proofs.pen.put_number.Reads as put-number-reads
 
--- src/rows.rt:33:28
 mul-from : tie.Need-mul-from
 mul-from c = search needs
 
--- src/rows.rt:33:16
 add-from : tie.Need-add-from
 add-from c = search needs
 
--- src/rows.rt:34:9
 number-requires : tie.Need-number-requires
 number-requires c κs = search needs
 
--- src/rows.rt:35:9
 number-at-requires : tie.Need-number-at-requires
 number-at-requires c κs = search needs
 
--- src/rows.rt:36:33
 add-number-at : tie.Need-add-number-at
 add-number-at c = search needs
 
--- src/rows.rt:36:9
 number-at-requires-2 : tie.Need-number-at-requires-2
 number-at-requires-2 c κs = search needs
 
--- src/rows.rt:37:35
 add-number-at-2 : tie.Need-add-number-at-2
 add-number-at-2 c = search needs
 
--- src/rows.rt:37:9
 number-at-requires-3 : tie.Need-number-at-requires-3
 number-at-requires-3 c κs = search needs
 
--- src/rows.rt:38:9
 put-requires : tie.Need-put-requires
 put-requires c κs = search needs
 
--- src/rows.rt:39:9
 put-field-requires : tie.Need-put-field-requires
 put-field-requires c κs = search needs
 
--- src/rows.rt:40:9
 put-number-requires : tie.Need-put-number-requires
 put-number-requires c κs = search needs
 
--- src/rows.rt:41:9
 put-letter-requires : tie.Need-put-letter-requires
 put-letter-requires c κs =
     let y = c .before .before .before .before .before .before .before .before .before .before .before .before .before .before .number-at2 in
     row-letter STATES-AT STATE-ROW 1 _ _ _ (omega arith) (back32 (y .result) (y .ok) ∙ y .ensures) (c .before .before .before .before .before .before .before .before .before .before .before .before .before .before .before .before .before .before .pre .1)
 
--- src/rows.rt:42:9
 put-number-requires-2 : tie.Need-put-number-requires-2
 put-number-requires-2 c κs = search needs
 
--- src/rows.rt:43:5
 put-requires-2 : tie.Need-put-requires-2
 put-requires-2 c κs = search needs
 
--- src/rows.rt:29:1
 same-length : tie.Need-same-length
 same-length c = search needs
 
--- src/rows.rt:29:1
 returns : tie.Need-returns
 returns c =
     let t = c .before .before .before .before .before .before .before .before .before .before .before .before .before .before .before .before .before .before .before .before .before .before .before .before .before .before .before .number in

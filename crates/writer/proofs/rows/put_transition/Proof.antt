@@ -1,3 +1,4 @@
+-- `put_transition`: the fields one behind another are the written form of the row. Assumes nothing.
 use Rattle.writer.proofs.RowLaws.{row-letter, t-put}
 use Rattle.meaning.specs.Value.{TRANSITIONS-AT, TRANS-ROW}
 use native.Mathlib.Omega.{arith}
@@ -6,123 +7,87 @@ use Rattle.numbers.proofs.Laws.{back32}
 use borrow.Author.Needs.{needs}
 use Rattle.writer.proofs.rows.put_transition.Statement.{statement}
 use Rattle.writer.proofs.rows.put_transition.Tie as tie
-use Rattle.writer.proofs.rows.put_transition.Reads as reads
-use Rattle.writer.proofs.rows.put_transition.Lts as lts
-use Rattle.chart.proofs.number_at.Reads as number-at-reads
-use Rattle.numbers.proofs.number.Reads as number-reads
-use Rattle.writer.proofs.pen.put.Reads as put-reads
-use Rattle.writer.proofs.pen.put_field.Reads as put-field-reads
-use Rattle.writer.proofs.pen.put_letter.Reads as put-letter-reads
-use Rattle.writer.proofs.pen.put_number.Reads as put-number-reads
-use Rattle.writer.proofs.pen.put_target.Reads as put-target-reads
 
--- src/rows.rt:79:33
 mul-from : tie.Need-mul-from
 mul-from c = search needs
 
--- src/rows.rt:79:16
 add-from : tie.Need-add-from
 add-from c = search needs
 
--- src/rows.rt:80:9
 number-requires : tie.Need-number-requires
 number-requires c κs = search needs
 
--- src/rows.rt:81:9
 number-at-requires : tie.Need-number-at-requires
 number-at-requires c κs = search needs
 
--- src/rows.rt:82:36
 add-number-at : tie.Need-add-number-at
 add-number-at c = search needs
 
--- src/rows.rt:82:9
 number-at-requires-2 : tie.Need-number-at-requires-2
 number-at-requires-2 c κs = search needs
 
--- src/rows.rt:83:32
 add-number-at-2 : tie.Need-add-number-at-2
 add-number-at-2 c = search needs
 
--- src/rows.rt:83:9
 number-at-requires-3 : tie.Need-number-at-requires-3
 number-at-requires-3 c κs = search needs
 
--- src/rows.rt:84:33
 add-number-at-3 : tie.Need-add-number-at-3
 add-number-at-3 c = search needs
 
--- src/rows.rt:84:9
 number-at-requires-4 : tie.Need-number-at-requires-4
 number-at-requires-4 c κs = search needs
 
--- src/rows.rt:85:37
 add-number-at-4 : tie.Need-add-number-at-4
 add-number-at-4 c = search needs
 
--- src/rows.rt:85:9
 number-at-requires-5 : tie.Need-number-at-requires-5
 number-at-requires-5 c κs = search needs
 
--- src/rows.rt:86:35
 add-number-at-5 : tie.Need-add-number-at-5
 add-number-at-5 c = search needs
 
--- src/rows.rt:86:9
 number-at-requires-6 : tie.Need-number-at-requires-6
 number-at-requires-6 c κs = search needs
 
--- src/rows.rt:87:35
 add-number-at-6 : tie.Need-add-number-at-6
 add-number-at-6 c = search needs
 
--- src/rows.rt:87:9
 number-at-requires-7 : tie.Need-number-at-requires-7
 number-at-requires-7 c κs = search needs
 
--- src/rows.rt:88:9
 put-requires : tie.Need-put-requires
 put-requires c κs = search needs
 
--- src/rows.rt:89:9
 put-field-requires : tie.Need-put-field-requires
 put-field-requires c κs = search needs
 
--- src/rows.rt:90:9
 put-field-requires-2 : tie.Need-put-field-requires-2
 put-field-requires-2 c κs = search needs
 
--- src/rows.rt:91:9
 put-field-requires-3 : tie.Need-put-field-requires-3
 put-field-requires-3 c κs = search needs
 
--- src/rows.rt:92:9
 put-number-requires : tie.Need-put-number-requires
 put-number-requires c κs = search needs
 
--- src/rows.rt:93:9
 put-letter-requires : tie.Need-put-letter-requires
 put-letter-requires c κs =
     let y = c .before .before .before .before .before .before .before .before .before .before .before .before .before .before .before .before .before .before .before .before .before .before .before .before .number-at4 in
     row-letter TRANSITIONS-AT TRANS-ROW 3 _ _ _ (omega arith) (back32 (y .result) (y .ok) ∙ y .ensures) (c .before .before .before .before .before .before .before .before .before .before .before .before .before .before .before .before .before .before .before .before .before .before .before .before .before .before .before .before .before .before .pre .1)
 
--- src/rows.rt:94:9
 put-number-requires-2 : tie.Need-put-number-requires-2
 put-number-requires-2 c κs = search needs
 
--- src/rows.rt:95:9
 put-target-requires : tie.Need-put-target-requires
 put-target-requires c κs = search needs
 
--- src/rows.rt:96:5
 put-requires-2 : tie.Need-put-requires-2
 put-requires-2 c κs = search needs
 
--- src/rows.rt:75:1
 same-length : tie.Need-same-length
 same-length c = search needs
 
--- src/rows.rt:75:1
 returns : tie.Need-returns
 returns c =
     let t = c .before .before .before .before .before .before .before .before .before .before .before .before .before .before .before .before .before .before .before .before .before .before .before .before .before .before .before .before .before .before .before .before .before .before .before .before .before .before .before .before .before .before .before .number in

@@ -1,77 +1,56 @@
+-- `put_variable`: the fields one behind another are the written form of the row. Assumes nothing.
 use Rattle.writer.proofs.RowLaws.{v-put}
 use mathlib.Core.Path.{_∙_}
 use Rattle.numbers.proofs.Laws.{back32}
 use borrow.Author.Needs.{needs}
 use Rattle.writer.proofs.rows.put_variable.Statement.{statement}
 use Rattle.writer.proofs.rows.put_variable.Tie as tie
-use Rattle.writer.proofs.rows.put_variable.Reads as reads
-use Rattle.writer.proofs.rows.put_variable.Lts as lts
-use Rattle.chart.proofs.number_at.Reads as number-at-reads
-use Rattle.numbers.proofs.number.Reads as number-reads
-use Rattle.writer.proofs.pen.put.Reads as put-reads
-use Rattle.writer.proofs.pen.put_field.Reads as put-field-reads
 
--- src/rows.rt:51:26
 mul-from : tie.Need-mul-from
 mul-from c = search needs
 
--- src/rows.rt:51:16
 add-from : tie.Need-add-from
 add-from c = search needs
 
--- src/rows.rt:52:9
 number-requires : tie.Need-number-requires
 number-requires c κs = search needs
 
--- src/rows.rt:53:9
 number-at-requires : tie.Need-number-at-requires
 number-at-requires c κs = search needs
 
--- src/rows.rt:54:33
 add-number-at : tie.Need-add-number-at
 add-number-at c = search needs
 
--- src/rows.rt:54:9
 number-at-requires-2 : tie.Need-number-at-requires-2
 number-at-requires-2 c κs = search needs
 
--- src/rows.rt:55:34
 add-number-at-2 : tie.Need-add-number-at-2
 add-number-at-2 c = search needs
 
--- src/rows.rt:55:9
 number-at-requires-3 : tie.Need-number-at-requires-3
 number-at-requires-3 c κs = search needs
 
--- src/rows.rt:56:9
 put-requires : tie.Need-put-requires
 put-requires c κs = search needs
 
--- src/rows.rt:57:9
 put-field-requires : tie.Need-put-field-requires
 put-field-requires c κs = search needs
 
--- src/rows.rt:58:9
 put-field-requires-2 : tie.Need-put-field-requires-2
 put-field-requires-2 c κs = search needs
 
--- src/rows.rt:59:9
 put-field-requires-3 : tie.Need-put-field-requires-3
 put-field-requires-3 c κs = search needs
 
--- src/rows.rt:60:9
 put-field-requires-4 : tie.Need-put-field-requires-4
 put-field-requires-4 c κs = search needs
 
--- src/rows.rt:61:5
 put-requires-2 : tie.Need-put-requires-2
 put-requires-2 c κs = search needs
 
--- src/rows.rt:47:1
 same-length : tie.Need-same-length
 same-length c = search needs
 
--- src/rows.rt:47:1
 returns : tie.Need-returns
 returns c =
     let t = c .before .before .before .before .before .before .before .before .before .before .before .before .before .before .before .before .before .before .before .before .before .before .before .before .before .before .before .number in

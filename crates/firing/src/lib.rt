@@ -1,0 +1,131 @@
+// Firing one transition (01, "Firing"): entry 1 of the trace, the active states of the span left, the transition's actions,
+// and the way down to the target or the history; a reaction in place leaves and enters nothing.
+use acts::perform_all;
+use chart::state_count;
+use chart::trans_row;
+use meaning::chart::Owner;
+use meaning::chart::Target;
+use moves::entering::towards;
+use moves::leaving::leave_below;
+use moves::ways::Goal;
+use queue::Queue;
+use sizes::STATES;
+use sizes::VARIABLES;
+use walks::scope;
+use widget::Went;
+use widget::mark_taken;
+ghost use mathlib.Core.Bool.{Bool};
+ghost use mathlib.Core.List.{List};
+ghost use Prim.Native.Nat.{_≤_, _<_};
+ghost use lib.ListN.{length};
+ghost use lib.IntN.{ℤ};
+ghost use Rattle.meaning.specs.Reaction.{fire as fires};
+ghost use Rattle.meaning.specs.Value.{chart-of};
+ghost use Rattle.walks.specs.Walks.{Ruled};
+ghost use Rattle.widget.specs.View.{Did};
+ghost use Rattle.moves.specs.Moves.{Inside, Led};
+ghost use Rattle.firing.specs.Moving.{moving};
+
+// The states below the scope are left, then the transition's actions, then the way down to the goal.
+fn move_to(
+    chart: &[i32],
+    arg: i32,
+    t: usize,
+    goal: Goal,
+    from: usize,
+    active: &mut [bool; STATES],
+    slots: &mut [i32; STATES],
+    vars: &mut [i32; VARIABLES],
+    queue: Queue,
+    trace: &mut [i32],
+    at: usize,
+) -> Went
+    requires { ⌜ Ruled (now chart) × Inside (chart-of (now chart)) goal × (from < length (chart-of (now chart) .states)) × Led (chart-of (now chart)) (now slots) × (at ≤ length (now trace)) ⌝ }
+    ensures { λ r. ⌜ Did (moving (chart-of (now (chart .entry))) arg t goal from) (now (active .entry)) (now (slots .entry)) (now (vars .entry)) queue (now (trace .entry)) at r (now (active .exit)) (now (slots .exit)) (now (vars .exit)) (now (trace .exit)) ⌝ }
+{
+    let gone = leave_below(chart, arg, from, active, slots, vars, queue, trace, at);
+    if gone.number != 0 {
+        return gone;
+    }
+    let waiting = gone.queue;
+    let owner = Owner::TransitionOf(t);
+    let acted = perform_all(chart, arg, owner, vars, waiting, trace, gone.at);
+    if acted.number != 0 {
+        return acted;
+    }
+    let onward = acted.queue;
+    let left = state_count(chart);
+    towards(
+        chart,
+        arg,
+        goal,
+        from,
+        left,
+        active,
+        slots,
+        vars,
+        onward,
+        trace,
+        acted.at,
+    )
+}
+
+// 01, "Firing": the transition t is taken.
+pub fn fire(
+    chart: &[i32],
+    arg: i32,
+    t: usize,
+    active: &mut [bool; STATES],
+    slots: &mut [i32; STATES],
+    vars: &mut [i32; VARIABLES],
+    queue: Queue,
+    trace: &mut [i32],
+    at: usize,
+) -> Went
+    requires { ⌜ Ruled (now chart) × (t < length (chart-of (now chart) .transitions)) × Led (chart-of (now chart)) (now slots) × (at ≤ length (now trace)) ⌝ }
+    ensures { λ r. ⌜ Did (fires (chart-of (now (chart .entry))) arg t) (now (active .entry)) (now (slots .entry)) (now (vars .entry)) queue (now (trace .entry)) at r (now (active .exit)) (now (slots .exit)) (now (vars .exit)) (now (trace .exit)) ⌝ }
+{
+    let taken = mark_taken(t, queue, trace, at);
+    if taken.number != 0 {
+        return taken;
+    }
+    let then = taken.queue;
+    let next = taken.at;
+    let row = trans_row(chart, t);
+    let target = row.target;
+    match target {
+        Target::To(d) => {
+            let from = scope(chart, row.source, d);
+            move_to(
+                chart,
+                arg,
+                t,
+                Goal::Target(d),
+                from,
+                active,
+                slots,
+                vars,
+                then,
+                trace,
+                next,
+            )
+        }
+        Target::History(b) => {
+            let from = scope(chart, row.source, b);
+            move_to(
+                chart,
+                arg,
+                t,
+                Goal::Owner(b),
+                from,
+                active,
+                slots,
+                vars,
+                then,
+                trace,
+                next,
+            )
+        }
+        Target::InPlace => perform_all(chart, arg, Owner::TransitionOf(t), vars, then, trace, next),
+    }
+}
