@@ -1,4 +1,8 @@
 // A run on a chart that passes the rules (01, "One reaction"): the tests 7, 6 and 8, the front event's step, null steps.
+use super::ends::finish;
+use super::ends::refuse;
+use super::steps::settle;
+use super::steps::step;
 use calls::own::own;
 use meaning::Called;
 use meaning::State;
@@ -6,10 +10,6 @@ use numbers::reference;
 use queue::Queue;
 use sizes::STATES;
 use sizes::VARIABLES;
-use super::ends::finish;
-use super::ends::refuse;
-use super::steps::settle;
-use super::steps::step;
 use widget::Went;
 ghost use mathlib.Core.Path.{_≡_};
 ghost use lib.ListN.{length};
@@ -65,6 +65,15 @@ pub fn run_ruled(chart: &[i32], state: State, trace: &mut [i32]) -> Called
     let mut slots = state.slots;
     let mut vars = state.vars;
     let waiting = removed.queue;
-    let went = react(chart, event, front.arg, &mut active, &mut slots, &mut vars, waiting, trace);
+    let went = react(
+        chart,
+        event,
+        front.arg,
+        &mut active,
+        &mut slots,
+        &mut vars,
+        waiting,
+        trace,
+    );
     finish(state, went, active, slots, vars, trace)
 }

@@ -1,4 +1,6 @@
 // A start on a chart that passes the rules (01, "One reaction"): a fresh widget, the root and its defaults, null steps.
+use super::ends::finish;
+use super::steps::settle;
 use acts::enter;
 use chart::state_count;
 use chart::var_count;
@@ -9,8 +11,6 @@ use moves::entering::by_defaults;
 use queue::Queue;
 use sizes::STATES;
 use sizes::VARIABLES;
-use super::ends::finish;
-use super::steps::settle;
 use widget::Went;
 ghost use mathlib.Core.Path.{_≡_};
 ghost use mathlib.Core.List.{map};
