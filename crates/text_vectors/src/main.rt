@@ -1,7 +1,7 @@
 // Chart texts run and compared (01, "Chart text"): the arguments name files of data/, one text each. For each the program prints the
 // text's name, the answer and the place that reading it gives, and whether an accepted text is written back byte for byte: `same`,
 // `differs`, or `-` for a refused one. A file that cannot be opened prints three dashes. The file `stdout` has what must be printed:
-// the table that came with 01, in its order, then texts at 01's sizes that the table lacks.
+// the table of vectors in its order, then texts that it lacks: 65 states, 128 transitions, 257 actions, and 01's chart K.
 use chart::layout::VALUE;
 use libc::STDOUT_FILENO;
 ghost use Prim.Native.Nat.{_≤_};
