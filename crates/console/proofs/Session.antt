@@ -8,7 +8,7 @@ use Rattle.meaning.specs.declared.State.{State}
 use Rattle.meaning.specs.declared.Line.{Line}
 use Rattle.meaning.specs.Chart.{Chart}
 use Rattle.meaning.specs.Split.{LF, Parts, all, onto, cut, split, lines, fields}
-use Rattle.meaning.specs.Program.{Turn, turn, turns, line-of, input-lines}
+use Rattle.meaning.specs.Program.{Turn, turn, turns, session, line-of, input-lines}
 use Rattle.console.specs.declared.scan.Scan.{Scan}
 use Rattle.console.specs.Scan.{empty, fed, line-at, began, scan-on, scan-of}
 use Rattle.console.specs.Session.{Turns, Under, Passed, ended, by-end, by-began, passed, finished, all-printed}
@@ -88,3 +88,8 @@ module _ (f : Turns) where
 pub printed-all : (f : Turns) (u : State) (input : List ℕ) → all-printed f (fresh u) input ≡ turns-by f u (input-lines (lines input))
 unfolding lines
 printed-all f u input = ap (λ s. all-printed f s input) (sym (none-fed u)) ∙ printed-from f u [] input
+
+-- what the program prints after the start, byte by byte, is what the definition says
+pub session-printed : (c : Chart) (t : Turn) (input : List ℕ) → t .printed ++ all-printed (turn c) (fresh (t .state)) input ≡ session c t input
+unfolding session
+session-printed c t input = rw (printed-all (turn c) (t .state) input, turns-of c (t .state) (input-lines (lines input)))
