@@ -18,7 +18,8 @@ use Rattle.laws.proofs.Lists.{each-reversed, same-or}
 use Rattle.laws.proofs.Sound.{Sound-chart, parent-child}
 use Rattle.laws.proofs.Steps.{Holds}
 use Rattle.invariants.proofs.GoodReaction.{descendants-inside}
-use Rattle.invariants.proofs.Keeps.{Outside, Keeps, Stays, acts-keep, change-leads, each-keeps, each-stays, emit-keeps, holds-of, look-stays, then-leads, then-stays, visit-leads, when-stays}
+use Rattle.laws.proofs.Stays.{Stays, each-stays, look-stays, then-stays, when-stays}
+use Rattle.invariants.proofs.Keeps.{Outside, Keeps, acts-keep, change-leads, each-keeps, emit-keeps, holds-of, then-leads, visit-leads}
 use Rattle.invariants.proofs.Slots.{Slots-ok, slot-child}
 use Rattle.meaning.specs.Chart.{Chart}
 use Rattle.meaning.specs.declared.State.{State}

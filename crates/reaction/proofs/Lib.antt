@@ -1,0 +1,7 @@
+pub mod Going
+pub mod Firing
+pub mod Settling
+pub mod Ending
+pub mod RunLaws
+pub mod StartLaws
+pub mod ByRules

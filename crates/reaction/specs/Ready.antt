@@ -1,0 +1,29 @@
+-- What a step function asks of the widget that it works on: a chart that passes the rules, values, queue and slots as the chart has them,
+-- and a place in the trace. Assumes nothing.
+use mathlib.Core.Path.{_≡_}
+use Prim.Native.Nat.{ℕ, _<_, _≤_}
+use mathlib.Core.Bool.{Bool, true}
+use mathlib.Core.List.{List}
+use lib.ListN.{length, getD}
+use lib.IntN.{ℤ, negsuc}
+use Rattle.sizes.specs.Sizes.{TRANSITIONS}
+use Rattle.queue.specs.declared.Queue.{Queue}
+use Rattle.meaning.specs.Chart.{Chart}
+use Rattle.meaning.specs.Value.{chart-of}
+use Rattle.walks.specs.Walks.{Ruled}
+use Rattle.widget.specs.View.{ctx}
+use Rattle.laws.proofs.Lists.{Each}
+use Rattle.invariants.proofs.Good.{Good}
+use Rattle.choice.specs.Choice.{picked}
+use Rattle.choice.specs.declared.Chosen.{Chosen}
+
+pub record Ready (v : List ℤ) (active : List Bool) (slots vars : List ℤ) (queue : Queue) (trace : List ℤ) (at : ℕ) : Type 0 where
+  pub ruled : Ruled v
+  pub good : Good (chart-of v) (ctx active slots vars queue trace at)
+  pub fits : at ≤ length trace
+
+-- chosen transitions are transitions of the chart
+pub record Fires (c : Chart) (r : Chosen) : Type 0 where
+  pub few : r .count ≤ TRANSITIONS
+  pub size : length (r .picks) ≡ TRANSITIONS
+  pub named : Each (λ t. t < length (c .transitions)) (picked r)

@@ -1,0 +1,79 @@
+// A run on a chart that passes the rules (01, "One reaction"): the tests 7, 6 and 8, the front event's step, null steps.
+use super::ends::finish;
+use super::ends::refuse;
+use super::steps::settle;
+use super::steps::step;
+use calls::own::own;
+use meaning::Called;
+use meaning::State;
+use numbers::reference;
+use queue::Queue;
+use sizes::STATES;
+use sizes::VARIABLES;
+use widget::Went;
+ghost use mathlib.Core.Path.{_≡_};
+ghost use lib.ListN.{length};
+ghost use Rattle.meaning.specs.Steps.{_then_};
+ghost use Rattle.meaning.specs.Reaction.{step as one-step, settle as settles};
+ghost use Rattle.meaning.specs.Calls.{called, lent, run as runs};
+ghost use Rattle.meaning.specs.Value.{chart-of};
+ghost use Rattle.walks.specs.Walks.{Ruled};
+ghost use Rattle.widget.specs.View.{Did};
+ghost use Rattle.reaction.specs.Ready.{Ready};
+
+// One step with the event, then null steps.
+fn react(
+    chart: &[i32],
+    event: usize,
+    arg: i32,
+    active: &mut [bool; STATES],
+    slots: &mut [i32; STATES],
+    vars: &mut [i32; VARIABLES],
+    queue: Queue,
+    trace: &mut [i32],
+) -> Went
+    requires { ⌜ Ready (now chart) (now active) (now slots) (now vars) queue (now trace) 0 ⌝ }
+    ensures { λ r. ⌜ Did (one-step (chart-of (now (chart .entry))) event arg then settles (chart-of (now (chart .entry)))) (now (active .entry)) (now (slots .entry)) (now (vars .entry)) queue (now (trace .entry)) 0 r (now (active .exit)) (now (slots .exit)) (now (vars .exit)) (now (trace .exit)) ⌝ }
+{
+    let went = step(chart, event, arg, active, slots, vars, queue, trace, 0);
+    if went.number != 0 {
+        return went;
+    }
+    let waiting = went.queue;
+    settle(chart, active, slots, vars, waiting, trace, went.at)
+}
+
+// "A run removes the front event and makes one step with it. Then null steps follow."
+pub fn run_ruled(chart: &[i32], state: State, trace: &mut [i32]) -> Called
+    requires { ⌜ Ruled (now chart) ⌝ }
+    ensures { λ r. ⌜ (r ≡ called (runs (chart-of (now (chart .entry))) state (length (now (trace .entry))))) × (now (trace .exit) ≡ lent (length (now (trace .entry))) (runs (chart-of (now (chart .entry))) state (length (now (trace .entry))))) ⌝ }
+{
+    if !state.started {
+        return refuse(7, 0, state, trace);
+    }
+    if !own(chart, state) {
+        return refuse(6, 0, state, trace);
+    }
+    let queue = state.queue;
+    let removed = queue.remove();
+    if !removed.done {
+        return refuse(8, 0, state, trace);
+    }
+    let front = removed.front;
+    let event = reference(front.event);
+    let mut active = state.active;
+    let mut slots = state.slots;
+    let mut vars = state.vars;
+    let waiting = removed.queue;
+    let went = react(
+        chart,
+        event,
+        front.arg,
+        &mut active,
+        &mut slots,
+        &mut vars,
+        waiting,
+        trace,
+    );
+    finish(state, went, active, slots, vars, trace)
+}

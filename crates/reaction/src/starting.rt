@@ -1,0 +1,78 @@
+// A start on a chart that passes the rules (01, "One reaction"): a fresh widget, the root and its defaults, null steps.
+use super::ends::finish;
+use super::steps::settle;
+use acts::enter;
+use chart::state_count;
+use chart::var_count;
+use chart::var_row;
+use meaning::Called;
+use meaning::State;
+use moves::entering::by_defaults;
+use queue::Queue;
+use sizes::STATES;
+use sizes::VARIABLES;
+use widget::Went;
+ghost use mathlib.Core.Path.{_≡_};
+ghost use mathlib.Core.List.{map};
+ghost use lib.ListN.{length};
+ghost use Rattle.meaning.specs.Calls.{called, lent, fresh, start-steps, start as starts};
+ghost use Rattle.meaning.specs.Value.{chart-of};
+ghost use Rattle.walks.specs.Walks.{Ruled};
+ghost use Rattle.widget.specs.View.{Did};
+ghost use Rattle.reaction.specs.Ready.{Ready};
+
+// "all variables at their first value"; places not in use are 0.
+pub fn first_values(chart: &[i32]) -> [i32; VARIABLES]
+    requires { ⌜ Ruled (now chart) ⌝ }
+    ensures { λ r. ⌜ r ≡ fresh (chart-of (now (chart .entry))) .vars ⌝ }
+{
+    let mut vars: [i32; VARIABLES] = [0; VARIABLES];
+    let n = var_count(chart);
+    let mut v: usize = 0;
+    while v < n {
+        let row = var_row(chart, v);
+        let first = row.first;
+        vars[v] = first;
+        v += 1;
+    }
+    vars
+}
+
+// "enters the root and its defaults .., then makes null steps".
+fn begin(
+    chart: &[i32],
+    active: &mut [bool; STATES],
+    slots: &mut [i32; STATES],
+    vars: &mut [i32; VARIABLES],
+    queue: Queue,
+    trace: &mut [i32],
+) -> Went
+    requires { ⌜ Ready (now chart) (now active) (now slots) (now vars) queue (now trace) 0 ⌝ }
+    ensures { λ r. ⌜ Did (start-steps (chart-of (now (chart .entry)))) (now (active .entry)) (now (slots .entry)) (now (vars .entry)) queue (now (trace .entry)) 0 r (now (active .exit)) (now (slots .exit)) (now (vars .exit)) (now (trace .exit)) ⌝ }
+{
+    let root = enter(chart, 0, 0, active, vars, queue, trace, 0);
+    if root.number != 0 {
+        return root;
+    }
+    let left = state_count(chart);
+    let waiting = root.queue;
+    let down = by_defaults(chart, 0, 0, left, active, vars, waiting, trace, root.at);
+    if down.number != 0 {
+        return down;
+    }
+    let onward = down.queue;
+    settle(chart, active, slots, vars, onward, trace, down.at)
+}
+
+// "Start, with argument 0 and whatever the state held .. It tests neither 7 nor 6."
+pub fn start_ruled(chart: &[i32], state: State, trace: &mut [i32]) -> Called
+    requires { ⌜ Ruled (now chart) ⌝ }
+    ensures { λ r. ⌜ (r ≡ called (starts (chart-of (now (chart .entry))) state (length (now (trace .entry))))) × (now (trace .exit) ≡ lent (length (now (trace .entry))) (starts (chart-of (now (chart .entry))) state (length (now (trace .entry))))) ⌝ }
+{
+    let mut active: [bool; STATES] = [false; STATES];
+    let mut slots: [i32; STATES] = [-1; STATES];
+    let mut vars = first_values(chart);
+    let queue = Queue::empty();
+    let went = begin(chart, &mut active, &mut slots, &mut vars, queue, trace);
+    finish(state, went, active, slots, vars, trace)
+}

@@ -1,0 +1,114 @@
+// Steps (01, "One reaction"): all chosen transitions fire, in their order; null steps follow until none is enabled.
+use choice::Chosen;
+use choice::choose;
+use firing::fire;
+use queue::Queue;
+use sizes::NULL_STEPS;
+use sizes::STATES;
+use sizes::VARIABLES;
+use widget::Went;
+ghost use Rattle.meaning.specs.Steps.{each};
+ghost use Rattle.meaning.specs.Reaction.{fire as fires, step as one-step, settle as settles};
+ghost use Rattle.meaning.specs.Value.{chart-of};
+ghost use Rattle.widget.specs.View.{Did};
+ghost use Rattle.choice.specs.Choice.{picked};
+ghost use Rattle.reaction.specs.Ready.{Ready, Fires};
+
+// "They fire in that order": the chosen, one after the other.
+fn fire_all(
+    chart: &[i32],
+    arg: i32,
+    chosen: Chosen,
+    active: &mut [bool; STATES],
+    slots: &mut [i32; STATES],
+    vars: &mut [i32; VARIABLES],
+    queue: Queue,
+    trace: &mut [i32],
+    at: usize,
+) -> Went
+    requires { ⌜ Ready (now chart) (now active) (now slots) (now vars) queue (now trace) at × Fires (chart-of (now chart)) chosen ⌝ }
+    ensures { λ r. ⌜ Did (each (fires (chart-of (now (chart .entry))) arg) (picked chosen)) (now (active .entry)) (now (slots .entry)) (now (vars .entry)) queue (now (trace .entry)) at r (now (active .exit)) (now (slots .exit)) (now (vars .exit)) (now (trace .exit)) ⌝ }
+{
+    let mut waiting = queue;
+    let mut next = at;
+    let n = chosen.count;
+    let mut j: usize = 0;
+    while j < n {
+        let pick = chosen.picks[j];
+        let t = pick.transition;
+        let went = fire(chart, arg, t, active, slots, vars, waiting, trace, next);
+        if went.number != 0 {
+            return went;
+        }
+        waiting = went.queue;
+        next = went.at;
+        j += 1;
+    }
+    Went {
+        number: 0,
+        at: next,
+        queue: waiting,
+    }
+}
+
+// One step with an event and its argument.
+pub fn step(
+    chart: &[i32],
+    event: usize,
+    arg: i32,
+    active: &mut [bool; STATES],
+    slots: &mut [i32; STATES],
+    vars: &mut [i32; VARIABLES],
+    queue: Queue,
+    trace: &mut [i32],
+    at: usize,
+) -> Went
+    requires { ⌜ Ready (now chart) (now active) (now slots) (now vars) queue (now trace) at ⌝ }
+    ensures { λ r. ⌜ Did (one-step (chart-of (now (chart .entry))) event arg) (now (active .entry)) (now (slots .entry)) (now (vars .entry)) queue (now (trace .entry)) at r (now (active .exit)) (now (slots .exit)) (now (vars .exit)) (now (trace .exit)) ⌝ }
+{
+    let chosen = choose(chart, event, active, vars);
+    fire_all(chart, arg, chosen, active, slots, vars, queue, trace, at)
+}
+
+// "null steps follow: trigger 0, argument 0, all chosen fire, until none is enabled"; 12 where a 33rd is needed.
+pub fn settle(
+    chart: &[i32],
+    active: &mut [bool; STATES],
+    slots: &mut [i32; STATES],
+    vars: &mut [i32; VARIABLES],
+    queue: Queue,
+    trace: &mut [i32],
+    at: usize,
+) -> Went
+    requires { ⌜ Ready (now chart) (now active) (now slots) (now vars) queue (now trace) at ⌝ }
+    ensures { λ r. ⌜ Did (settles (chart-of (now (chart .entry)))) (now (active .entry)) (now (slots .entry)) (now (vars .entry)) queue (now (trace .entry)) at r (now (active .exit)) (now (slots .exit)) (now (vars .exit)) (now (trace .exit)) ⌝ }
+{
+    let mut waiting = queue;
+    let mut next = at;
+    let mut turns: usize = 0;
+    let out = loop {
+        let chosen = choose(chart, 0, active, vars);
+        if chosen.count == 0 {
+            break Went {
+                number: 0,
+                at: next,
+                queue: waiting,
+            };
+        }
+        if turns == NULL_STEPS {
+            break Went {
+                number: 12,
+                at: next,
+                queue: waiting,
+            };
+        }
+        let went = fire_all(chart, 0, chosen, active, slots, vars, waiting, trace, next);
+        if went.number != 0 {
+            break went;
+        }
+        waiting = went.queue;
+        next = went.at;
+        turns += 1;
+    };
+    out
+}
