@@ -1,6 +1,7 @@
 // The trace program (01, the end of "Checked by example"): reads chart.txt, a missing one as empty, and standard input to its end, in
 // parts; what it prints is collected and written whenever there might not be room for one more report. It decides nothing itself: what a
 // text, a byte and a line do is said by the functions that it calls. A line may have any length, and the input any size.
+use chart::layout::VALUE;
 use libc::STDIN_FILENO;
 use libc::STDOUT_FILENO;
 use session::LARGEST;
@@ -10,9 +11,6 @@ ghost use lib.ListN.{length};
 ghost use Rattle.io.specs.Counts.{Counts};
 ghost use Rattle.walks.specs.Walks.{Ruled};
 ghost use Rattle.session.specs.Turned.{LARGEST as Largest};
-
-// The numbers of a chart as a value.
-const VALUE: usize = 2421;
 
 // One part of the input: whether there may be more, and where the session stands.
 struct Part {
