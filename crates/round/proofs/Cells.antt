@@ -94,17 +94,14 @@ letter-is ls (negsuc n) e = absurd (false≢true (sym (no-letter n ls) ∙ e))
 
 -- ---- what was read is what is written
 
-letter-inv : (f : List ℕ) (k : ℕ) → 0 < k → letter-of f ≡ k → k ∷ [] ≡ f
-letter-inv [] k h e = absurd (omega arith)
-letter-inv (b ∷ []) k h e = ap (λ (n : ℕ). n ∷ []) (sym e)
-letter-inv (b ∷ c ∷ f) k h e = absurd (omega arith)
-
 -- the letter that a field is
 pub letter-field : (f : List ℕ) (k : ℕ) → 0 < k → letter-of f ≡ k → k ∷ [] ≡ f
-letter-field = letter-inv
+letter-field [] k h e = absurd (omega arith)
+letter-field (b ∷ []) k h e = ap (λ (n : ℕ). n ∷ []) (sym e)
+letter-field (b ∷ c ∷ f) k h e = absurd (omega arith)
 
 pub dash-inv : (f : List ℕ) → is-dash f ≡ true → 45 ∷ [] ≡ f
-dash-inv f e = letter-inv f 45 (omega arith) (eqb-true (letter-of f) 45 e)
+dash-inv f e = letter-field f 45 (omega arith) (eqb-true (letter-of f) 45 e)
 
 pub record NumberKept (f : List ℕ) (c : Cell) : Type 0 where
   pub text : numeral (c .value) ≡ f
@@ -148,7 +145,7 @@ letter-kept ls f h g = go (has (letter-of f) ls) refl g
         → LetterKept ls f (cond t (cell 0 (pos (letter-of f))) (cell 1 (pos 0)))
     go true e g = record {
       value-is = refl;
-      text = rw (absent-letter (letter-of f)) (letter-inv f (letter-of f) (positive (letter-of f) e) refl);
+      text = rw (absent-letter (letter-of f)) (letter-field f (letter-of f) (positive (letter-of f) e) refl);
       in-list = letters-of (letter-of f) ls ∙ e;
     }
     go false e g = absurd (g .right refl)
