@@ -17,7 +17,7 @@ ghost use Rattle.meaning.specs.Value.{chart-of};
 ghost use Rattle.meaning.specs.Calls.{called, post as posts, discard as discards, post-of, discard-of};
 
 // Post on a chart that passes the rules: 7, 6, then 10 before 9.
-fn post_ruled(chart: &[i32], state: State, event: i32, arg: i32) -> Called
+pub fn post_ruled(chart: &[i32], state: State, event: i32, arg: i32) -> Called
     ensures { λ r. ⌜ r ≡ called (posts (chart-of (now (chart .entry))) state event arg) ⌝ }
 {
     if !state.started {

@@ -1,0 +1,160 @@
+// The trace program's session over a chart that passes the rules (01, the end of "Checked by example"): it starts, then posts and runs
+// each line. The widget and the line under way go by value, what is printed is written into a lent slice, and each byte of the input is
+// one step. What the engine writes of a call goes into numbers of its own, with room for 1,000 entries.
+use console::Scan;
+use meaning::Line;
+use meaning::State;
+use queue::Queue;
+use sizes::STATES;
+use sizes::VARIABLES;
+ghost use mathlib.Core.Path.{_≡_};
+ghost use Rattle.walks.specs.Walks.{Ruled};
+ghost use Rattle.meaning.specs.Value.{chart-of};
+ghost use Rattle.meaning.specs.Calls.{start as starts, run as runs, unstarted as none};
+ghost use Rattle.meaning.specs.Program.{ROOM as Room, reported, turn as turn-of};
+ghost use Rattle.console.specs.Session.{passed, finished};
+ghost use Rattle.session.specs.Turned.{Went, Passes, quiet, seen};
+
+// "With room for 1,000 entries", three numbers each.
+const ROOM: usize = 3000;
+
+const LF: u8 = 10;
+// Free room in a slice of bytes that is enough for the report of any call.
+pub const LARGEST: usize = 36048;
+
+// The widget afterwards, and the place behind what was printed.
+pub struct Turned {
+    pub state: State,
+    pub at: usize,
+}
+
+// The widget and the line under way, and the place behind what was printed.
+pub struct Under {
+    pub state: State,
+    pub scan: Scan,
+    pub at: usize,
+}
+
+// A widget not yet started.
+fn unstarted() -> State
+    ensures { λ r. ⌜ r ≡ none ⌝ }
+{
+    let active = [false; STATES];
+    let slots = [-1; STATES];
+    let vars = [0; VARIABLES];
+    State {
+        started: false,
+        active: active,
+        slots: slots,
+        vars: vars,
+        queue: Queue::empty(),
+    }
+}
+
+// What prints an answer and no entry: R, number, 0.
+pub fn refusal(number: usize, state: State, out: &mut [u8], at: usize) -> Turned
+    ensures { λ r. ⌜ Went (quiet number state) (now (out .entry)) at (now (out .exit)) r ⌝ }
+{
+    let nothing = [0; 1];
+    let place = console::report(out, at, number, &nothing, 0);
+    Turned {
+        state: state,
+        at: place,
+    }
+}
+
+// "it starts"
+pub fn started(chart: &[i32], out: &mut [u8], at: usize) -> Turned
+    requires { ⌜ Ruled (now chart) ⌝ }
+    ensures { λ r. ⌜ Went (reported (starts (chart-of (now (chart .entry))) none Room)) (now (out .entry)) at (now (out .exit)) r ⌝ }
+{
+    let mut trace = [0; ROOM];
+    let called = reaction::starting::start_ruled(chart, unstarted(), &mut trace);
+    let answer = called.answer;
+    let place = console::report(out, at, answer.number, &trace, called.entries);
+    let after = called.state;
+    Turned {
+        state: after,
+        at: place,
+    }
+}
+
+// "runs each line": the run of the front event.
+fn ran(chart: &[i32], state: State, out: &mut [u8], at: usize) -> Turned
+    requires { ⌜ Ruled (now chart) ⌝ }
+    ensures { λ r. ⌜ Went (reported (runs (chart-of (now (chart .entry))) state Room)) (now (out .entry)) at (now (out .exit)) r ⌝ }
+{
+    let mut trace = [0; ROOM];
+    let called = reaction::running::run_ruled(chart, state, &mut trace);
+    let answer = called.answer;
+    let place = console::report(out, at, answer.number, &trace, called.entries);
+    let after = called.state;
+    Turned {
+        state: after,
+        at: place,
+    }
+}
+
+// A line: "Of posts only a refused one prints: R, number, 0; it is not run"; "A line of another form prints `R 1 0`".
+pub fn turn(chart: &[i32], state: State, line: Line, out: &mut [u8], at: usize) -> Turned
+    requires { ⌜ Ruled (now chart) ⌝ }
+    ensures { λ r. ⌜ Went (turn-of (chart-of (now (chart .entry))) state line) (now (out .entry)) at (now (out .exit)) r ⌝ }
+{
+    match line {
+        Line::Posts(event, argument) => {
+            let posted = calls::post_ruled(chart, state, event, argument);
+            let answer = posted.answer;
+            let number = answer.number;
+            let after = posted.state;
+            if number != 0 {
+                return refusal(number, after, out, at);
+            }
+            ran(chart, after, out, at)
+        }
+        Line::Wrong => refusal(1, state, out, at),
+    }
+}
+
+// One byte of the input: LF ends the line.
+pub fn feed(chart: &[i32], under: Under, b: u8, out: &mut [u8]) -> Under
+    requires { ⌜ Ruled (now chart) ⌝ }
+    ensures { λ r. ⌜ Passes (passed (turn-of (chart-of (now (chart .entry)))) (seen under) b) (now (out .entry)) (under .at) (now (out .exit)) r ⌝ }
+{
+    let state = under.state;
+    let scan = under.scan;
+    let at = under.at;
+    if b == LF {
+        let t = turn(chart, state, scan.line(), out, at);
+        let after = t.state;
+        return Under {
+            state: after,
+            scan: Scan::empty(),
+            at: t.at,
+        };
+    }
+    Under {
+        state: state,
+        scan: scan.feed(b),
+        at: at,
+    }
+}
+
+// The end of the input: "The last line may lack its LF".
+pub fn finish(chart: &[i32], under: Under, out: &mut [u8]) -> Under
+    requires { ⌜ Ruled (now chart) ⌝ }
+    ensures { λ r. ⌜ Passes (finished (turn-of (chart-of (now (chart .entry)))) (seen under)) (now (out .entry)) (under .at) (now (out .exit)) r ⌝ }
+{
+    let state = under.state;
+    let scan = under.scan;
+    let at = under.at;
+    if scan.began() {
+        let t = turn(chart, state, scan.line(), out, at);
+        let after = t.state;
+        return Under {
+            state: after,
+            scan: Scan::empty(),
+            at: t.at,
+        };
+    }
+    under
+}

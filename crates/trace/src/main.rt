@@ -1,0 +1,156 @@
+// The trace program (01, the end of "Checked by example"): reads chart.txt, a missing one as empty, and standard input to its end, in
+// parts; what it prints is collected and written whenever there might not be room for one more report. It decides nothing itself: what a
+// text, a byte and a line do is said by the functions that it calls. A line may have any length, and the input any size.
+use libc::STDIN_FILENO;
+use libc::STDOUT_FILENO;
+use session::LARGEST;
+use session::Under;
+ghost use Prim.Native.Nat.{_+_, _≤_};
+ghost use lib.ListN.{length};
+ghost use Rattle.io.specs.Counts.{Counts};
+ghost use Rattle.walks.specs.Walks.{Ruled};
+ghost use Rattle.session.specs.Turned.{LARGEST as Largest};
+
+// The numbers of a chart as a value.
+const VALUE: usize = 2421;
+
+// One part of the input: whether there may be more, and where the session stands.
+struct Part {
+    more: bool,
+    under: Under,
+}
+
+// The chart's text, and its length: 0 where the file is missing. The buffer is longer than any text that is not refused for its length.
+fn chart_text(buffer: &mut [u8]) -> usize
+    ensures { λ r. ⌜ Counts r (now (buffer .exit)) ⌝ }
+{
+    let file = os::open_read(b"chart.txt");
+    if file < 0 {
+        return 0;
+    }
+    let n = io::read_full(file, buffer);
+    libc::close(file);
+    n
+}
+
+// Writes what was collected, up to the place.
+fn print(out: &[u8], at: usize)
+    requires { ⌜ at ≤ length (now out) ⌝ }
+{
+    io::write_all(STDOUT_FILENO, &out[..at]);
+}
+
+// Room for one more report: what was collected is written where there is less.
+fn with_room(out: &[u8], at: usize) -> usize
+    requires { ⌜ (at ≤ length (now out)) × (Largest ≤ length (now out)) ⌝ }
+    ensures { λ r. ⌜ r + Largest ≤ length (now (out .entry)) ⌝ }
+{
+    if out.len() - at < LARGEST {
+        print(out, at);
+        return 0;
+    }
+    at
+}
+
+// Each byte of a part of the input.
+fn feed_all(chart: &[i32], bytes: &[u8], under: Under, out: &mut [u8]) -> Under
+    requires { ⌜ Ruled (now chart) × (under .at + Largest ≤ length (now out)) ⌝ }
+    ensures { λ r. ⌜ r .at + Largest ≤ length (now (out .exit)) ⌝ }
+{
+    let mut now = under;
+    let mut i = 0;
+    while i < bytes.len() {
+        let next = session::feed(chart, now, bytes[i], out);
+        let state = next.state;
+        let scan = next.scan;
+        now = Under {
+            state: state,
+            scan: scan,
+            at: with_room(out, next.at),
+        };
+        i += 1;
+    }
+    now
+}
+
+// One part of the input.
+fn read_some(chart: &[i32], under: Under, out: &mut [u8]) -> Part
+    requires { ⌜ Ruled (now chart) × (under .at + Largest ≤ length (now out)) ⌝ }
+    ensures { λ r. ⌜ r .under .at + Largest ≤ length (now (out .exit)) ⌝ }
+{
+    let mut buffer = io::large_buffer();
+    let got = libc::read(STDIN_FILENO, &mut buffer);
+    if got <= 0 {
+        return Part {
+            more: false,
+            under: under,
+        };
+    }
+    let n = io::count(got, &buffer);
+    Part {
+        more: true,
+        under: feed_all(chart, &buffer[..n], under, out),
+    }
+}
+
+// All of the input. A proved loop has to end, and nothing says that the input does: the count of parts is larger than any.
+fn read_all(chart: &[i32], under: Under, out: &mut [u8]) -> Under
+    requires { ⌜ Ruled (now chart) × (under .at + Largest ≤ length (now out)) ⌝ }
+    ensures { λ r. ⌜ r .at + Largest ≤ length (now (out .exit)) ⌝ }
+{
+    let mut now = under;
+    let mut parts = u64::MAX;
+    while parts > 0 {
+        let part = read_some(chart, now, out);
+        let more = part.more;
+        now = part.under;
+        if !more {
+            break;
+        }
+        parts -= 1;
+    }
+    now
+}
+
+// "it starts, then posts and runs each line"
+fn run_session(chart: &[i32], out: &mut [u8])
+    requires { ⌜ Ruled (now chart) × (Largest ≤ length (now out)) ⌝ }
+{
+    let begun = session::started(chart, out, 0);
+    let state = begun.state;
+    let place = with_room(out, begun.at);
+    let first = Under {
+        state: state,
+        scan: console::Scan::empty(),
+        at: place,
+    };
+    let read = read_all(chart, first, out);
+    let last = session::finish(chart, read, out);
+    print(out, last.at);
+}
+
+// "A refused chart prints the same and ends the program"
+fn refuse(number: usize, out: &mut [u8])
+    requires { ⌜ Largest ≤ length (now out) ⌝ }
+{
+    let at = console::report(out, 0, number, &[0], 0);
+    print(out, at);
+}
+
+fn main() {
+    let mut bytes = io::large_buffer();
+    let n = chart_text(&mut bytes);
+    let mut chart = [0; VALUE];
+    let answer = text::read(&bytes[..n], &mut chart);
+    let mut out = io::large_buffer();
+    if answer.number != 0 {
+        refuse(answer.number, &mut out);
+        return;
+    }
+    let ruled = rules::check(&chart);
+    if ruled.number != 0 {
+        refuse(ruled.number, &mut out);
+        return;
+    }
+    run_session(&chart, &mut out);
+}
