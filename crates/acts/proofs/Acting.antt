@@ -83,58 +83,66 @@ row-named v r i h row e = subst (λ x. Named (x .act)) (sym e) (named (chart-of 
 unfoldable pub acts-from : List ℤ → ℤ → Owner → ℕ → Step Ctx
 acts-from v arg o i = each (perform (chart-of v .vars) arg) (acts-in (drop i (chart-of v .actions)) o)
 
-pub record Acting (v : List ℤ) (arg : ℤ) (o : Owner) (i : ℕ) (vars : List ℤ) (q : Queue) (t : List ℤ) (at : ℕ) (vars₁ : List ℤ) (q₁ : Queue) (t₁ : List ℤ) (at₁ : ℕ) : Type 0 where
-  pub fits : at₁ ≤ length t₁
+pub record Acting (v : List ℤ) (arg : ℤ) (o : Owner) (vars : List ℤ) (q : Queue) (t : List ℤ) (at : ℕ) (i : ℕ) (vars₁ t₁ : List ℤ) (w : Went) : Type 0 where
+  pub going : w .number ≡ 0
+  pub fits : w .at ≤ length t₁
   pub kept : length t₁ ≡ length t
-  pub owes : (a : List Bool) (s : List ℤ) → Owes (perform-all (chart-of v) arg o) a s vars q t at (acts-from v arg o i) a s vars₁ q₁ t₁ at₁
+  pub owes : (a : List Bool) (s : List ℤ) → Owes (perform-all (chart-of v) arg o) a s vars q t at (acts-from v arg o i) a s vars₁ (w .queue) t₁ (w .at)
+
+-- the promise of a function that leaves the marks and the slots alone
+abbrev Does : Step Ctx → List ℤ → Queue → List ℤ → ℕ → Went → List ℤ → List ℤ → Type 0
+Does D vars q t at r vars₁ t₁ = Within t r t₁ × ((a : List Bool) (s : List ℤ) → Did D a s vars q t at r a s vars₁ t₁)
 
 module _ {v : List ℤ} {arg : ℤ} {o : Owner} {vars : List ℤ} {q : Queue} {t : List ℤ} {at : ℕ} where
-  pub acting-begin : at ≤ length t → Acting v arg o 0 vars q t at vars q t at
+  pub acting-begin : at ≤ length t → Acting v arg o vars q t at 0 vars t (record { number = 0; at = at; queue = q })
   unfolding acts-from perform-all acts-of
-  acting-begin h = record { fits = h; kept = refl; owes = λ a s. owes-all h }
+  acting-begin h = record { going = refl; fits = h; kept = refl; owes = λ a s. owes-all h }
 
-  module _ {i : ℕ} {vars₁ : List ℤ} {q₁ : Queue} {t₁ : List ℤ} {at₁ : ℕ} (h : Acting v arg o i vars q t at vars₁ q₁ t₁ at₁) where
-    pub acting-end : length (chart-of v .actions) ≤ i
-        → Within t (record { number = 0; at = at₁; queue = q₁ }) t₁ × ((a : List Bool) (s : List ℤ) → Did (perform-all (chart-of v) arg o) a s vars q t at (record { number = 0; at = at₁; queue = q₁ }) a s vars₁ t₁)
+  module _ {i : ℕ} {vars₁ t₁ : List ℤ} {w : Went} (h : Acting v arg o vars q t at i vars₁ t₁ w) where
+    ended : length (chart-of v .actions) ≤ i → (n : ℕ) → n ≡ 0
+        → (a : List Bool) (s : List ℤ) → Did (perform-all (chart-of v) arg o) a s vars q t at (record { number = n; at = w .at; queue = w .queue }) a s vars₁ t₁
     unfolding acts-from
-    acting-end l = (
-      record { fits = h .fits; kept = h .kept },
-      λ a s. each-none (perform (chart-of v .vars) arg) (rw (acts-end (chart-of v .actions) o i l) at (h .owes a s)),
-    )
+    ended l n e a s = subst (λ k. Did (perform-all (chart-of v) arg o) a s vars q t at (record { number = k; at = w .at; queue = w .queue }) a s vars₁ t₁) (sym e)
+        (each-none (perform (chart-of v .vars) arg) (rw (acts-end (chart-of v .actions) o i l) at (h .owes a s)))
+
+    pub acting-end : length (chart-of v .actions) ≤ i → Does (perform-all (chart-of v) arg o) vars q t at w vars₁ t₁
+    acting-end l = (record { fits = h .fits; kept = h .kept }, ended l (w .number) (h .going))
 
     module _ {row : ActRow} (l : i < length (chart-of v .actions)) (e : row ≡ getD (chart-of v .actions) i no-action) where
-      pub acting-skip : same-owner o (row .owner) ≡ false → Acting v arg o (i + 1) vars q t at vars₁ q₁ t₁ at₁
+      pub acting-skip : same-owner o (row .owner) ≡ false → Acting v arg o vars q t at (i + 1) vars₁ t₁ w
       unfolding acts-from
       acting-skip d = record {
+        going = h .going;
         fits = h .fits;
         kept = h .kept;
-        owes = λ a s. subst (λ l′. Owes (perform-all (chart-of v) arg o) a s vars q t at (each (perform (chart-of v .vars) arg) l′) a s vars₁ q₁ t₁ at₁)
+        owes = λ a s. subst (λ l′. Owes (perform-all (chart-of v) arg o) a s vars q t at (each (perform (chart-of v .vars) arg) l′) a s vars₁ (w .queue) t₁ (w .at))
             (acts-skip (chart-of v .actions) o i l (ap (λ x. same-owner o (x .owner)) (sym e) ∙ d)) (h .owes a s);
       }
 
       -- the row is the owner's: its act is next
       due : same-owner o (row .owner) ≡ true → (a : List Bool) (s : List ℤ)
-          → Owes (perform-all (chart-of v) arg o) a s vars q t at (each (perform (chart-of v .vars) arg) (row .act ∷ acts-in (drop (i + 1) (chart-of v .actions)) o)) a s vars₁ q₁ t₁ at₁
+          → Owes (perform-all (chart-of v) arg o) a s vars q t at (each (perform (chart-of v .vars) arg) (row .act ∷ acts-in (drop (i + 1) (chart-of v .actions)) o)) a s vars₁ (w .queue) t₁ (w .at)
       unfolding acts-from
-      due d a s = subst (λ l′. Owes (perform-all (chart-of v) arg o) a s vars q t at (each (perform (chart-of v .vars) arg) l′) a s vars₁ q₁ t₁ at₁)
+      due d a s = subst (λ l′. Owes (perform-all (chart-of v) arg o) a s vars q t at (each (perform (chart-of v .vars) arg) l′) a s vars₁ (w .queue) t₁ (w .at))
           (acts-take (chart-of v .actions) o i l (ap (λ x. same-owner o (x .owner)) (sym e) ∙ d) ∙ ap (λ x. x .act ∷ acts-in (drop (i + 1) (chart-of v .actions)) o) (sym e)) (h .owes a s)
 
       module _ {n : ℕ} {of : VarRow} {r : Went} {vars₂ t₂ : List ℤ} (d : same-owner o (row .owner) ≡ true) (f : n ≡ act-var (row .act)) (g : of ≡ var-row (chart-of v .vars) n)
-          (w : Within t₁ r t₂ × ((a : List Bool) (s : List ℤ) → Did (act-on of arg (row .act)) a s vars₁ q₁ t₁ at₁ r a s vars₂ t₂)) where
-        performed : (a : List Bool) (s : List ℤ) → Did (perform (chart-of v .vars) arg (row .act)) a s vars₁ q₁ t₁ at₁ r a s vars₂ t₂
+          (p : Does (act-on of arg (row .act)) vars₁ (w .queue) t₁ (w .at) r vars₂ t₂) where
+        performed : (a : List Bool) (s : List ℤ) → Did (perform (chart-of v .vars) arg (row .act)) a s vars₁ (w .queue) t₁ (w .at) r a s vars₂ t₂
         unfolding perform
-        performed a s = subst (λ x. Did (act-on x arg (row .act)) a s vars₁ q₁ t₁ at₁ r a s vars₂ t₂) (g ∙ ap (var-row (chart-of v .vars)) f) (w .1 a s)
+        performed a s = subst (λ x. Did (act-on x arg (row .act)) a s vars₁ (w .queue) t₁ (w .at) r a s vars₂ t₂) (g ∙ ap (var-row (chart-of v .vars)) f) (p .1 a s)
 
-        pub acting-stop : (r .number ≡ 0 → ⊥) → Within t r t₂ × ((a : List Bool) (s : List ℤ) → Did (perform-all (chart-of v) arg o) a s vars q t at r a s vars₂ t₂)
+        pub acting-stop : (r .number ≡ 0 → ⊥) → Does (perform-all (chart-of v) arg o) vars q t at r vars₂ t₂
         acting-stop z = (
-          record { fits = w .0 .fits; kept = w .0 .kept ∙ h .kept },
+          record { fits = p .0 .fits; kept = p .0 .kept ∙ h .kept },
           λ a s. each-ends (perform (chart-of v .vars) arg) (row .act) (acts-in (drop (i + 1) (chart-of v .actions)) o) (due d a s) (performed a s) z,
         )
 
-        pub acting-on : r .number ≡ 0 → Acting v arg o (i + 1) vars q t at vars₂ (r .queue) t₂ (r .at)
+        pub acting-on : r .number ≡ 0 → Acting v arg o vars q t at (i + 1) vars₂ t₂ r
         unfolding acts-from
         acting-on z = record {
-          fits = w .0 .fits;
-          kept = w .0 .kept ∙ h .kept;
+          going = z;
+          fits = p .0 .fits;
+          kept = p .0 .kept ∙ h .kept;
           owes = λ a s. each-next (perform (chart-of v .vars) arg) (row .act) (acts-in (drop (i + 1) (chart-of v .actions)) o) (due d a s) (performed a s) z;
         }

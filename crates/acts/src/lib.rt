@@ -86,37 +86,26 @@ pub fn perform_all(
     requires { ⌜ Ruled (now chart) × (at ≤ length (now trace)) ⌝ }
     ensures { λ r. ⌜ Within (now (trace .entry)) r (now (trace .exit)) × ((active : List Bool) (slots : List ℤ) → Did (perform-all (chart-of (now (chart .entry))) arg owner) active slots (now (vars .entry)) queue (now (trace .entry)) at r active slots (now (vars .exit)) (now (trace .exit))) ⌝ }
 {
-    let mut waiting = queue;
-    let mut next = at;
-    let mut i = 0;
-    while i < action_count(chart) {
+    let mut went = Went {
+        number: 0,
+        at: at,
+        queue: queue,
+    };
+    for i in 0..action_count(chart) {
         let row = action_row(chart, i);
-        i += 1;
         let whose = row.owner;
         if !same_owner(owner, whose) {
             continue;
         }
         let act = row.act;
-        let went = perform(
-            var_row(chart, act_var(act)),
-            arg,
-            act,
-            vars,
-            waiting,
-            trace,
-            next,
-        );
+        let bounds = var_row(chart, act_var(act));
+        let then = went.queue;
+        went = perform(bounds, arg, act, vars, then, trace, went.at);
         if went.number != 0 {
             return went;
         }
-        waiting = went.queue;
-        next = went.at;
     }
-    Went {
-        number: 0,
-        at: next,
-        queue: waiting,
-    }
+    went
 }
 
 // 01, "Firing": a state is entered, followed by its entry actions.

@@ -23,7 +23,7 @@ ghost use Rattle.meaning.specs.Reaction.{fire as fires};
 ghost use Rattle.meaning.specs.Value.{chart-of};
 ghost use Rattle.walks.specs.Walks.{Ruled};
 ghost use Rattle.widget.specs.View.{Did};
-ghost use Rattle.moves.specs.Moves.{Inside, Led};
+ghost use Rattle.moves.specs.Moves.{Inside, Led, Ready};
 ghost use Rattle.firing.specs.Moving.{moving};
 
 // The states below the scope are left, then the transition's actions, then the way down to the goal.
@@ -32,42 +32,29 @@ fn move_to(
     arg: i32,
     t: usize,
     goal: Goal,
-    from: usize,
+    top: usize,
     active: &mut [bool; STATES],
     slots: &mut [i32; STATES],
     vars: &mut [i32; VARIABLES],
-    queue: Queue,
     trace: &mut [i32],
-    at: usize,
+    begun: Went,
 ) -> Went
-    requires { ⌜ Ruled (now chart) × Inside (chart-of (now chart)) goal × (from < length (chart-of (now chart) .states)) × Led (chart-of (now chart)) (now slots) × (at ≤ length (now trace)) ⌝ }
-    ensures { λ r. ⌜ Did (moving (chart-of (now (chart .entry))) arg t goal from) (now (active .entry)) (now (slots .entry)) (now (vars .entry)) queue (now (trace .entry)) at r (now (active .exit)) (now (slots .exit)) (now (vars .exit)) (now (trace .exit)) ⌝ }
+    requires { ⌜ Ruled (now chart) × Inside (chart-of (now chart)) goal × (top < length (chart-of (now chart) .states)) × Led (chart-of (now chart)) (now slots) × Ready begun (now trace) ⌝ }
+    ensures { λ r. ⌜ Did (moving (chart-of (now (chart .entry))) arg t goal top) (now (active .entry)) (now (slots .entry)) (now (vars .entry)) (begun .queue) (now (trace .entry)) (begun .at) r (now (active .exit)) (now (slots .exit)) (now (vars .exit)) (now (trace .exit)) ⌝ }
 {
-    let gone = leave_below(chart, arg, from, active, slots, vars, queue, trace, at);
+    let then = begun.queue;
+    let gone = leave_below(chart, arg, top, active, slots, vars, then, trace, begun.at);
     if gone.number != 0 {
         return gone;
     }
-    let waiting = gone.queue;
+    let onward = gone.queue;
     let owner = Owner::TransitionOf(t);
-    let acted = perform_all(chart, arg, owner, vars, waiting, trace, gone.at);
-    if acted.number != 0 {
-        return acted;
+    let went = perform_all(chart, arg, owner, vars, onward, trace, gone.at);
+    if went.number != 0 {
+        return went;
     }
-    let onward = acted.queue;
-    let left = state_count(chart);
-    towards(
-        chart,
-        arg,
-        goal,
-        from,
-        left,
-        active,
-        slots,
-        vars,
-        onward,
-        trace,
-        acted.at,
-    )
+    let all = state_count(chart);
+    towards(chart, arg, goal, top, all, active, slots, vars, trace, went)
 }
 
 // 01, "Firing": the transition t is taken.
@@ -89,43 +76,23 @@ pub fn fire(
     if taken.number != 0 {
         return taken;
     }
-    let then = taken.queue;
-    let next = taken.at;
     let row = trans_row(chart, t);
     let target = row.target;
     match target {
         Target::To(d) => {
-            let from = scope(chart, row.source, d);
-            move_to(
-                chart,
-                arg,
-                t,
-                Goal::Target(d),
-                from,
-                active,
-                slots,
-                vars,
-                then,
-                trace,
-                next,
-            )
+            let goal = Goal::Target(d);
+            let top = scope(chart, row.source, d);
+            move_to(chart, arg, t, goal, top, active, slots, vars, trace, taken)
         }
         Target::History(b) => {
-            let from = scope(chart, row.source, b);
-            move_to(
-                chart,
-                arg,
-                t,
-                Goal::Owner(b),
-                from,
-                active,
-                slots,
-                vars,
-                then,
-                trace,
-                next,
-            )
+            let goal = Goal::Owner(b);
+            let top = scope(chart, row.source, b);
+            move_to(chart, arg, t, goal, top, active, slots, vars, trace, taken)
         }
-        Target::InPlace => perform_all(chart, arg, Owner::TransitionOf(t), vars, then, trace, next),
+        Target::InPlace => {
+            let then = taken.queue;
+            let owner = Owner::TransitionOf(t);
+            perform_all(chart, arg, owner, vars, then, trace, taken.at)
+        }
     }
 }

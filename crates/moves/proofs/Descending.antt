@@ -72,19 +72,19 @@ abbrev pub Does : {S : Type 0} → (S → List ℤ) → Step Ctx → List Bool �
 Does {S} sl D a v q t at r a₁ v₁ t₁ = Within t r t₁ × ((x : S) → Did D a (sl x) v q t at r a₁ (sl x) v₁ t₁)
 
 module _ {S : Type 0} (sl : S → List ℤ) (f : Visit → Step Ctx) (c : Chart) (way : ℕ → Way) (next : Way) (s left first end : ℕ)
-    {a : List Bool} {v : List ℤ} {q : Queue} {t : List ℤ} {at : ℕ} where
-  pub going-begin : way s ≡ next → Kids c next s left first end → at ≤ length t
-      → Going sl f c way next s left first end a v q t at first a v t (record { number = 0; at = at; queue = q })
+    {a : List Bool} {v t : List ℤ} where
+  pub going-begin : way s ≡ next → Kids c next s left first end → (w : Went) → w .number ≡ 0 → w .at ≤ length t
+      → Going sl f c way next s left first end a v (w .queue) t (w .at) first a v t w
   unfolding rest
-  going-begin e k h = record {
+  going-begin e k w z h = record {
     since = omega arith;
-    going = refl;
+    going = z;
     fits = h;
     kept = refl;
-    owes = λ x. owes-as _ (owes-all h) (ap (λ l. each f l (ctx a (sl x) v q t at)) (sym (k .goes way e)));
+    owes = λ x. owes-as _ (owes-all h) (ap (λ l. each f l (ctx a (sl x) v (w .queue) t (w .at))) (sym (k .goes way e)));
   }
 
-  module _ {i : ℕ} {a₁ : List Bool} {v₁ t₁ : List ℤ} {w : Went} (h : Going sl f c way next s left first end a v q t at i a₁ v₁ t₁ w) where
+  module _ {q : Queue} {at : ℕ} {i : ℕ} {a₁ : List Bool} {v₁ t₁ : List ℤ} {w : Went} (h : Going sl f c way next s left first end a v q t at i a₁ v₁ t₁ w) where
     pub going-end : end ≤ i → Does sl (each f (below c way left s)) a v q t at w a₁ v₁ t₁
     unfolding rest each
     going-end l = (

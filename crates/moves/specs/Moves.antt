@@ -18,6 +18,7 @@ use Rattle.meaning.specs.Steps.{Step}
 use Rattle.meaning.specs.Tree.{kind-of, is-child}
 use Rattle.meaning.specs.Widget.{Ctx}
 use Rattle.meaning.specs.Entry.{Visit, plain, by-default, Way, on-to, defaults, stops, below, slot-way, towards, towards-owner, visit, visit-towards}
+use Rattle.widget.specs.declared.Went.{Went}
 use Rattle.moves.specs.declared.ways.Next.{Next}
 use Rattle.moves.specs.declared.ways.Next.the-variants.{OnTo, Defaults, Stops}
 use Rattle.moves.specs.declared.ways.Goal.{Goal}
@@ -80,3 +81,8 @@ pub record Kids (c : Chart) (next : Way) (s left first end : ℕ) : Type 0 where
   pub more : first < end → 0 < left
   pub goes : (way : ℕ → Way) → way s ≡ next
       → below c way left s ≡ concat-map (λ d. visit-as (defaulting (kind-of c s) next) s d ∷ below c way (left - 1) d) (keep (is-child c s) (from first (end - first)))
+
+-- how things went before: nothing was refused, and the next free place is one of the trace
+pub record Ready (begun : Went) (trace : List ℤ) : Type 0 where
+  pub going : begun .number ≡ 0
+  pub fits : begun .at ≤ length trace

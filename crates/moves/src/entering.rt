@@ -1,6 +1,6 @@
 // Entering states below a state that is in (01, "Firing" and "History"): one state, with its parent's default actions where
 // due; down by defaults; down by the slots; the restore at a history's owner; and the path to a target or to an owner.
-// `left` is how many states there can be below this one: it falls with every level.
+// `left` is how many states there can be below this one: it falls with every level. `begun` is how things went before.
 use super::ways::Goal;
 use super::ways::Next;
 use super::ways::by_default;
@@ -33,7 +33,7 @@ ghost use Rattle.meaning.specs.Entry.{plain, below, by-defaults, visit as visit
 ghost use Rattle.meaning.specs.Value.{chart-of};
 ghost use Rattle.walks.specs.Walks.{Ruled};
 ghost use Rattle.widget.specs.View.{Within, Did};
-ghost use Rattle.moves.specs.Moves.{way-by, stored-way, goal-way, goal-visit, defaulting, visit-as, Inside, Led};
+ghost use Rattle.moves.specs.Moves.{way-by, stored-way, goal-way, goal-visit, defaulting, visit-as, Inside, Led, Ready};
 
 // Enters s, a child of p, which goes on so: "a state entered by its parent's default has that default's actions run just
 // before it".
@@ -45,22 +45,23 @@ fn visit(
     s: usize,
     active: &mut [bool; STATES],
     vars: &mut [i32; VARIABLES],
-    queue: Queue,
     trace: &mut [i32],
-    at: usize,
+    begun: Went,
 ) -> Went
-    requires { ⌜ Ruled (now chart) × (s < states) × (at ≤ length (now trace)) ⌝ }
-    ensures { λ r. ⌜ Within (now (trace .entry)) r (now (trace .exit)) × ((slots : List ℤ) → Did (visits (chart-of (now (chart .entry))) arg (visit-as (defaulting (kind-in (chart-of (now (chart .entry))) p) (way-by next)) p s)) (now (active .entry)) slots (now (vars .entry)) queue (now (trace .entry)) at r (now (active .exit)) slots (now (vars .exit)) (now (trace .exit))) ⌝ }
+    requires { ⌜ Ruled (now chart) × (s < states) × Ready begun (now trace) ⌝ }
+    ensures { λ r. ⌜ Within (now (trace .entry)) r (now (trace .exit)) × ((slots : List ℤ) → Did (visits (chart-of (now (chart .entry))) arg (visit-as (defaulting (kind-in (chart-of (now (chart .entry))) p) (way-by next)) p s)) (now (active .entry)) slots (now (vars .entry)) (begun .queue) (now (trace .entry)) (begun .at) r (now (active .exit)) slots (now (vars .exit)) (now (trace .exit))) ⌝ }
 {
+    let waiting = begun.queue;
     if !by_default(chart, p, next) {
-        return enter(chart, arg, s, active, vars, queue, trace, at);
+        return enter(chart, arg, s, active, vars, waiting, trace, begun.at);
     }
-    let first = perform_all(chart, arg, Owner::DefaultOf(p), vars, queue, trace, at);
+    let owner = Owner::DefaultOf(p);
+    let first = perform_all(chart, arg, owner, vars, waiting, trace, begun.at);
     if first.number != 0 {
         return first;
     }
-    let waiting = first.queue;
-    enter(chart, arg, s, active, vars, waiting, trace, first.at)
+    let onward = first.queue;
+    enter(chart, arg, s, active, vars, onward, trace, first.at)
 }
 
 // Enters s in a restore, without default actions; 14, a restore meets an empty slot below its owner.
@@ -71,14 +72,14 @@ fn revisit(
     active: &mut [bool; STATES],
     slots: &[i32; STATES],
     vars: &mut [i32; VARIABLES],
-    queue: Queue,
     trace: &mut [i32],
-    at: usize,
+    begun: Went,
 ) -> Went
-    requires { ⌜ Ruled (now chart) × (s < states) × (length (now slots) ≡ states) × (at ≤ length (now trace)) ⌝ }
-    ensures { λ r. ⌜ Did (revisits (chart-of (now (chart .entry))) arg (plain s)) (now (active .entry)) (now (slots .entry)) (now (vars .entry)) queue (now (trace .entry)) at r (now (active .exit)) (now (slots .entry)) (now (vars .exit)) (now (trace .exit)) ⌝ }
+    requires { ⌜ Ruled (now chart) × (s < states) × (length (now slots) ≡ states) × Ready begun (now trace) ⌝ }
+    ensures { λ r. ⌜ Did (revisits (chart-of (now (chart .entry))) arg (plain s)) (now (active .entry)) (now (slots .entry)) (now (vars .entry)) (begun .queue) (now (trace .entry)) (begun .at) r (now (active .exit)) (now (slots .entry)) (now (vars .exit)) (now (trace .exit)) ⌝ }
 {
-    let went = enter(chart, arg, s, active, vars, queue, trace, at);
+    let waiting = begun.queue;
+    let went = enter(chart, arg, s, active, vars, waiting, trace, begun.at);
     if went.number != 0 {
         return went;
     }
@@ -88,11 +89,11 @@ fn revisit(
     let Place::Empty = slot_of(slots, s) else {
         return went;
     };
-    let waiting = went.queue;
+    let onward = went.queue;
     Went {
         number: 14,
         at: went.at,
-        queue: waiting,
+        queue: onward,
     }
 }
 
@@ -111,7 +112,8 @@ pub fn by_defaults(
     requires { ⌜ Ruled (now chart) × (s < length (chart-of (now chart) .states)) × (at ≤ length (now trace)) ⌝ }
     ensures { λ r. ⌜ Within (now (trace .entry)) r (now (trace .exit)) × ((slots : List ℤ) → Did (each (visits (chart-of (now (chart .entry))) arg) (below (chart-of (now (chart .entry))) by-defaults left s)) (now (active .entry)) slots (now (vars .entry)) queue (now (trace .entry)) at r (now (active .exit)) slots (now (vars .exit)) (now (trace .exit))) ⌝ }
 {
-    let kids = goes_on(chart, s, Next::Defaults, left);
+    let next = Next::Defaults;
+    let kids = goes_on(chart, s, next, left);
     let mut went = Went {
         number: 0,
         at: at,
@@ -121,34 +123,12 @@ pub fn by_defaults(
         if !is_child(chart, s, d) {
             continue;
         }
-        let waiting = went.queue;
-        went = visit(
-            chart,
-            arg,
-            Next::Defaults,
-            s,
-            d,
-            active,
-            vars,
-            waiting,
-            trace,
-            went.at,
-        );
+        went = visit(chart, arg, next, s, d, active, vars, trace, went);
         if went.number != 0 {
             return went;
         }
-        let onward = went.queue;
-        went = by_defaults(
-            chart,
-            arg,
-            d,
-            left - 1,
-            active,
-            vars,
-            onward,
-            trace,
-            went.at,
-        );
+        let then = went.queue;
+        went = by_defaults(chart, arg, d, left - 1, active, vars, then, trace, went.at);
         if went.number != 0 {
             return went;
         }
@@ -165,41 +145,23 @@ pub fn by_slots(
     active: &mut [bool; STATES],
     slots: &[i32; STATES],
     vars: &mut [i32; VARIABLES],
-    queue: Queue,
     trace: &mut [i32],
-    at: usize,
+    begun: Went,
 ) -> Went
-    requires { ⌜ Ruled (now chart) × (s < length (chart-of (now chart) .states)) × Led (chart-of (now chart)) (now slots) × (at ≤ length (now trace)) ⌝ }
-    ensures { λ r. ⌜ Did (each (revisits (chart-of (now (chart .entry))) arg) (below (chart-of (now (chart .entry))) (stored-way (now (slots .entry))) left s)) (now (active .entry)) (now (slots .entry)) (now (vars .entry)) queue (now (trace .entry)) at r (now (active .exit)) (now (slots .entry)) (now (vars .exit)) (now (trace .exit)) ⌝ }
+    requires { ⌜ Ruled (now chart) × (s < length (chart-of (now chart) .states)) × Led (chart-of (now chart)) (now slots) × Ready begun (now trace) ⌝ }
+    ensures { λ r. ⌜ Did (each (revisits (chart-of (now (chart .entry))) arg) (below (chart-of (now (chart .entry))) (stored-way (now (slots .entry))) left s)) (now (active .entry)) (now (slots .entry)) (now (vars .entry)) (begun .queue) (now (trace .entry)) (begun .at) r (now (active .exit)) (now (slots .entry)) (now (vars .exit)) (now (trace .exit)) ⌝ }
 {
     let kids = goes_on(chart, s, stored(slots, s), left);
-    let mut went = Went {
-        number: 0,
-        at: at,
-        queue: queue,
-    };
+    let mut went = begun;
     for d in kids.first..kids.end {
         if !is_child(chart, s, d) {
             continue;
         }
-        let waiting = went.queue;
-        went = revisit(chart, arg, d, active, slots, vars, waiting, trace, went.at);
+        went = revisit(chart, arg, d, active, slots, vars, trace, went);
         if went.number != 0 {
             return went;
         }
-        let onward = went.queue;
-        went = by_slots(
-            chart,
-            arg,
-            d,
-            left - 1,
-            active,
-            slots,
-            vars,
-            onward,
-            trace,
-            went.at,
-        );
+        went = by_slots(chart, arg, d, left - 1, active, slots, vars, trace, went);
         if went.number != 0 {
             return went;
         }
@@ -216,18 +178,18 @@ pub fn restore(
     active: &mut [bool; STATES],
     slots: &[i32; STATES],
     vars: &mut [i32; VARIABLES],
-    queue: Queue,
     trace: &mut [i32],
-    at: usize,
+    begun: Went,
 ) -> Went
-    requires { ⌜ Ruled (now chart) × (b < length (chart-of (now chart) .states)) × Led (chart-of (now chart)) (now slots) × (at ≤ length (now trace)) ⌝ }
-    ensures { λ r. ⌜ Did (restores (chart-of (now (chart .entry))) arg b) (now (active .entry)) (now (slots .entry)) (now (vars .entry)) queue (now (trace .entry)) at r (now (active .exit)) (now (slots .entry)) (now (vars .exit)) (now (trace .exit)) ⌝ }
+    requires { ⌜ Ruled (now chart) × (b < length (chart-of (now chart) .states)) × Led (chart-of (now chart)) (now slots) × Ready begun (now trace) ⌝ }
+    ensures { λ r. ⌜ Did (restores (chart-of (now (chart .entry))) arg b) (now (active .entry)) (now (slots .entry)) (now (vars .entry)) (begun .queue) (now (trace .entry)) (begun .at) r (now (active .exit)) (now (slots .entry)) (now (vars .exit)) (now (trace .exit)) ⌝ }
 {
     let left = state_count(chart);
     let Place::Empty = slot_of(slots, b) else {
-        return by_slots(chart, arg, b, left, active, slots, vars, queue, trace, at);
+        return by_slots(chart, arg, b, left, active, slots, vars, trace, begun);
     };
-    by_defaults(chart, arg, b, left, active, vars, queue, trace, at)
+    let waiting = begun.queue;
+    by_defaults(chart, arg, b, left, active, vars, waiting, trace, begun.at)
 }
 
 // Enters s, a child of p on the way to the goal; "History: the owner is entered", and then what its slot says.
@@ -240,15 +202,14 @@ fn arrive(
     active: &mut [bool; STATES],
     slots: &[i32; STATES],
     vars: &mut [i32; VARIABLES],
-    queue: Queue,
     trace: &mut [i32],
-    at: usize,
+    begun: Went,
 ) -> Went
-    requires { ⌜ Ruled (now chart) × (s < length (chart-of (now chart) .states)) × Led (chart-of (now chart)) (now slots) × (at ≤ length (now trace)) ⌝ }
-    ensures { λ r. ⌜ Did (goal-visit (chart-of (now (chart .entry))) arg goal (visit-as (defaulting (kind-in (chart-of (now (chart .entry))) p) (goal-way (chart-of (now (chart .entry))) goal p)) p s)) (now (active .entry)) (now (slots .entry)) (now (vars .entry)) queue (now (trace .entry)) at r (now (active .exit)) (now (slots .entry)) (now (vars .exit)) (now (trace .exit)) ⌝ }
+    requires { ⌜ Ruled (now chart) × (s < length (chart-of (now chart) .states)) × Led (chart-of (now chart)) (now slots) × Ready begun (now trace) ⌝ }
+    ensures { λ r. ⌜ Did (goal-visit (chart-of (now (chart .entry))) arg goal (visit-as (defaulting (kind-in (chart-of (now (chart .entry))) p) (goal-way (chart-of (now (chart .entry))) goal p)) p s)) (now (active .entry)) (now (slots .entry)) (now (vars .entry)) (begun .queue) (now (trace .entry)) (begun .at) r (now (active .exit)) (now (slots .entry)) (now (vars .exit)) (now (trace .exit)) ⌝ }
 {
     let next = next_of(chart, goal, p);
-    let went = visit(chart, arg, next, p, s, active, vars, queue, trace, at);
+    let went = visit(chart, arg, next, p, s, active, vars, trace, begun);
     if went.number != 0 {
         return went;
     }
@@ -258,8 +219,7 @@ fn arrive(
     if s != b {
         return went;
     }
-    let waiting = went.queue;
-    restore(chart, arg, b, active, slots, vars, waiting, trace, went.at)
+    restore(chart, arg, b, active, slots, vars, trace, went)
 }
 
 // Below s, which is in: "the path from below the scope to the target; in each a state every component; below that,
@@ -273,54 +233,24 @@ pub fn towards(
     active: &mut [bool; STATES],
     slots: &[i32; STATES],
     vars: &mut [i32; VARIABLES],
-    queue: Queue,
     trace: &mut [i32],
-    at: usize,
+    begun: Went,
 ) -> Went
-    requires { ⌜ Ruled (now chart) × Inside (chart-of (now chart)) goal × (s < length (chart-of (now chart) .states)) × Led (chart-of (now chart)) (now slots) × (at ≤ length (now trace)) ⌝ }
-    ensures { λ r. ⌜ Did (each (goal-visit (chart-of (now (chart .entry))) arg goal) (below (chart-of (now (chart .entry))) (goal-way (chart-of (now (chart .entry))) goal) left s)) (now (active .entry)) (now (slots .entry)) (now (vars .entry)) queue (now (trace .entry)) at r (now (active .exit)) (now (slots .entry)) (now (vars .exit)) (now (trace .exit)) ⌝ }
+    requires { ⌜ Ruled (now chart) × Inside (chart-of (now chart)) goal × (s < length (chart-of (now chart) .states)) × Led (chart-of (now chart)) (now slots) × Ready begun (now trace) ⌝ }
+    ensures { λ r. ⌜ Did (each (goal-visit (chart-of (now (chart .entry))) arg goal) (below (chart-of (now (chart .entry))) (goal-way (chart-of (now (chart .entry))) goal) left s)) (now (active .entry)) (now (slots .entry)) (now (vars .entry)) (begun .queue) (now (trace .entry)) (begun .at) r (now (active .exit)) (now (slots .entry)) (now (vars .exit)) (now (trace .exit)) ⌝ }
 {
     let kids = goes_on(chart, s, next_of(chart, goal, s), left);
-    let mut went = Went {
-        number: 0,
-        at: at,
-        queue: queue,
-    };
+    let mut went = begun;
     for d in kids.first..kids.end {
         if !is_child(chart, s, d) {
             continue;
         }
-        let waiting = went.queue;
-        went = arrive(
-            chart,
-            arg,
-            goal,
-            s,
-            d,
-            active,
-            slots,
-            vars,
-            waiting,
-            trace,
-            went.at,
-        );
+        went = arrive(chart, arg, goal, s, d, active, slots, vars, trace, went);
         if went.number != 0 {
             return went;
         }
-        let onward = went.queue;
-        went = towards(
-            chart,
-            arg,
-            goal,
-            d,
-            left - 1,
-            active,
-            slots,
-            vars,
-            onward,
-            trace,
-            went.at,
-        );
+        let fewer = left - 1;
+        went = towards(chart, arg, goal, d, fewer, active, slots, vars, trace, went);
         if went.number != 0 {
             return went;
         }

@@ -1,17 +1,17 @@
 -- `by_defaults` enters each child that is due by default, with what is below it. The measure is how many states are left. Assumes nothing.
-use mathlib.Core.Path.{_∙_, sym}
+use mathlib.Core.Path.{_∙_, refl, sym}
 use mathlib.Core.List.{List}
+use lib.IntN.{ℤ}
 use Prim.Native.Nat.{_-_}
 use native.Mathlib.Omega.{arith}
 use borrow.Author.Needs.{needs}
 use borrow.Author.Tests.{not-true, not-false}
-use lib.IntN.{ℤ}
 use mir.Facts.{toZ-ofZ}
 use mir.Syntax.{w32}
 use mir.Val.{toZ}
 use Rattle.chart.proofs.Rows.{states-most}
-use Rattle.meaning.specs.Entry.{by-defaults, defaults, visit}
 use Rattle.meaning.specs.Value.{chart-of}
+use Rattle.meaning.specs.Entry.{by-defaults, defaults, visit}
 use Rattle.moves.proofs.Among.{defaults-way, defaults-on}
 use Rattle.moves.proofs.Descending.{Going, going-begin, going-skip, going-stop, going-stop-below, going-on, going-end}
 use Prim.Native.Nat.{ℕ, _<_}
@@ -38,11 +38,11 @@ by-defaults-below t =
     and 4 by-defaults-kinds.ps (falls 4 by-defaults-kinds.ps _<_ μ-by-defaults t) by-defaults-own.Pre
 
 abbrev by-defaults-Inv-loop : by-defaults-lts.InvT-loop
-by-defaults-Inv-loop chart arg s left active₀ vars₀ trace₀ at went₀ d₀ d-end active vars trace went d =
+by-defaults-Inv-loop chart arg s left active₀ vars₀ trace₀ at next went₀ d₀ d-end active vars trace went d =
     Going {S = List ℤ} (λ x. x) (visit (chart-of chart) (toZ w32 arg)) (chart-of chart) by-defaults defaults s left d₀ d-end active₀ vars₀ (went₀ .queue) trace₀ (went₀ .at) d active vars trace went
 
 abbrev by-defaults-μ-loop : by-defaults-lts.MeasureT-loop
-by-defaults-μ-loop chart arg s left active₀ vars₀ trace₀ at went₀ d₀ d-end active vars trace went d =
+by-defaults-μ-loop chart arg s left active₀ vars₀ trace₀ at next went₀ d₀ d-end active vars trace went d =
     d-end - d
 
 by-defaults-goes-on-requires : (t : ℕ) → by-defaults-lts.Need-goes-on-requires (
@@ -67,7 +67,7 @@ by-defaults-loop-holds : (t : ℕ) → by-defaults-lts.Need-loop-holds (
   by-defaults-below t,
   by-defaults-own.Post,
 ) (by-defaults-at t) by-defaults-own.Post by-defaults-Inv-loop by-defaults-μ-loop
-by-defaults-loop-holds t c = going-begin (λ x. x) _ _ by-defaults defaults _ _ _ _ (defaults-way _) (c .goes-on .ensures) (c .before .pre .1 .2)
+by-defaults-loop-holds t c = going-begin (λ x. x) _ _ by-defaults defaults _ _ _ _ (defaults-way _) (c .goes-on .ensures) (record { number = 0; at = c .before .args .at; queue = c .before .args .queue }) refl (c .before .pre .1 .2)
 
 by-defaults-is-child-requires : (t : ℕ) → by-defaults-lts.Need-is-child-requires (
   goes-on-reads.Asked,
@@ -127,7 +127,7 @@ by-defaults-visit-requires : (t : ℕ) → by-defaults-lts.Need-visit-requires (
   by-defaults-below t,
   by-defaults-own.Post,
 ) (by-defaults-at t) by-defaults-own.Post by-defaults-Inv-loop by-defaults-μ-loop
-by-defaults-visit-requires t c κs = (c .before .before .before .before .before .before .before .before .before .pre .1 .0, omega (arith, c .before .before .before .before .before .before .before .before .goes-on .ensures .within, states-most (c .before .before .before .before .before .before .before .before .before .args .chart .now)), c .before .before .before .before .before .before .before .loop .inv .fits)
+by-defaults-visit-requires t c κs = (c .before .before .before .before .before .before .before .before .pre .1 .0, omega (arith, c .before .before .before .before .before .before .before .goes-on .ensures .within, states-most (c .before .before .before .before .before .before .before .before .args .chart .now)), record { going = c .before .before .before .before .before .before .loop .inv .going; fits = c .before .before .before .before .before .before .loop .inv .fits })
 
 by-defaults-same-length : (t : ℕ) → by-defaults-lts.Need-same-length (
   goes-on-reads.Asked,
@@ -151,7 +151,7 @@ by-defaults-returns : (t : ℕ) → by-defaults-lts.Need-returns (
   by-defaults-below t,
   by-defaults-own.Post,
 ) (by-defaults-at t) by-defaults-own.Post by-defaults-Inv-loop by-defaults-μ-loop
-by-defaults-returns t c = rw (toZ-ofZ (c .before .before .before .before .before .before .before .before .before .before .before .before .before .fits .arg)) at (going-stop (λ x. x) _ _ _ _ _ _ _ _ (c .before .before .before .before .before .before .before .before .before .before .before .loop .inv) (c .before .before .before .before .before .before .before .before .before .before .loop-test .taken) (sym (c .before .before .before .before .before .before .before .before .before .is-child .ensures) ∙ not-false _ (c .before .before .before .before .before .before .before .before .if1 .left)) (c .before .before .before .visit .ensures) (c .if2 .taken))
+by-defaults-returns t c = rw (toZ-ofZ (c .before .before .before .before .before .before .before .before .before .before .before .before .fits .arg)) at (going-stop (λ x. x) _ _ _ _ _ _ _ _ (c .before .before .before .before .before .before .before .before .before .before .loop .inv) (c .before .before .before .before .before .before .before .before .before .loop-test .taken) (sym (c .before .before .before .before .before .before .before .before .is-child .ensures) ∙ not-false _ (c .before .before .before .before .before .before .before .if1 .left)) (c .before .before .before .visit .ensures) (c .if2 .taken))
 
 by-defaults-sub-by-defaults : (t : ℕ) → by-defaults-lts.Need-sub-by-defaults (
   goes-on-reads.Asked,
@@ -163,7 +163,7 @@ by-defaults-sub-by-defaults : (t : ℕ) → by-defaults-lts.Need-sub-by-defaults
   by-defaults-below t,
   by-defaults-own.Post,
 ) (by-defaults-at t) by-defaults-own.Post by-defaults-Inv-loop by-defaults-μ-loop
-by-defaults-sub-by-defaults t c = omega (arith, c .before .before .before .before .before .before .before .before .before .before .before .before .before .goes-on .ensures .more (omega (arith, c .before .before .before .before .before .before .before .before .before .before .before .before .loop .inv .since)))
+by-defaults-sub-by-defaults t c = omega (arith, c .before .before .before .before .before .before .before .before .before .before .before .before .goes-on .ensures .more (omega (arith, c .before .before .before .before .before .before .before .before .before .before .before .loop .inv .since)))
 
 by-defaults-by-defaults-requires : (t : ℕ) → by-defaults-lts.Need-by-defaults-requires (
   goes-on-reads.Asked,
@@ -175,7 +175,7 @@ by-defaults-by-defaults-requires : (t : ℕ) → by-defaults-lts.Need-by-default
   by-defaults-below t,
   by-defaults-own.Post,
 ) (by-defaults-at t) by-defaults-own.Post by-defaults-Inv-loop by-defaults-μ-loop
-by-defaults-by-defaults-requires t c κs = (omega (arith, c .before .before .before .before .before .before .before .before .before .before .before .before .before .before .before .before .goes-on .ensures .more (omega (arith, c .before .before .before .before .before .before .before .before .before .before .before .before .before .before .before .loop .inv .since))), (c .before .before .before .before .before .before .before .before .before .before .before .before .before .before .before .before .before .pre .1 .0, omega (arith, c .before .before .before .before .before .before .before .before .before .before .before .before .before .before .before .before .goes-on .ensures .within), c .before .before .before .before .before .before .before .visit .ensures .0 .fits))
+by-defaults-by-defaults-requires t c κs = (omega (arith, c .before .before .before .before .before .before .before .before .before .before .before .before .before .before .before .goes-on .ensures .more (omega (arith, c .before .before .before .before .before .before .before .before .before .before .before .before .before .before .loop .inv .since))), (c .before .before .before .before .before .before .before .before .before .before .before .before .before .before .before .before .pre .1 .0, omega (arith, c .before .before .before .before .before .before .before .before .before .before .before .before .before .before .before .goes-on .ensures .within), c .before .before .before .before .before .before .before .visit .ensures .0 .fits))
 
 by-defaults-same-length-2 : (t : ℕ) → by-defaults-lts.Need-same-length-2 (
   goes-on-reads.Asked,
@@ -187,7 +187,7 @@ by-defaults-same-length-2 : (t : ℕ) → by-defaults-lts.Need-same-length-2 (
   by-defaults-below t,
   by-defaults-own.Post,
 ) (by-defaults-at t) by-defaults-own.Post by-defaults-Inv-loop by-defaults-μ-loop
-by-defaults-same-length-2 t c = omega (arith, c .before .before .before .by-defaults .ensures .0 .kept, c .before .before .before .before .before .before .before .before .before .before .before .visit .ensures .0 .kept, c .before .before .before .before .before .before .before .before .before .before .before .before .before .before .before .before .before .before .before .loop .inv .kept)
+by-defaults-same-length-2 t c = omega (arith, c .before .before .before .by-defaults .ensures .0 .kept, c .before .before .before .before .before .before .before .before .before .before .before .visit .ensures .0 .kept, c .before .before .before .before .before .before .before .before .before .before .before .before .before .before .before .before .before .before .loop .inv .kept)
 
 by-defaults-returns-2 : (t : ℕ) → by-defaults-lts.Need-returns-2 (
   goes-on-reads.Asked,
@@ -199,7 +199,7 @@ by-defaults-returns-2 : (t : ℕ) → by-defaults-lts.Need-returns-2 (
   by-defaults-below t,
   by-defaults-own.Post,
 ) (by-defaults-at t) by-defaults-own.Post by-defaults-Inv-loop by-defaults-μ-loop
-by-defaults-returns-2 t c = rw (toZ-ofZ (c .before .before .before .before .before .before .before .before .before .before .before .before .before .before .before .before .before .before .before .before .before .fits .arg)) at (going-stop-below (λ x. x) _ _ _ _ _ _ _ _ (c .before .before .before .before .before .before .before .before .before .before .before .before .before .before .before .before .before .before .before .loop .inv) (c .before .before .before .before .before .before .before .before .before .before .before .before .before .before .before .before .before .before .loop-test .taken) (sym (c .before .before .before .before .before .before .before .before .before .before .before .before .before .before .before .before .before .is-child .ensures) ∙ not-false _ (c .before .before .before .before .before .before .before .before .before .before .before .before .before .before .before .before .if1 .left)) (c .before .before .before .before .before .before .before .before .before .before .before .visit .ensures) (c .before .before .before .before .before .before .before .before .if2 .left) (c .before .before .before .by-defaults .ensures) (c .if3 .taken))
+by-defaults-returns-2 t c = rw (toZ-ofZ (c .before .before .before .before .before .before .before .before .before .before .before .before .before .before .before .before .before .before .before .before .fits .arg)) at (going-stop-below (λ x. x) _ _ _ _ _ _ _ _ (c .before .before .before .before .before .before .before .before .before .before .before .before .before .before .before .before .before .before .loop .inv) (c .before .before .before .before .before .before .before .before .before .before .before .before .before .before .before .before .before .loop-test .taken) (sym (c .before .before .before .before .before .before .before .before .before .before .before .before .before .before .before .before .is-child .ensures) ∙ not-false _ (c .before .before .before .before .before .before .before .before .before .before .before .before .before .before .before .if1 .left)) (c .before .before .before .before .before .before .before .before .before .before .before .visit .ensures) (c .before .before .before .before .before .before .before .before .if2 .left) (c .before .before .before .by-defaults .ensures) (c .if3 .taken))
 
 by-defaults-add-d-2 : (t : ℕ) → by-defaults-lts.Need-add-d-2 (
   goes-on-reads.Asked,
@@ -211,7 +211,7 @@ by-defaults-add-d-2 : (t : ℕ) → by-defaults-lts.Need-add-d-2 (
   by-defaults-below t,
   by-defaults-own.Post,
 ) (by-defaults-at t) by-defaults-own.Post by-defaults-Inv-loop by-defaults-μ-loop
-by-defaults-add-d-2 t c = omega (arith, c .before .before .before .before .before .before .before .before .before .before .before .before .before .before .before .before .before .before .loop-test .taken, c .before .before .before .before .before .before .before .before .before .before .before .before .before .before .before .before .before .before .before .before .goes-on .ensures .within, states-most (c .before .before .before .before .before .before .before .before .before .before .before .before .before .before .before .before .before .before .before .before .before .args .chart .now))
+by-defaults-add-d-2 t c = omega (arith, c .before .before .before .before .before .before .before .before .before .before .before .before .before .before .before .before .before .loop-test .taken, c .before .before .before .before .before .before .before .before .before .before .before .before .before .before .before .before .before .before .before .goes-on .ensures .within, states-most (c .before .before .before .before .before .before .before .before .before .before .before .before .before .before .before .before .before .before .before .before .args .chart .now))
 
 by-defaults-loop-less-2 : (t : ℕ) → by-defaults-lts.Need-loop-less-2 (
   goes-on-reads.Asked,
@@ -223,7 +223,7 @@ by-defaults-loop-less-2 : (t : ℕ) → by-defaults-lts.Need-loop-less-2 (
   by-defaults-below t,
   by-defaults-own.Post,
 ) (by-defaults-at t) by-defaults-own.Post by-defaults-Inv-loop by-defaults-μ-loop
-by-defaults-loop-less-2 t c = omega (arith, c .before .before .before .before .before .before .before .before .before .before .before .before .before .before .before .before .before .before .loop-test .taken)
+by-defaults-loop-less-2 t c = omega (arith, c .before .before .before .before .before .before .before .before .before .before .before .before .before .before .before .before .before .loop-test .taken)
 
 by-defaults-loop-again-2 : (t : ℕ) → by-defaults-lts.Need-loop-again-2 (
   goes-on-reads.Asked,
@@ -235,7 +235,7 @@ by-defaults-loop-again-2 : (t : ℕ) → by-defaults-lts.Need-loop-again-2 (
   by-defaults-below t,
   by-defaults-own.Post,
 ) (by-defaults-at t) by-defaults-own.Post by-defaults-Inv-loop by-defaults-μ-loop
-by-defaults-loop-again-2 t c = going-on (λ x. x) _ _ _ _ _ _ _ _ (c .before .before .before .before .before .before .before .before .before .before .before .before .before .before .before .before .before .before .before .loop .inv) (c .before .before .before .before .before .before .before .before .before .before .before .before .before .before .before .before .before .before .loop-test .taken) (sym (c .before .before .before .before .before .before .before .before .before .before .before .before .before .before .before .before .before .is-child .ensures) ∙ not-false _ (c .before .before .before .before .before .before .before .before .before .before .before .before .before .before .before .before .if1 .left)) (c .before .before .before .before .before .before .before .before .before .before .before .visit .ensures) (c .before .before .before .before .before .before .before .before .if2 .left) (c .before .before .before .by-defaults .ensures) (c .if3 .left)
+by-defaults-loop-again-2 t c = going-on (λ x. x) _ _ _ _ _ _ _ _ (c .before .before .before .before .before .before .before .before .before .before .before .before .before .before .before .before .before .before .loop .inv) (c .before .before .before .before .before .before .before .before .before .before .before .before .before .before .before .before .before .loop-test .taken) (sym (c .before .before .before .before .before .before .before .before .before .before .before .before .before .before .before .before .is-child .ensures) ∙ not-false _ (c .before .before .before .before .before .before .before .before .before .before .before .before .before .before .before .if1 .left)) (c .before .before .before .before .before .before .before .before .before .before .before .visit .ensures) (c .before .before .before .before .before .before .before .before .if2 .left) (c .before .before .before .by-defaults .ensures) (c .if3 .left)
 
 by-defaults-same-length-3 : (t : ℕ) → by-defaults-lts.Need-same-length-3 (
   goes-on-reads.Asked,

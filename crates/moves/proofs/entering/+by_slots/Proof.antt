@@ -1,5 +1,5 @@
 -- `by_slots` enters each child that is due by the slots, with what is below it. The measure is how many states are left. Assumes nothing.
-use mathlib.Core.Path.{_∙_, sym, refl}
+use mathlib.Core.Path.{_∙_, refl, sym}
 use Prim.Native.Nat.{_-_}
 use native.Mathlib.Omega.{arith}
 use borrow.Author.Needs.{needs}
@@ -8,8 +8,8 @@ use mir.Facts.{toZ-ofZ}
 use mir.Syntax.{w32}
 use mir.Val.{toZ}
 use Rattle.chart.proofs.Rows.{states-most}
-use Rattle.meaning.specs.Entry.{revisit}
 use Rattle.meaning.specs.Value.{chart-of}
+use Rattle.meaning.specs.Entry.{revisit}
 use Rattle.moves.specs.Moves.{stored-way}
 use Rattle.moves.proofs.Among.{stored-child, stored-kids}
 use Rattle.moves.proofs.Descending.{Going, one-list, revisited, going-begin, going-skip, going-stop, going-stop-below, going-on, going-end}
@@ -37,11 +37,11 @@ by-slots-below t =
     and 5 by-slots-kinds.ps (falls 5 by-slots-kinds.ps _<_ μ-by-slots t) by-slots-own.Pre
 
 abbrev by-slots-Inv-loop : by-slots-lts.InvT-loop
-by-slots-Inv-loop chart arg s left active₀ slots vars₀ trace₀ at went₀ d₀ d-end active vars trace went d =
+by-slots-Inv-loop chart arg s left active₀ slots vars₀ trace₀ went₀ d₀ d-end active vars trace went d =
     Going {S = Unit {0}} (λ x. slots) (revisit (chart-of chart) (toZ w32 arg)) (chart-of chart) (stored-way slots) (stored-way slots s) s left d₀ d-end active₀ vars₀ (went₀ .queue) trace₀ (went₀ .at) d active vars trace went
 
 abbrev by-slots-μ-loop : by-slots-lts.MeasureT-loop
-by-slots-μ-loop chart arg s left active₀ slots vars₀ trace₀ at went₀ d₀ d-end active vars trace went d =
+by-slots-μ-loop chart arg s left active₀ slots vars₀ trace₀ went₀ d₀ d-end active vars trace went d =
     d-end - d
 
 by-slots-stored-requires : (t : ℕ) → by-slots-lts.Need-stored-requires (
@@ -84,7 +84,7 @@ by-slots-loop-holds : (t : ℕ) → by-slots-lts.Need-loop-holds (
   by-slots-below t,
   by-slots-own.Post,
 ) (by-slots-at t) by-slots-own.Post by-slots-Inv-loop by-slots-μ-loop
-by-slots-loop-holds t c = going-begin (λ x. _) _ _ (stored-way (c .before .before .args .slots .now)) _ _ _ _ _ refl (stored-kids _ _ _ _ _ _ (c .before .stored .result) (c .before .stored .ensures) (c .goes-on .ensures)) (c .before .before .pre .1 .3)
+by-slots-loop-holds t c = going-begin (λ x. _) _ _ (stored-way (c .before .before .args .slots .now)) _ _ _ _ _ refl (stored-kids _ _ _ _ _ _ (c .before .stored .result) (c .before .stored .ensures) (c .goes-on .ensures)) _ (c .before .before .pre .1 .3 .going) (c .before .before .pre .1 .3 .fits)
 
 by-slots-is-child-requires : (t : ℕ) → by-slots-lts.Need-is-child-requires (
   stored-reads.Asked,
@@ -154,7 +154,7 @@ by-slots-revisit-requires : (t : ℕ) → by-slots-lts.Need-revisit-requires (
   by-slots-below t,
   by-slots-own.Post,
 ) (by-slots-at t) by-slots-own.Post by-slots-Inv-loop by-slots-μ-loop
-by-slots-revisit-requires t c κs = (c .before .before .before .before .before .before .before .before .before .before .pre .1 .0, omega (arith, c .before .before .before .before .before .before .before .before .goes-on .ensures .within, states-most (c .before .before .before .before .before .before .before .before .before .before .args .chart .now)), c .before .before .before .before .before .before .before .before .before .before .pre .1 .2 .long, c .before .before .before .before .before .before .before .loop .inv .fits)
+by-slots-revisit-requires t c κs = (c .before .before .before .before .before .before .before .before .before .pre .1 .0, omega (arith, c .before .before .before .before .before .before .before .goes-on .ensures .within, states-most (c .before .before .before .before .before .before .before .before .before .args .chart .now)), c .before .before .before .before .before .before .before .before .before .pre .1 .2 .long, record { going = c .before .before .before .before .before .before .loop .inv .going; fits = c .before .before .before .before .before .before .loop .inv .fits })
 
 by-slots-same-length : (t : ℕ) → by-slots-lts.Need-same-length (
   stored-reads.Asked,
@@ -182,7 +182,7 @@ by-slots-returns : (t : ℕ) → by-slots-lts.Need-returns (
   by-slots-below t,
   by-slots-own.Post,
 ) (by-slots-at t) by-slots-own.Post by-slots-Inv-loop by-slots-μ-loop
-by-slots-returns t c = rw (toZ-ofZ (c .before .before .before .before .before .before .before .before .before .before .before .before .before .before .fits .arg)) at (going-stop (λ x. _) _ _ _ _ _ _ _ _ (c .before .before .before .before .before .before .before .before .before .before .before .loop .inv) (c .before .before .before .before .before .before .before .before .before .before .loop-test .taken) (sym (c .before .before .before .before .before .before .before .before .before .is-child .ensures) ∙ not-false _ (c .before .before .before .before .before .before .before .before .if1 .left)) (revisited _ _ _ _ (c .before .before .before .revisit .ensures)) (c .if2 .taken) .1 tt)
+by-slots-returns t c = rw (toZ-ofZ (c .before .before .before .before .before .before .before .before .before .before .before .before .before .fits .arg)) at (going-stop (λ x. _) _ _ _ _ _ _ _ _ (c .before .before .before .before .before .before .before .before .before .before .loop .inv) (c .before .before .before .before .before .before .before .before .before .loop-test .taken) (sym (c .before .before .before .before .before .before .before .before .is-child .ensures) ∙ not-false _ (c .before .before .before .before .before .before .before .if1 .left)) (revisited _ _ _ _ (c .before .before .before .revisit .ensures)) (c .if2 .taken) .1 tt)
 
 by-slots-sub-by-slots : (t : ℕ) → by-slots-lts.Need-sub-by-slots (
   stored-reads.Asked,
@@ -196,7 +196,7 @@ by-slots-sub-by-slots : (t : ℕ) → by-slots-lts.Need-sub-by-slots (
   by-slots-below t,
   by-slots-own.Post,
 ) (by-slots-at t) by-slots-own.Post by-slots-Inv-loop by-slots-μ-loop
-by-slots-sub-by-slots t c = omega (arith, c .before .before .before .before .before .before .before .before .before .before .before .before .before .goes-on .ensures .more (omega (arith, c .before .before .before .before .before .before .before .before .before .before .before .before .loop .inv .since)))
+by-slots-sub-by-slots t c = omega (arith, c .before .before .before .before .before .before .before .before .before .before .before .goes-on .ensures .more (omega (arith, c .before .before .before .before .before .before .before .before .before .before .loop .inv .since)))
 
 by-slots-by-slots-requires : (t : ℕ) → by-slots-lts.Need-by-slots-requires (
   stored-reads.Asked,
@@ -210,7 +210,7 @@ by-slots-by-slots-requires : (t : ℕ) → by-slots-lts.Need-by-slots-requires (
   by-slots-below t,
   by-slots-own.Post,
 ) (by-slots-at t) by-slots-own.Post by-slots-Inv-loop by-slots-μ-loop
-by-slots-by-slots-requires t c κs = (omega (arith, c .before .before .before .before .before .before .before .before .before .before .before .before .before .before .before .before .goes-on .ensures .more (omega (arith, c .before .before .before .before .before .before .before .before .before .before .before .before .before .before .before .loop .inv .since))), (c .before .before .before .before .before .before .before .before .before .before .before .before .before .before .before .before .before .before .pre .1 .0, omega (arith, c .before .before .before .before .before .before .before .before .before .before .before .before .before .before .before .before .goes-on .ensures .within), c .before .before .before .before .before .before .before .before .before .before .before .before .before .before .before .before .before .before .pre .1 .2, c .before .before .before .before .before .before .before .revisit .ensures .fits))
+by-slots-by-slots-requires t c κs = (omega (arith, c .before .before .before .before .before .before .before .before .before .before .before .before .before .before .goes-on .ensures .more (omega (arith, c .before .before .before .before .before .before .before .before .before .before .before .before .before .loop .inv .since))), (c .before .before .before .before .before .before .before .before .before .before .before .before .before .before .before .before .pre .1 .0, omega (arith, c .before .before .before .before .before .before .before .before .before .before .before .before .before .before .goes-on .ensures .within), c .before .before .before .before .before .before .before .before .before .before .before .before .before .before .before .before .pre .1 .2, record { going = c .before .before .before .if2 .left; fits = c .before .before .before .before .before .before .revisit .ensures .fits }))
 
 by-slots-same-length-2 : (t : ℕ) → by-slots-lts.Need-same-length-2 (
   stored-reads.Asked,
@@ -224,7 +224,7 @@ by-slots-same-length-2 : (t : ℕ) → by-slots-lts.Need-same-length-2 (
   by-slots-below t,
   by-slots-own.Post,
 ) (by-slots-at t) by-slots-own.Post by-slots-Inv-loop by-slots-μ-loop
-by-slots-same-length-2 t c = omega (arith, c .before .before .before .by-slots .ensures .kept, c .before .before .before .before .before .before .before .before .before .before .before .revisit .ensures .kept, c .before .before .before .before .before .before .before .before .before .before .before .before .before .before .before .before .before .before .before .loop .inv .kept)
+by-slots-same-length-2 t c = omega (arith, c .before .before .before .by-slots .ensures .kept, c .before .before .before .before .before .before .before .before .before .before .revisit .ensures .kept, c .before .before .before .before .before .before .before .before .before .before .before .before .before .before .before .before .before .loop .inv .kept)
 
 by-slots-returns-2 : (t : ℕ) → by-slots-lts.Need-returns-2 (
   stored-reads.Asked,
@@ -238,7 +238,7 @@ by-slots-returns-2 : (t : ℕ) → by-slots-lts.Need-returns-2 (
   by-slots-below t,
   by-slots-own.Post,
 ) (by-slots-at t) by-slots-own.Post by-slots-Inv-loop by-slots-μ-loop
-by-slots-returns-2 t c = rw (toZ-ofZ (c .before .before .before .before .before .before .before .before .before .before .before .before .before .before .before .before .before .before .before .before .before .before .fits .arg)) at (going-stop-below (λ x. _) _ _ _ _ _ _ _ _ (c .before .before .before .before .before .before .before .before .before .before .before .before .before .before .before .before .before .before .before .loop .inv) (c .before .before .before .before .before .before .before .before .before .before .before .before .before .before .before .before .before .before .loop-test .taken) (sym (c .before .before .before .before .before .before .before .before .before .before .before .before .before .before .before .before .before .is-child .ensures) ∙ not-false _ (c .before .before .before .before .before .before .before .before .before .before .before .before .before .before .before .before .if1 .left)) (revisited _ _ _ _ (c .before .before .before .before .before .before .before .before .before .before .before .revisit .ensures)) (c .before .before .before .before .before .before .before .before .if2 .left) (one-list (c .before .before .before .by-slots .ensures)) (c .if3 .taken) .1 tt)
+by-slots-returns-2 t c = rw (toZ-ofZ (c .before .before .before .before .before .before .before .before .before .before .before .before .before .before .before .before .before .before .before .before .fits .arg)) at (going-stop-below (λ x. _) _ _ _ _ _ _ _ _ (c .before .before .before .before .before .before .before .before .before .before .before .before .before .before .before .before .before .loop .inv) (c .before .before .before .before .before .before .before .before .before .before .before .before .before .before .before .before .loop-test .taken) (sym (c .before .before .before .before .before .before .before .before .before .before .before .before .before .before .before .is-child .ensures) ∙ not-false _ (c .before .before .before .before .before .before .before .before .before .before .before .before .before .before .if1 .left)) (revisited _ _ _ _ (c .before .before .before .before .before .before .before .before .before .before .revisit .ensures)) (c .before .before .before .before .before .before .before .if2 .left) (one-list (c .before .before .before .by-slots .ensures)) (c .if3 .taken) .1 tt)
 
 by-slots-add-d-2 : (t : ℕ) → by-slots-lts.Need-add-d-2 (
   stored-reads.Asked,
@@ -252,7 +252,7 @@ by-slots-add-d-2 : (t : ℕ) → by-slots-lts.Need-add-d-2 (
   by-slots-below t,
   by-slots-own.Post,
 ) (by-slots-at t) by-slots-own.Post by-slots-Inv-loop by-slots-μ-loop
-by-slots-add-d-2 t c = omega (arith, c .before .before .before .before .before .before .before .before .before .before .before .before .before .before .before .before .before .before .loop-test .taken, c .before .before .before .before .before .before .before .before .before .before .before .before .before .before .before .before .before .before .before .before .goes-on .ensures .within, states-most (c .before .before .before .before .before .before .before .before .before .before .before .before .before .before .before .before .before .before .before .before .before .before .args .chart .now))
+by-slots-add-d-2 t c = omega (arith, c .before .before .before .before .before .before .before .before .before .before .before .before .before .before .before .before .loop-test .taken, c .before .before .before .before .before .before .before .before .before .before .before .before .before .before .before .before .before .before .goes-on .ensures .within, states-most (c .before .before .before .before .before .before .before .before .before .before .before .before .before .before .before .before .before .before .before .before .args .chart .now))
 
 by-slots-loop-less-2 : (t : ℕ) → by-slots-lts.Need-loop-less-2 (
   stored-reads.Asked,
@@ -266,7 +266,7 @@ by-slots-loop-less-2 : (t : ℕ) → by-slots-lts.Need-loop-less-2 (
   by-slots-below t,
   by-slots-own.Post,
 ) (by-slots-at t) by-slots-own.Post by-slots-Inv-loop by-slots-μ-loop
-by-slots-loop-less-2 t c = omega (arith, c .before .before .before .before .before .before .before .before .before .before .before .before .before .before .before .before .before .before .loop-test .taken)
+by-slots-loop-less-2 t c = omega (arith, c .before .before .before .before .before .before .before .before .before .before .before .before .before .before .before .before .loop-test .taken)
 
 by-slots-loop-again-2 : (t : ℕ) → by-slots-lts.Need-loop-again-2 (
   stored-reads.Asked,
@@ -280,7 +280,7 @@ by-slots-loop-again-2 : (t : ℕ) → by-slots-lts.Need-loop-again-2 (
   by-slots-below t,
   by-slots-own.Post,
 ) (by-slots-at t) by-slots-own.Post by-slots-Inv-loop by-slots-μ-loop
-by-slots-loop-again-2 t c = going-on (λ x. _) _ _ _ _ _ _ _ _ (c .before .before .before .before .before .before .before .before .before .before .before .before .before .before .before .before .before .before .before .loop .inv) (c .before .before .before .before .before .before .before .before .before .before .before .before .before .before .before .before .before .before .loop-test .taken) (sym (c .before .before .before .before .before .before .before .before .before .before .before .before .before .before .before .before .before .is-child .ensures) ∙ not-false _ (c .before .before .before .before .before .before .before .before .before .before .before .before .before .before .before .before .if1 .left)) (revisited _ _ _ _ (c .before .before .before .before .before .before .before .before .before .before .before .revisit .ensures)) (c .before .before .before .before .before .before .before .before .if2 .left) (one-list (c .before .before .before .by-slots .ensures)) (c .if3 .left)
+by-slots-loop-again-2 t c = going-on (λ x. _) _ _ _ _ _ _ _ _ (c .before .before .before .before .before .before .before .before .before .before .before .before .before .before .before .before .before .loop .inv) (c .before .before .before .before .before .before .before .before .before .before .before .before .before .before .before .before .loop-test .taken) (sym (c .before .before .before .before .before .before .before .before .before .before .before .before .before .before .before .is-child .ensures) ∙ not-false _ (c .before .before .before .before .before .before .before .before .before .before .before .before .before .before .if1 .left)) (revisited _ _ _ _ (c .before .before .before .before .before .before .before .before .before .before .revisit .ensures)) (c .before .before .before .before .before .before .before .if2 .left) (one-list (c .before .before .before .by-slots .ensures)) (c .if3 .left)
 
 by-slots-same-length-3 : (t : ℕ) → by-slots-lts.Need-same-length-3 (
   stored-reads.Asked,

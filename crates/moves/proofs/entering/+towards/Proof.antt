@@ -1,5 +1,6 @@
--- `towards` enters each child that is due on the way to the goal, with what is below it. The measure is how many states are left. Assumes nothing.
-use mathlib.Core.Path.{_∙_, sym, refl}
+-- `towards` enters each child that is due on the way to the goal, with what is below it. The measure is how many states are left. Assumes
+-- nothing.
+use mathlib.Core.Path.{_∙_, refl, sym}
 use Prim.Native.Nat.{_-_}
 use native.Mathlib.Omega.{arith}
 use borrow.Author.Needs.{needs}
@@ -35,11 +36,11 @@ abbrev towards-below : ℕ → In 5 towards-kinds.ps
 towards-below t = and 5 towards-kinds.ps (falls 5 towards-kinds.ps _<_ μ-towards t) towards-own.Pre
 
 abbrev towards-Inv-loop : towards-lts.InvT-loop
-towards-Inv-loop chart arg goal s left active₀ slots vars₀ trace₀ at went₀ d₀ d-end active vars trace went d =
+towards-Inv-loop chart arg goal s left active₀ slots vars₀ trace₀ went₀ d₀ d-end active vars trace went d =
     Going {S = Unit {0}} (λ x. slots) (goal-visit (chart-of chart) (toZ w32 arg) goal) (chart-of chart) (goal-way (chart-of chart) goal) (goal-way (chart-of chart) goal s) s left d₀ d-end active₀ vars₀ (went₀ .queue) trace₀ (went₀ .at) d active vars trace went
 
 abbrev towards-μ-loop : towards-lts.MeasureT-loop
-towards-μ-loop chart arg goal s left active₀ slots vars₀ trace₀ at went₀ d₀ d-end active vars trace went d =
+towards-μ-loop chart arg goal s left active₀ slots vars₀ trace₀ went₀ d₀ d-end active vars trace went d =
     d-end - d
 
 towards-next-of-requires : (t : ℕ) → towards-lts.Need-next-of-requires (
@@ -82,7 +83,7 @@ towards-loop-holds : (t : ℕ) → towards-lts.Need-loop-holds (
   towards-below t,
   towards-own.Post,
 ) (towards-at t) towards-own.Post towards-Inv-loop towards-μ-loop
-towards-loop-holds t c = going-begin (λ x. _) _ _ (goal-way (chart-of (c .before .before .args .chart .now)) (c .before .before .args .goal)) _ _ _ _ _ refl (goal-kids _ (c .before .before .args .goal) _ _ _ _ (c .before .next-of .result) (c .before .next-of .ensures) (c .goes-on .ensures)) (c .before .before .pre .1 .4)
+towards-loop-holds t c = going-begin (λ x. _) _ _ (goal-way (chart-of (c .before .before .args .chart .now)) (c .before .before .args .goal)) _ _ _ _ _ refl (goal-kids _ (c .before .before .args .goal) _ _ _ _ (c .before .next-of .result) (c .before .next-of .ensures) (c .goes-on .ensures)) _ (c .before .before .pre .1 .4 .going) (c .before .before .pre .1 .4 .fits)
 
 towards-is-child-requires : (t : ℕ) → towards-lts.Need-is-child-requires (
   next-of-reads.Asked,
@@ -152,7 +153,7 @@ towards-arrive-requires : (t : ℕ) → towards-lts.Need-arrive-requires (
   towards-below t,
   towards-own.Post,
 ) (towards-at t) towards-own.Post towards-Inv-loop towards-μ-loop
-towards-arrive-requires t c κs = (c .before .before .before .before .before .before .before .before .before .before .pre .1 .0, omega (arith, c .before .before .before .before .before .before .before .before .goes-on .ensures .within), c .before .before .before .before .before .before .before .before .before .before .pre .1 .3, c .before .before .before .before .before .before .before .loop .inv .fits)
+towards-arrive-requires t c κs = (c .before .before .before .before .before .before .before .before .before .pre .1 .0, omega (arith, c .before .before .before .before .before .before .before .goes-on .ensures .within), c .before .before .before .before .before .before .before .before .before .pre .1 .3, record { going = c .before .before .before .before .before .before .loop .inv .going; fits = c .before .before .before .before .before .before .loop .inv .fits })
 
 towards-same-length : (t : ℕ) → towards-lts.Need-same-length (
   next-of-reads.Asked,
@@ -180,9 +181,9 @@ towards-returns : (t : ℕ) → towards-lts.Need-returns (
   towards-below t,
   towards-own.Post,
 ) (towards-at t) towards-own.Post towards-Inv-loop towards-μ-loop
-towards-returns t c = rw (toZ-ofZ (c .before .before .before .before .before .before .before .before .before .before .before .before .before .before .fits .arg)) at (going-stop (λ x. _) _ _ _ _ _ _ _ _ (c .before .before .before .before .before .before .before .before .before .before .before .loop .inv) (c .before .before .before .before .before .before .before .before .before .before .loop-test .taken) (sym (c .before .before .before .before .before .before .before .before .before .is-child .ensures) ∙ not-false _ (c .before .before .before .before .before .before .before .before .if1 .left)) (one-list (c .before .before .before .arrive .ensures)) (c .if2 .taken) .1 tt)
+towards-returns t c = rw (toZ-ofZ (c .before .before .before .before .before .before .before .before .before .before .before .before .before .fits .arg)) at (going-stop (λ x. _) _ _ _ _ _ _ _ _ (c .before .before .before .before .before .before .before .before .before .before .loop .inv) (c .before .before .before .before .before .before .before .before .before .loop-test .taken) (sym (c .before .before .before .before .before .before .before .before .is-child .ensures) ∙ not-false _ (c .before .before .before .before .before .before .before .if1 .left)) (one-list (c .before .before .before .arrive .ensures)) (c .if2 .taken) .1 tt)
 
-towards-sub-towards : (t : ℕ) → towards-lts.Need-sub-towards (
+towards-sub-fewer : (t : ℕ) → towards-lts.Need-sub-fewer (
   next-of-reads.Asked,
   next-of-reads.Learnt,
   goes-on-reads.Asked,
@@ -194,7 +195,7 @@ towards-sub-towards : (t : ℕ) → towards-lts.Need-sub-towards (
   towards-below t,
   towards-own.Post,
 ) (towards-at t) towards-own.Post towards-Inv-loop towards-μ-loop
-towards-sub-towards t c = omega (arith, c .before .before .before .before .before .before .before .before .before .before .before .before .before .goes-on .ensures .more (omega (arith, c .before .before .before .before .before .before .before .before .before .before .before .before .loop .inv .since)))
+towards-sub-fewer t c = omega (arith, c .before .before .before .before .before .before .before .before .before .before .before .goes-on .ensures .more (omega (arith, c .before .before .before .before .before .before .before .before .before .before .loop .inv .since)))
 
 towards-towards-requires : (t : ℕ) → towards-lts.Need-towards-requires (
   next-of-reads.Asked,
@@ -208,7 +209,7 @@ towards-towards-requires : (t : ℕ) → towards-lts.Need-towards-requires (
   towards-below t,
   towards-own.Post,
 ) (towards-at t) towards-own.Post towards-Inv-loop towards-μ-loop
-towards-towards-requires t c κs = (omega (arith, c .before .before .before .before .before .before .before .before .before .before .before .before .before .before .before .before .goes-on .ensures .more (omega (arith, c .before .before .before .before .before .before .before .before .before .before .before .before .before .before .before .loop .inv .since))), (c .before .before .before .before .before .before .before .before .before .before .before .before .before .before .before .before .before .before .pre .1 .0, c .before .before .before .before .before .before .before .before .before .before .before .before .before .before .before .before .before .before .pre .1 .1, omega (arith, c .before .before .before .before .before .before .before .before .before .before .before .before .before .before .before .before .goes-on .ensures .within), c .before .before .before .before .before .before .before .before .before .before .before .before .before .before .before .before .before .before .pre .1 .3, c .before .before .before .before .before .before .before .arrive .ensures .fits))
+towards-towards-requires t c κs = (omega (arith, c .before .before .before .before .before .before .before .before .before .before .before .before .before .before .goes-on .ensures .more (omega (arith, c .before .before .before .before .before .before .before .before .before .before .before .before .before .loop .inv .since))), (c .before .before .before .before .before .before .before .before .before .before .before .before .before .before .before .before .pre .1 .0, c .before .before .before .before .before .before .before .before .before .before .before .before .before .before .before .before .pre .1 .1, omega (arith, c .before .before .before .before .before .before .before .before .before .before .before .before .before .before .goes-on .ensures .within), c .before .before .before .before .before .before .before .before .before .before .before .before .before .before .before .before .pre .1 .3, record { going = c .before .before .before .if2 .left; fits = c .before .before .before .before .before .before .arrive .ensures .fits }))
 
 towards-same-length-2 : (t : ℕ) → towards-lts.Need-same-length-2 (
   next-of-reads.Asked,
@@ -222,7 +223,7 @@ towards-same-length-2 : (t : ℕ) → towards-lts.Need-same-length-2 (
   towards-below t,
   towards-own.Post,
 ) (towards-at t) towards-own.Post towards-Inv-loop towards-μ-loop
-towards-same-length-2 t c = omega (arith, c .before .before .before .towards .ensures .kept, c .before .before .before .before .before .before .before .before .before .before .before .arrive .ensures .kept, c .before .before .before .before .before .before .before .before .before .before .before .before .before .before .before .before .before .before .before .loop .inv .kept)
+towards-same-length-2 t c = omega (arith, c .before .before .before .towards .ensures .kept, c .before .before .before .before .before .before .before .before .before .before .arrive .ensures .kept, c .before .before .before .before .before .before .before .before .before .before .before .before .before .before .before .before .before .loop .inv .kept)
 
 towards-returns-2 : (t : ℕ) → towards-lts.Need-returns-2 (
   next-of-reads.Asked,
@@ -236,7 +237,7 @@ towards-returns-2 : (t : ℕ) → towards-lts.Need-returns-2 (
   towards-below t,
   towards-own.Post,
 ) (towards-at t) towards-own.Post towards-Inv-loop towards-μ-loop
-towards-returns-2 t c = rw (toZ-ofZ (c .before .before .before .before .before .before .before .before .before .before .before .before .before .before .before .before .before .before .before .before .before .before .fits .arg)) at (going-stop-below (λ x. _) _ _ _ _ _ _ _ _ (c .before .before .before .before .before .before .before .before .before .before .before .before .before .before .before .before .before .before .before .loop .inv) (c .before .before .before .before .before .before .before .before .before .before .before .before .before .before .before .before .before .before .loop-test .taken) (sym (c .before .before .before .before .before .before .before .before .before .before .before .before .before .before .before .before .before .is-child .ensures) ∙ not-false _ (c .before .before .before .before .before .before .before .before .before .before .before .before .before .before .before .before .if1 .left)) (one-list (c .before .before .before .before .before .before .before .before .before .before .before .arrive .ensures)) (c .before .before .before .before .before .before .before .before .if2 .left) (one-list (c .before .before .before .towards .ensures)) (c .if3 .taken) .1 tt)
+towards-returns-2 t c = rw (toZ-ofZ (c .before .before .before .before .before .before .before .before .before .before .before .before .before .before .before .before .before .before .before .before .fits .arg)) at (going-stop-below (λ x. _) _ _ _ _ _ _ _ _ (c .before .before .before .before .before .before .before .before .before .before .before .before .before .before .before .before .before .loop .inv) (c .before .before .before .before .before .before .before .before .before .before .before .before .before .before .before .before .loop-test .taken) (sym (c .before .before .before .before .before .before .before .before .before .before .before .before .before .before .before .is-child .ensures) ∙ not-false _ (c .before .before .before .before .before .before .before .before .before .before .before .before .before .before .if1 .left)) (one-list (c .before .before .before .before .before .before .before .before .before .before .arrive .ensures)) (c .before .before .before .before .before .before .before .if2 .left) (one-list (c .before .before .before .towards .ensures)) (c .if3 .taken) .1 tt)
 
 towards-add-d-2 : (t : ℕ) → towards-lts.Need-add-d-2 (
   next-of-reads.Asked,
@@ -250,7 +251,7 @@ towards-add-d-2 : (t : ℕ) → towards-lts.Need-add-d-2 (
   towards-below t,
   towards-own.Post,
 ) (towards-at t) towards-own.Post towards-Inv-loop towards-μ-loop
-towards-add-d-2 t c = omega (arith, c .before .before .before .before .before .before .before .before .before .before .before .before .before .before .before .before .before .before .loop-test .taken, c .before .before .before .before .before .before .before .before .before .before .before .before .before .before .before .before .before .before .before .before .goes-on .ensures .within, states-most (c .before .before .before .before .before .before .before .before .before .before .before .before .before .before .before .before .before .before .before .before .before .before .args .chart .now))
+towards-add-d-2 t c = omega (arith, c .before .before .before .before .before .before .before .before .before .before .before .before .before .before .before .before .loop-test .taken, c .before .before .before .before .before .before .before .before .before .before .before .before .before .before .before .before .before .before .goes-on .ensures .within, states-most (c .before .before .before .before .before .before .before .before .before .before .before .before .before .before .before .before .before .before .before .before .args .chart .now))
 
 towards-loop-less-2 : (t : ℕ) → towards-lts.Need-loop-less-2 (
   next-of-reads.Asked,
@@ -264,7 +265,7 @@ towards-loop-less-2 : (t : ℕ) → towards-lts.Need-loop-less-2 (
   towards-below t,
   towards-own.Post,
 ) (towards-at t) towards-own.Post towards-Inv-loop towards-μ-loop
-towards-loop-less-2 t c = omega (arith, c .before .before .before .before .before .before .before .before .before .before .before .before .before .before .before .before .before .before .loop-test .taken)
+towards-loop-less-2 t c = omega (arith, c .before .before .before .before .before .before .before .before .before .before .before .before .before .before .before .before .loop-test .taken)
 
 towards-loop-again-2 : (t : ℕ) → towards-lts.Need-loop-again-2 (
   next-of-reads.Asked,
@@ -278,7 +279,7 @@ towards-loop-again-2 : (t : ℕ) → towards-lts.Need-loop-again-2 (
   towards-below t,
   towards-own.Post,
 ) (towards-at t) towards-own.Post towards-Inv-loop towards-μ-loop
-towards-loop-again-2 t c = going-on (λ x. _) _ _ _ _ _ _ _ _ (c .before .before .before .before .before .before .before .before .before .before .before .before .before .before .before .before .before .before .before .loop .inv) (c .before .before .before .before .before .before .before .before .before .before .before .before .before .before .before .before .before .before .loop-test .taken) (sym (c .before .before .before .before .before .before .before .before .before .before .before .before .before .before .before .before .before .is-child .ensures) ∙ not-false _ (c .before .before .before .before .before .before .before .before .before .before .before .before .before .before .before .before .if1 .left)) (one-list (c .before .before .before .before .before .before .before .before .before .before .before .arrive .ensures)) (c .before .before .before .before .before .before .before .before .if2 .left) (one-list (c .before .before .before .towards .ensures)) (c .if3 .left)
+towards-loop-again-2 t c = going-on (λ x. _) _ _ _ _ _ _ _ _ (c .before .before .before .before .before .before .before .before .before .before .before .before .before .before .before .before .before .loop .inv) (c .before .before .before .before .before .before .before .before .before .before .before .before .before .before .before .before .loop-test .taken) (sym (c .before .before .before .before .before .before .before .before .before .before .before .before .before .before .before .is-child .ensures) ∙ not-false _ (c .before .before .before .before .before .before .before .before .before .before .before .before .before .before .if1 .left)) (one-list (c .before .before .before .before .before .before .before .before .before .before .arrive .ensures)) (c .before .before .before .before .before .before .before .if2 .left) (one-list (c .before .before .before .towards .ensures)) (c .if3 .left)
 
 towards-same-length-3 : (t : ℕ) → towards-lts.Need-same-length-3 (
   next-of-reads.Asked,
@@ -335,7 +336,7 @@ pub +towards-spec : {M : Type 1} → statement M
     (towards-arrive-requires t)
     (towards-same-length t)
     (towards-returns t)
-    (towards-sub-towards t)
+    (towards-sub-fewer t)
     (towards-towards-requires t)
     (towards-same-length-2 t)
     (towards-returns-2 t)

@@ -35,7 +35,7 @@ same-length-2 : tie.Need-same-length-2
 same-length-2 c = search needs
 
 returns-2 : tie.Need-returns-2
-returns-2 c = restored-default _ _ _ (c .before .before .before .before .before .before .before .before .state-count .ensures) (c .before .before .before .before .before .before .before .slot-of .ensures) (c .before .before .before .before .before .enum-told .given .1) (rw (toZ-ofZ (c .before .before .before .before .before .before .before .before .before .fits .arg)) at (c .before .by-defaults .ensures .1 (c .before .before .before .before .before .before .before .before .before .args .slots .now)))
+returns-2 c = restored-default _ _ _ (c .before .before .before .before .before .before .before .before .before .state-count .ensures) (c .before .before .before .before .before .before .before .before .slot-of .ensures) (c .before .before .before .before .before .before .enum-told .given .1) (rw (toZ-ofZ (c .before .before .before .before .before .before .before .before .before .before .fits .arg)) at (c .before .by-defaults .ensures .1 (c .before .before .before .before .before .before .before .before .before .before .args .slots .now)))
 
 pub restore-spec : {M : Type 1} → statement M
 restore-spec =

@@ -12,7 +12,7 @@ same-length : tie.Need-same-length
 same-length c = search needs
 
 returns : tie.Need-returns
-returns c = revisit-stop _ _ _ _ (rw (toZ-ofZ (c .before .before .before .before .before .before .before .fits .arg)) at (c .before .before .before .enter .ensures)) (c .if1 .taken)
+returns c = revisit-stop _ _ _ _ (rw (toZ-ofZ (c .before .before .before .before .before .before .before .before .fits .arg)) at (c .before .before .before .enter .ensures)) (c .if1 .taken)
 
 kind-of-requires : tie.Need-kind-of-requires
 kind-of-requires c κs = search needs
@@ -24,7 +24,7 @@ same-length-2 : tie.Need-same-length-2
 same-length-2 c = search needs
 
 returns-2 : tie.Need-returns-2
-returns-2 c = revisit-other _ _ _ _ (rw (toZ-ofZ (c .before .before .before .before .before .before .before .before .before .before .fits .arg)) at (c .before .before .before .before .before .before .enter .ensures)) (c .before .before .before .if1 .left) (c .before .before .kind-of .ensures) (c .before .is-o .ensures) (c .if2 .taken)
+returns-2 c = revisit-other _ _ _ _ (rw (toZ-ofZ (c .before .before .before .before .before .before .before .before .before .before .before .fits .arg)) at (c .before .before .before .before .before .before .enter .ensures)) (c .before .before .before .if1 .left) (c .before .before .kind-of .ensures) (c .before .is-o .ensures) (c .if2 .taken)
 
 slot-of-requires : tie.Need-slot-of-requires
 slot-of-requires c κs = search needs
@@ -39,13 +39,13 @@ same-length-3 : tie.Need-same-length-3
 same-length-3 c = search needs
 
 returns-3 : tie.Need-returns-3
-returns-3 c = revisit-filled _ _ _ _ (rw (toZ-ofZ (c .before .before .before .before .before .before .before .before .before .before .before .before .before .fits .arg)) at (c .before .before .before .before .before .before .before .before .before .enter .ensures)) (c .before .before .before .before .before .before .if1 .left) (c .before .before .before .before .before .kind-of .ensures) (c .before .before .before .before .is-o .ensures) (c .before .before .before .if2 .left) (c .before .before .slot-of .ensures) (c .enum-told2 .given .1)
+returns-3 c = revisit-filled _ _ _ _ (rw (toZ-ofZ (c .before .before .before .before .before .before .before .before .before .before .before .before .before .before .fits .arg)) at (c .before .before .before .before .before .before .before .before .before .enter .ensures)) (c .before .before .before .before .before .before .if1 .left) (c .before .before .before .before .before .kind-of .ensures) (c .before .before .before .before .is-o .ensures) (c .before .before .before .if2 .left) (c .before .before .slot-of .ensures) (c .enum-told2 .given .1)
 
 same-length-4 : tie.Need-same-length-4
 same-length-4 c = search needs
 
 returns-4 : tie.Need-returns-4
-returns-4 c = revisit-empty _ _ _ _ (rw (toZ-ofZ (c .before .before .before .before .before .before .before .before .before .before .before .before .before .before .fits .arg)) at (c .before .before .before .before .before .before .before .before .before .before .enter .ensures)) (c .before .before .before .before .before .before .before .if1 .left) (c .before .before .before .before .before .before .kind-of .ensures) (c .before .before .before .before .before .is-o .ensures) (c .before .before .before .before .if2 .left) (c .before .before .before .slot-of .ensures) (c .before .enum-told .given .1)
+returns-4 c = revisit-empty _ _ _ _ (rw (toZ-ofZ (c .before .before .before .before .before .before .before .before .before .before .before .before .before .before .before .fits .arg)) at (c .before .before .before .before .before .before .before .before .before .before .enter .ensures)) (c .before .before .before .before .before .before .before .if1 .left) (c .before .before .before .before .before .before .kind-of .ensures) (c .before .before .before .before .before .is-o .ensures) (c .before .before .before .before .if2 .left) (c .before .before .before .slot-of .ensures) (c .before .enum-told .given .1)
 
 pub revisit-spec : {M : Type 1} → statement M
 revisit-spec =
