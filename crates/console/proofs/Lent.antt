@@ -1,16 +1,15 @@
 -- What the engine lends of a call is reported as the definition says: of a trace with zeros behind it, the entries that it counts are the
 -- call's own. Assumes nothing.
-use mathlib.Core.Path.{_≡_, refl, sym, ap, _∙_}
-use mathlib.Core.List.{List, [], _∷_, _++_}
-use Prim.Native.Nat.{ℕ, suc, _+_, _-_, _*_, _/_, _≤_, _<_, min}
+use mathlib.Core.Path.{_≡_, refl, ap}
+use mathlib.Core.List.{List, [], _∷_}
+use Prim.Native.Nat.{ℕ, suc, _-_, _*_, _/_, _≤_}
 use native.Mathlib.Omega.{arith}
 use lib.IntN.{ℤ, pos}
 use lib.ListN.{length, take, replicate, length-take, length-append}
 use lib.Seq.{take-append-le}
-use Rattle.meaning.specs.Number.{digits}
 use Rattle.meaning.specs.Lists.{padded}
 use Rattle.meaning.specs.Widget.{ENTRY}
-use Rattle.meaning.specs.Calls.{Outcome, lent}
+use Rattle.meaning.specs.Calls.{lent}
 use Rattle.meaning.specs.Program.{entry-lines, report}
 use Rattle.console.specs.Shown.{held, shown}
 

@@ -11,7 +11,7 @@ use Rattle.meaning.specs.Split.{LF, Parts, all, onto, cut, split, lines, fields
 use Rattle.meaning.specs.Program.{Turn, turn, turns, session, line-of, input-lines}
 use Rattle.console.specs.declared.scan.Scan.{Scan}
 use Rattle.console.specs.Scan.{empty, fed, line-at, began, scan-on, scan-of}
-use Rattle.console.specs.Session.{Turns, Under, Passed, ended, by-end, by-began, passed, finished, all-printed}
+use Rattle.console.specs.Session.{Turns, Under, by-end, passed, finished, all-printed}
 use Rattle.console.proofs.Lines.{scan-line, scan-began, none-began}
 
 -- what the lines print, one after the other

@@ -6,8 +6,8 @@ use Prim.Native.Nat.{ℕ, _+_, _*_, _≤_}
 use borrow.Author.Tests.{eq-eqb, ne-eqb}
 use native.Mathlib.Omega.{arith}
 use lib.IntN.{ℤ}
-use lib.ListN.{length, take}
-use Rattle.pen.specs.Pen.{Pen, pen, writes}
+use lib.ListN.{length}
+use Rattle.pen.specs.Pen.{pen, writes}
 use Rattle.meaning.specs.declared.State.{State}
 use Rattle.meaning.specs.declared.Called.{Called}
 use Rattle.meaning.specs.declared.Line.{Line}
@@ -17,10 +17,10 @@ use Rattle.meaning.specs.Steps.{Res, ok, refuse}
 use Rattle.meaning.specs.Split.{LF}
 use Rattle.meaning.specs.Widget.{Ctx, ENTRY}
 use Rattle.meaning.specs.Calls.{Outcome, called, lent, outcome, refused, post, run}
-use Rattle.meaning.specs.Program.{ROOM, Turn, report, reported, turn, after-post}
+use Rattle.meaning.specs.Program.{ROOM, report, reported, turn, after-post}
 use Rattle.console.specs.declared.scan.Scan.{Scan}
 use Rattle.console.specs.Scan.{empty, fed, line-at, began}
-use Rattle.console.specs.Session.{Turns, Passed, by-end, by-began, passed, finished}
+use Rattle.console.specs.Session.{Turns, by-end, by-began, passed, finished}
 use Rattle.console.specs.Session.{Under as Seen}
 use Rattle.console.specs.Shown.{held, shown, largest}
 use Rattle.console.proofs.Lent.{report-lent}

@@ -2,13 +2,20 @@
 -- they had enough room. Assumes nothing.
 use Prim.Native.Nat.{ℕ, _+_, _≤_}
 use mathlib.Core.Path.{_≡_}
+use mathlib.Core.Bool.{true, false}
 use mathlib.Core.List.{List, []}
+use lib.IntN.{ℤ}
 use lib.ListN.{length}
 use Rattle.meaning.specs.declared.State.{State}
-use Rattle.meaning.specs.Program.{Turn, report}
+use Rattle.meaning.specs.Value.{chart-of}
+use Rattle.meaning.specs.Calls.{start, unstarted}
+use Rattle.meaning.specs.Text.{Outcome, done, refused}
+use Rattle.meaning.specs.Program.{ROOM, Turn, report, reported}
+use Rattle.walks.specs.Walks.{Ruled}
 use Rattle.pen.specs.Pen.{pen, writes}
 use Rattle.console.specs.Session.{Passed}
 use Rattle.console.specs.Session.{Under as Seen}
+use Rattle.session.specs.declared.Opened.{Opened}
 use Rattle.session.specs.declared.Turned.{Turned}
 use Rattle.session.specs.declared.Under.{Under}
 
@@ -25,6 +32,24 @@ pub record Went (t : Turn) (before : List ℕ) (at : ℕ) (after : List ℕ) (r 
 -- R, number, 0, and the widget as it was
 abbrev pub quiet : ℕ → State → Turn
 quiet number u = record { state = u; printed = report number [] }
+
+-- opening the session: "A refused chart prints the same and ends the program"; a chart that was read passes the rules, and the widget starts
+abbrev pub turned : Opened → Turned
+turned r = record { state = r .state; at = r .at }
+
+pub record Ends (n : ℕ) (before : List ℕ) (at : ℕ) (after : List ℕ) (r : Opened) : Type 0 where
+  pub going : r .going ≡ false
+  pub went : Went (quiet n unstarted) before at after (turned r)
+
+pub record Starts (v chart : List ℤ) (before : List ℕ) (at : ℕ) (after : List ℕ) (r : Opened) : Type 0 where
+  pub going : r .going ≡ true
+  pub value : chart ≡ v
+  pub ruled : Ruled v
+  pub went : Went (reported (start (chart-of v) unstarted ROOM)) before at after (turned r)
+
+unfoldable pub Opens : Outcome (List ℤ) → List ℤ → List ℕ → ℕ → List ℕ → Opened → Type 0
+Opens (refused n p) chart before at after r = Ends n before at after r
+Opens (done v) chart before at after r = Starts v chart before at after r
 
 -- the same of the widget and the line under way
 pub record Passes (p : Passed) (before : List ℕ) (at : ℕ) (after : List ℕ) (r : Under) : Type 0 where

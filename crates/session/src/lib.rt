@@ -8,12 +8,14 @@ use queue::Queue;
 use sizes::STATES;
 use sizes::VARIABLES;
 ghost use mathlib.Core.Path.{_≡_};
+ghost use lib.ListN.{length};
 ghost use Rattle.walks.specs.Walks.{Ruled};
-ghost use Rattle.meaning.specs.Value.{chart-of};
+ghost use Rattle.meaning.specs.Value.{VALUE, chart-of};
 ghost use Rattle.meaning.specs.Calls.{start as starts, run as runs, unstarted as none};
+ghost use Rattle.meaning.specs.Text.{read};
 ghost use Rattle.meaning.specs.Program.{ROOM as Room, reported, turn as turn-of};
 ghost use Rattle.console.specs.Session.{passed, finished};
-ghost use Rattle.session.specs.Turned.{Went, Passes, quiet, seen};
+ghost use Rattle.session.specs.Turned.{Went, Passes, Opens, quiet, seen};
 
 // "With room for 1,000 entries", three numbers each.
 const ROOM: usize = 3000;
@@ -32,6 +34,13 @@ pub struct Turned {
 pub struct Under {
     pub state: State,
     pub scan: Scan,
+    pub at: usize,
+}
+
+// What opening the session gave: whether it goes on, the widget, and the place behind what was printed.
+pub struct Opened {
+    pub going: bool,
+    pub state: State,
     pub at: usize,
 }
 
@@ -76,6 +85,30 @@ pub fn started(chart: &[i32], out: &mut [u8], at: usize) -> Turned
     Turned {
         state: after,
         at: place,
+    }
+}
+
+// "A refused chart prints the same and ends the program"; else the widget starts.
+pub fn begin(bytes: &[u8], chart: &mut [i32], out: &mut [u8], at: usize) -> Opened
+    requires { ⌜ length (now chart) ≡ VALUE ⌝ }
+    ensures { λ r. ⌜ Opens (read (now (bytes .entry)) VALUE) (now (chart .exit)) (now (out .entry)) at (now (out .exit)) r ⌝ }
+{
+    let answer = text::read(bytes, chart);
+    if answer.number != 0 {
+        let t = refusal(answer.number, unstarted(), out, at);
+        let state = t.state;
+        return Opened {
+            going: false,
+            state: state,
+            at: t.at,
+        };
+    }
+    let t = started(chart, out, at);
+    let state = t.state;
+    Opened {
+        going: true,
+        state: state,
+        at: t.at,
     }
 }
 

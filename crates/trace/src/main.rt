@@ -1,9 +1,10 @@
 // The trace program (01, the end of "Checked by example"): reads chart.txt, a missing one as empty, and standard input to its end, in
 // parts; what it prints is collected and written whenever there might not be room for one more report. It decides nothing itself: what a
 // text, a byte and a line do is said by the functions that it calls. A line may have any length, and the input any size.
-use chart::layout::VALUE;
+use console::Scan;
 use libc::STDIN_FILENO;
 use libc::STDOUT_FILENO;
+use meaning::State;
 use session::LARGEST;
 use session::Under;
 ghost use Prim.Native.Nat.{_+_, _≤_};
@@ -11,6 +12,9 @@ ghost use lib.ListN.{length};
 ghost use Rattle.io.specs.Counts.{Counts};
 ghost use Rattle.walks.specs.Walks.{Ruled};
 ghost use Rattle.session.specs.Turned.{LARGEST as Largest};
+
+// The numbers of a chart as a value.
+const VALUE: usize = 2421;
 
 // One part of the input: whether there may be more, and where the session stands.
 struct Part {
@@ -110,45 +114,30 @@ fn read_all(chart: &[i32], under: Under, out: &mut [u8]) -> Under
     now
 }
 
-// "it starts, then posts and runs each line"
-fn run_session(chart: &[i32], out: &mut [u8])
-    requires { ⌜ Ruled (now chart) × (Largest ≤ length (now out)) ⌝ }
+// "then posts and runs each line"
+fn run_session(chart: &[i32], state: State, at: usize, out: &mut [u8])
+    requires { ⌜ Ruled (now chart) × (at ≤ length (now out)) × (Largest ≤ length (now out)) ⌝ }
 {
-    let begun = session::started(chart, out, 0);
-    let state = begun.state;
-    let place = with_room(out, begun.at);
     let first = Under {
         state: state,
-        scan: console::Scan::empty(),
-        at: place,
+        scan: Scan::empty(),
+        at: with_room(out, at),
     };
     let read = read_all(chart, first, out);
     let last = session::finish(chart, read, out);
     print(out, last.at);
 }
 
-// "A refused chart prints the same and ends the program"
-fn refuse(number: usize, out: &mut [u8])
-    requires { ⌜ Largest ≤ length (now out) ⌝ }
-{
-    let at = console::report(out, 0, number, &[0], 0);
-    print(out, at);
-}
-
 fn main() {
     let mut bytes = io::large_buffer();
     let n = chart_text(&mut bytes);
     let mut chart = [0; VALUE];
-    let answer = text::read(&bytes[..n], &mut chart);
     let mut out = io::large_buffer();
-    if answer.number != 0 {
-        refuse(answer.number, &mut out);
+    let opened = session::begin(&bytes[..n], &mut chart, &mut out, 0);
+    if opened.going {
+        let state = opened.state;
+        run_session(&chart, state, opened.at, &mut out);
         return;
     }
-    let ruled = rules::check(&chart);
-    if ruled.number != 0 {
-        refuse(ruled.number, &mut out);
-        return;
-    }
-    run_session(&chart, &mut out);
+    print(&out, opened.at);
 }

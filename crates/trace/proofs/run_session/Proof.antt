@@ -6,14 +6,11 @@ use borrow.Author.Needs.{needs}
 use Rattle.trace.proofs.run_session.Statement.{statement}
 use Rattle.trace.proofs.run_session.Tie as tie
 
-started-requires : tie.Need-started-requires
-started-requires c κs = search needs
-
-with-room-requires : tie.Need-with-room-requires
-with-room-requires c κs = let w = c .before .before .before .before .started .ensures .whole (omega arith) in let k : length (c .before .before .before .before .started .last .1 .0) ≡ length (c .before .before .before .before .before .before .before .args .out .now) = search needs in (omega arith, omega arith)
-
 empty-requires : tie.Need-empty-requires
 empty-requires c κs = search needs
+
+with-room-requires : tie.Need-with-room-requires
+with-room-requires c κs = search needs
 
 read-all-requires : tie.Need-read-all-requires
 read-all-requires c κs = search needs
@@ -34,9 +31,8 @@ pub run-session-spec : {M : Type 1} → statement M
 run-session-spec =
     tie.close
     (tie.spec
-    started-requires
-    with-room-requires
     empty-requires
+    with-room-requires
     read-all-requires
     finish-requires
     print-requires
