@@ -1,0 +1,3 @@
+pub mod Ranges
+pub mod Heads
+pub mod Choosing
