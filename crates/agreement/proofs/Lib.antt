@@ -1,3 +1,4 @@
 pub mod Ranges
 pub mod Heads
 pub mod Choosing
+pub mod Stepping
