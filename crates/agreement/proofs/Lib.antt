@@ -5,3 +5,5 @@ pub mod DefaultArm
 pub mod Scan
 pub mod StoredArm
 pub mod Arms
+pub mod Towards
+pub mod Blocks

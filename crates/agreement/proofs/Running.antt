@@ -29,7 +29,7 @@ unfolding bind go-on
 bind-does P (ok k) F G h d = d k h
 bind-does P (refuse n) F G h d = refl
 
-any-holds : (r : Res Ctx) → Holds r (λ k. Unit {0})
+pub any-holds : (r : Res Ctx) → Holds r (λ k. Unit {0})
 any-holds (ok k) = tt
 any-holds (refuse n) = tt
 
