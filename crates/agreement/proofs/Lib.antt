@@ -1,3 +1,12 @@
+pub mod Running
+pub mod Exits
+pub mod Entered
+pub mod DefaultArm
+pub mod Scan
+pub mod StoredArm
+pub mod Arms
+pub mod Towards
+pub mod Blocks
 pub mod Ranges
 pub mod Heads
 pub mod Choosing
