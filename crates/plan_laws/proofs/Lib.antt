@@ -1,2 +1,4 @@
 pub mod Rows
 pub mod ReadBack
+pub mod Fits
+pub mod Accepted
