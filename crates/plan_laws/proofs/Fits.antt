@@ -57,6 +57,20 @@ pub data Piece (k : Counts) : List Instr → Type 0 where
   no-piece : Piece k []
   one-instr : {i : Instr} {is : List Instr} → Instr-fits k (length is) i → Piece k is → Piece k (i ∷ is)
 
+-- a skip over no more than what follows it in its piece
+module _ (k : Counts) (s n : ℕ) (is : List Instr) (l : s < k .states) (m : n ≤ length is) (p : Piece k is) where
+  pub skip-out-piece : Piece k (skip-out s n ∷ is)
+  skip-out-piece = one-instr {i = skip-out s n} (l, m) p
+
+  pub skip-empty-piece : Piece k (skip-empty s n ∷ is)
+  skip-empty-piece = one-instr {i = skip-empty s n} (l, m) p
+
+  pub skip-full-piece : Piece k (skip-full s n ∷ is)
+  skip-full-piece = one-instr {i = skip-full s n} (l, m) p
+
+  pub skip-not-piece : (d : ℕ) → d < k .states → Piece k (skip-not s d n ∷ is)
+  skip-not-piece d j = one-instr {i = skip-not s d n} (l, j, m) p
+
 -- what stays within a piece stays within a longer one
 instr-wider : (k : Counts) (m n : ℕ) → m ≤ n → (i : Instr) → Instr-fits k m i → Instr-fits k n i
 instr-wider k m n l (go-in s) h = h

@@ -2,3 +2,5 @@ pub mod Rows
 pub mod ReadBack
 pub mod Fits
 pub mod Accepted
+pub mod Below
+pub mod Pieces
