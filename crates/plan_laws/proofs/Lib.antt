@@ -1,0 +1,6 @@
+pub mod Rows
+pub mod ReadBack
+pub mod Fits
+pub mod Accepted
+pub mod Below
+pub mod Pieces
