@@ -12,3 +12,6 @@ pub mod Heads
 pub mod Choosing
 pub mod Stepping
 pub mod Calling
+pub mod PlanCalls
+pub mod CompiledCalls
+pub mod ListsOfCalls
