@@ -7,3 +7,5 @@ pub mod StoredArm
 pub mod Arms
 pub mod Towards
 pub mod Blocks
+pub mod HeadBlocks
+pub mod Steps
