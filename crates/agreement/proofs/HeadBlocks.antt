@@ -12,7 +12,6 @@ use Rattle.meaning.specs.Chart.{Chart}
 use Rattle.meaning.specs.Compile.{block, code-of, head-of, head-order, heads-from, plan-of, start-block}
 use Rattle.meaning.specs.Lists.{concat-map}
 use Rattle.meaning.specs.Machine.{head-block}
-use Rattle.meaning.specs.Plan.{Plan}
 use Rattle.meaning.specs.Tree.{all-transitions}
 use Rattle.meaning.specs.declared.plan.Head.{Head}
 use Rattle.meaning.specs.declared.plan.Instr.{Instr}
@@ -43,15 +42,18 @@ part at len code = take len (drop at code)
 
 -- after what stands before it, and before what follows
 part-between : (before piece after : List Instr) (at : ℕ) → length before ≡ at → part at (length piece) (before ++ (piece ++ after)) ≡ piece
-part-between before piece after at e = rw (← e) (ap (take (length piece)) (drop-append-seam before (piece ++ after)) ∙ take-append-seam piece after)
+part-between before piece after at e = rw (← e) (ap (take (length piece)) (drop-append-seam before (piece ++ after))
+    ∙ take-append-seam piece after)
 
 blocks-stand : (c : Chart) (ts : List ℕ) (before : List Instr) (at : ℕ) → length before ≡ at
     → Each (λ h. part (h .start) (h .length) (before ++ concat-map (block c) ts) ≡ block c (h .transition)) (heads-from c at ts)
 unfolding heads-from head-of concat-map
 blocks-stand c [] before at e = none-left
 blocks-stand c (t ∷ ts) before at e = one-more (part-between before (block c t) (concat-map (block c) ts) at e)
-    (subst (λ code. Each (λ h. part (h .start) (h .length) code ≡ block c (h .transition)) (heads-from c (at + length (block c t)) ts)) (append-assoc before (block c t) (concat-map (block c) ts))
-    (blocks-stand c ts (before ++ block c t) (at + length (block c t)) (length-append before (block c t) ∙ ap (λ n. n + length (block c t)) e)))
+    (subst (λ code. Each (λ h. part (h .start) (h .length) code ≡ block c (h .transition)) (heads-from c (at + length (block c t)) ts))
+    (append-assoc before (block c t) (concat-map (block c) ts))
+    (blocks-stand c ts (before ++ block c t) (at + length (block c t))
+    (length-append before (block c t) ∙ ap (λ n. n + length (block c t)) e)))
 
 -- ---- the plan
 
@@ -60,7 +62,8 @@ module _ (c : Chart) where
   unfolding head-order all-transitions
   heads-inside = each-mapped (λ t. t < length (c .transitions)) transition-of-head (plan-of c .heads)
       (subst (Each (λ t. t < length (c .transitions))) (sym (plan-transitions c))
-      (ordered-each (λ t. t < length (c .transitions)) c (all-transitions c) (each-range 0 (length (c .transitions)) (length (c .transitions)) (omega arith))))
+      (ordered-each (λ t. t < length (c .transitions)) c (all-transitions c)
+      (each-range 0 (length (c .transitions)) (length (c .transitions)) (omega arith))))
 
   heads-coded : Each (λ h. head-block (plan-of c) h ≡ block c (h .transition)) (plan-of c .heads)
   unfolding plan-of code-of head-block
@@ -68,7 +71,8 @@ module _ (c : Chart) where
 
   -- for every head of the plan
   pub heads-blocked : Each (Blocked c) (plan-of c .heads)
-  heads-blocked = each-weaker _ (Blocked c) (plan-of c .heads) (λ h q. record { inside = q .0; code = q .1 }) (each-both _ _ (plan-of c .heads) heads-inside heads-coded)
+  heads-blocked = each-weaker _ (Blocked c) (plan-of c .heads) (λ h q. record { inside = q .0; code = q .1 })
+      (each-both _ _ (plan-of c .heads) heads-inside heads-coded)
 
   pub start-stands-first : take (plan-of c .start-length) (plan-of c .code) ≡ start-block c
   unfolding plan-of code-of

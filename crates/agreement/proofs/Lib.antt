@@ -9,3 +9,4 @@ pub mod Towards
 pub mod Blocks
 pub mod HeadBlocks
 pub mod Steps
+pub mod Instance
