@@ -2,9 +2,9 @@
 -- what the restore does, where it is ready to begin. Assumes nothing.
 use mathlib.Core.Path.{_∙_, _≡_, ap, refl}
 use Prim.Native.Nat.{ℕ}
-use mathlib.Core.List.{List, _++_, _∷_}
-use lib.ListN.{getD, length}
-use lib.IntN.{negsuc, ℤ}
+use mathlib.Core.List.{List, _∷_}
+use lib.ListN.{length}
+use lib.IntN.{ℤ}
 use Rattle.agreement.proofs.DefaultArm.{Same-slots, default-arm-does, visits-slots}
 use Rattle.agreement.proofs.Running.{Does, Does-where, block-does, passed-over, run-append, test-does}
 use Rattle.agreement.proofs.StoredArm.{Ready, stored-arm-agrees}
@@ -24,14 +24,16 @@ use Rattle.numbers.specs.declared.Place.{Place as Slot}
 use Rattle.numbers.specs.declared.Place.the-variants.{At as holds, Empty as empty}
 
 -- code that does nothing after a step
-then-nothing : (P : Ctx → Type 0) (r : Res Ctx) (F : Step Mach) → Holds r P → ((k : Ctx) → P k → F (passing 0 k) ≡ ok (passing 0 k)) → bind (go-on r) F ≡ go-on r
+then-nothing : (P : Ctx → Type 0) (r : Res Ctx) (F : Step Mach) → Holds r P → ((k : Ctx) → P k → F (passing 0 k) ≡ ok (passing 0 k))
+    → bind (go-on r) F ≡ go-on r
 unfolding bind go-on
 then-nothing P (ok k) F h n = n k h
 then-nothing P (refuse e) F h n = refl
 
 module _ (c : Chart) (a : ℤ) (b : ℕ) where
   -- SKIPEMPTY in front of a piece, where the slot is known
-  after-empty : (k : Ctx) (p : List Instr) → slot (k .state) b ≡ empty → run-code (c .vars) a (skip-empty b (length p) ∷ p) (passing 0 k) ≡ ok (passing 0 k)
+  after-empty : (k : Ctx) (p : List Instr) → slot (k .state) b ≡ empty
+      → run-code (c .vars) a (skip-empty b (length p) ∷ p) (passing 0 k) ≡ ok (passing 0 k)
   unfolding run-code each exec exec-at exec-now passing on-if bind is-filled
   after-empty k p e = rw e (passed-over (c .vars) a p k)
 
@@ -44,9 +46,11 @@ module _ (c : Chart) (a : ℤ) (b : ℕ) where
   second = skip-empty b (length (stored-arm c b)) ∷ stored-arm c b
 
   -- the first test and arm
-  default-does : Does (run-code (c .vars) a (skip-full b (length (default-arm c b)) ∷ default-arm c b)) (look (λ j. when (is-empty (slot (j .state) b)) (each (visit c a) (all-below c by-defaults b))))
+  default-does : Does (run-code (c .vars) a (skip-full b (length (default-arm c b)) ∷ default-arm c b))
+      (look (λ j. when (is-empty (slot (j .state) b)) (each (visit c a) (all-below c by-defaults b))))
   unfolding exec exec-at exec-now passing
-  default-does = test-does (c .vars) a _ (default-arm c b) (λ j. is-empty (slot (j .state) b)) (each (visit c a) (all-below c by-defaults b)) (λ j. refl) (default-arm-does c a b)
+  default-does = test-does (c .vars) a _ (default-arm c b) (λ j. is-empty (slot (j .state) b))
+      (each (visit c a) (all-below c by-defaults b)) (λ j. refl) (default-arm-does c a b)
 
   slot-same : (j : Ctx) (sl : List ℤ) → Same-slots sl (j .state) → slot (j .state) b ≡ slot-at sl b
   unfolding slot
@@ -61,9 +65,12 @@ module _ (c : Chart) (a : ℤ) (b : ℕ) where
         ∙ go (slot (k .state) b) refl
       where
         go : (x : Slot) → slot (k .state) b ≡ x
-            → bind (go-on (when (is-empty (slot (k .state) b)) (each (visit c a) (all-below c by-defaults b)) k)) (run-code (c .vars) a second) ≡ go-on (restore-by c a b (k .state) x k)
-        go empty e = rw e (then-nothing (λ j. Same-slots (k .state .slots) (j .state)) (each (visit c a) (all-below c by-defaults b) k) (run-code (c .vars) a second)
-            (holds-of (λ j. Same-slots (k .state .slots) (j .state)) (each (visit c a) (all-below c by-defaults b) k) (visits-slots (k .state .slots) c a (all-below c by-defaults b) k refl))
+            → bind (go-on (when (is-empty (slot (k .state) b)) (each (visit c a) (all-below c by-defaults b)) k))
+            (run-code (c .vars) a second) ≡ go-on (restore-by c a b (k .state) x k)
+        go empty e = rw e (then-nothing (λ j. Same-slots (k .state .slots) (j .state)) (each (visit c a) (all-below c by-defaults b) k)
+            (run-code (c .vars) a second)
+            (holds-of (λ j. Same-slots (k .state .slots) (j .state)) (each (visit c a) (all-below c by-defaults b) k)
+            (visits-slots (k .state .slots) c a (all-below c by-defaults b) k refl))
             (λ j h. after-empty j (stored-arm c b) (slot-same j (k .state .slots) h ∙ e)))
         go (holds d) e = rw e (after-full k d (stored-arm c b) e ∙ stored-arm-agrees c r a b k y d e)
 

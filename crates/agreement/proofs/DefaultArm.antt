@@ -1,6 +1,6 @@
 -- The default arm behind the owner of a history does what going down by defaults does, from any context; entering leaves every slot
 -- as it was, so that the test after the arm finds what the one before it found. Assumes nothing.
-use mathlib.Core.Path.{_≡_, refl}
+use mathlib.Core.Path.{_≡_}
 use Prim.Native.Nat.{ℕ}
 use mathlib.Core.List.{List}
 use lib.IntN.{ℤ}
@@ -15,7 +15,8 @@ use Rattle.meaning.specs.Steps.{each}
 use Rattle.meaning.specs.Widget.{set-active, set-queue, set-value}
 use Rattle.meaning.specs.declared.State.{State}
 
-pub default-arm-does : (c : Chart) (a : ℤ) (b : ℕ) → Does (run-code (c .vars) a (default-arm c b)) (each (visit c a) (all-below c by-defaults b))
+pub default-arm-does : (c : Chart) (a : ℤ) (b : ℕ)
+    → Does (run-code (c .vars) a (default-arm c b)) (each (visit c a) (all-below c by-defaults b))
 unfolding default-arm
 default-arm-does c a b = visits-do c a (all-below c by-defaults b)
 

@@ -2,7 +2,7 @@
 -- context. Assumes nothing.
 use mathlib.Core.Path.{_∙_, _≡_, refl}
 use Prim.Native.Nat.{ℕ, suc, zero}
-use mathlib.Core.List.{List, _++_}
+use mathlib.Core.List.{List}
 use lib.IntN.{ℤ}
 use Rattle.agreement.proofs.Running.{Does, append-does, block-does, code-does, cons-does, each-does}
 use Rattle.laws.proofs.Steps.{each-map}
@@ -12,7 +12,7 @@ use Rattle.meaning.specs.Effects.{acts-of, enter, mark-entered, perform, perfor
 use Rattle.meaning.specs.Entry.{Visit, by-default, plain, visit}
 use Rattle.meaning.specs.Lists.{at-value, concat-map}
 use Rattle.meaning.specs.Machine.{exec, exec-at, exec-now, passing, run-block, run-code}
-use Rattle.meaning.specs.Steps.{_then_, each}
+use Rattle.meaning.specs.Steps.{each}
 use Rattle.meaning.specs.Widget.{Ctx}
 use Rattle.meaning.specs.declared.chart.Owner.{Owner}
 use Rattle.meaning.specs.declared.chart.Owner.the-variants.{DefaultOf as default-of, EntryOf as entry-of}
@@ -32,13 +32,15 @@ module _ (c : Chart) (a : ℤ) where
 
   pub enter-does : (s : ℕ) → Does (run-code (c .vars) a (enter-code c s)) (enter c a s)
   unfolding enter-code enter exec exec-at exec-now passing
-  enter-does s = cons-does (c .vars) a (go-in s) (code-acts c (entry-of s)) (mark-entered s) (perform-all c a (entry-of s)) (λ k. refl) (acts-do (entry-of s))
+  enter-does s = cons-does (c .vars) a (go-in s) (code-acts c (entry-of s)) (mark-entered s) (perform-all c a (entry-of s)) (λ k. refl)
+      (acts-do (entry-of s))
 
   pub visit-does : (v : Visit) → Does (run-code (c .vars) a (visit-code c v)) (visit c a v)
   unfolding visit-code visit
   visit-does (plain s) = rw (value-is (enter-code c) s) (enter-does s)
   visit-does (by-default p s) = rw (value-is (enter-code c) s, value-is (λ q. code-acts c (default-of q)) p)
-      (append-does (c .vars) a (code-acts c (default-of p)) (enter-code c s) (perform-all c a (default-of p)) (enter c a s) (acts-do (default-of p)) (enter-does s))
+      (append-does (c .vars) a (code-acts c (default-of p)) (enter-code c s) (perform-all c a (default-of p)) (enter c a s)
+      (acts-do (default-of p)) (enter-does s))
 
   -- an itinerary
   pub visits-do : (vs : List Visit) → Does (run-code (c .vars) a (concat-map (visit-code c) vs)) (each (visit c a) vs)

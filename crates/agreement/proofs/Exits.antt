@@ -1,6 +1,6 @@
 -- The exits of a block (01, "A block": SKIPOUT s k+1, OUT s, the actions) leave the active states of the span, from any context.
 -- Assumes nothing.
-use mathlib.Core.Path.{_∙_, _≡_, refl}
+use mathlib.Core.Path.{_≡_, refl}
 use Prim.Native.Nat.{ℕ}
 use mathlib.Core.List.{List, reverse}
 use lib.IntN.{ℤ}
@@ -13,13 +13,14 @@ use Rattle.meaning.specs.Machine.{exec, exec-at, exec-now, passing, run-block, 
 use Rattle.meaning.specs.Reaction.{leave-active, leave-all}
 use Rattle.meaning.specs.Widget.{Ctx, is-active}
 use Rattle.meaning.specs.declared.chart.Owner.the-variants.{ExitOf as exit-of}
-use Rattle.meaning.specs.declared.plan.Instr.the-variants.{Out as go-out, SkipOut as skip-out}
+use Rattle.meaning.specs.declared.plan.Instr.the-variants.{Out as go-out}
 
 module _ (c : Chart) (a : ℤ) where
   pub exit-does : (s : ℕ) → Does (run-code (c .vars) a (exit-code c s)) (leave-active c a s)
   unfolding exit-code leave-active leave exec exec-at exec-now passing
   exit-does s = test-does (c .vars) a _ _ (λ k. is-active (k .state) s) (leave c a s) (λ k. refl)
-      (cons-does (c .vars) a (go-out s (o-parent c s)) (code-acts c (exit-of s)) (mark-left (o-parent c s) s) (perform-all c a (exit-of s)) (λ k. refl) (acts-do c a (exit-of s)))
+      (cons-does (c .vars) a (go-out s (o-parent c s)) (code-acts c (exit-of s)) (mark-left (o-parent c s) s)
+      (perform-all c a (exit-of s)) (λ k. refl) (acts-do c a (exit-of s)))
 
   pub exits-do : (ss : List ℕ) → Does (run-code (c .vars) a (exits-code c ss)) (leave-all c a ss)
   unfolding exits-code leave-all

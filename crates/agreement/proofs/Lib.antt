@@ -7,6 +7,7 @@ pub mod StoredArm
 pub mod Arms
 pub mod Towards
 pub mod Blocks
+pub mod Instance
 pub mod Ranges
 pub mod Heads
 pub mod Choosing

@@ -1,7 +1,6 @@
 -- Running code (01, "The plan"): piece after piece, a skip over exactly a piece, a test in front of a piece; and what it means that a
 -- piece of code does what a step does, from any context or from those with some property. Assumes nothing.
-use mathlib.Core.Path.{_∙_, _≡_, refl}
-use Prim.Native.Nat.{ℕ}
+use mathlib.Core.Path.{_∙_, _≡_, ap, refl, sym}
 use mathlib.Core.Bool.{Bool, false, true}
 use mathlib.Core.List.{List, [], _++_, _∷_}
 use lib.ListN.{length}
@@ -24,7 +23,8 @@ Does-where P F G = (k : Ctx) → P k → F (passing 0 k) ≡ go-on (G k)
 abbrev pub Does : Step Mach → Step Ctx → Type 0
 Does F G = (k : Ctx) → F (passing 0 k) ≡ go-on (G k)
 
-bind-does : (P : Ctx → Type 0) (r : Res Ctx) (F : Step Mach) (G : Step Ctx) → Holds r P → Does-where P F G → bind (go-on r) F ≡ go-on (bind r G)
+bind-does : (P : Ctx → Type 0) (r : Res Ctx) (F : Step Mach) (G : Step Ctx) → Holds r P → Does-where P F G
+    → bind (go-on r) F ≡ go-on (bind r G)
 unfolding bind go-on
 bind-does P (ok k) F G h d = d k h
 bind-does P (refuse n) F G h d = refl
@@ -33,10 +33,11 @@ pub any-holds : (r : Res Ctx) → Holds r (λ k. Unit {0})
 any-holds (ok k) = tt
 any-holds (refuse n) = tt
 
-pub bind-does-all : (r : Res Ctx) (F : Step Mach) (G : Step Ctx) → Does F G → bind (go-on r) F ≡ go-on (bind r G)
+bind-does-all : (r : Res Ctx) (F : Step Mach) (G : Step Ctx) → Does F G → bind (go-on r) F ≡ go-on (bind r G)
 bind-does-all r F G d = bind-does (λ k. Unit {0}) r F G (any-holds r) (λ k h. d k)
 
-pub each-does : {A : Type 0} (F : A → Step Mach) (G : A → Step Ctx) → ((x : A) → Does (F x) (G x)) → (xs : List A) → Does (each F xs) (each G xs)
+pub each-does : {A : Type 0} (F : A → Step Mach) (G : A → Step Ctx) → ((x : A) → Does (F x) (G x)) → (xs : List A)
+    → Does (each F xs) (each G xs)
 unfolding each go-on
 each-does F G h [] k = refl
 each-does F G h (x ∷ xs) k = rw (h x k) (bind-does-all (G x k) (each F xs) (each G xs) (each-does F G h xs))
@@ -55,22 +56,26 @@ module _ (vs : List VarRow) (a : ℤ) where
   passed-over (i ∷ p) k = passed-over p k
 
   -- one piece after another
-  pub append-does-where : (P Q : Ctx → Type 0) (p q : List Instr) (F G : Step Ctx) → Does-where P (run-code vs a p) F → ((k : Ctx) → P k → Holds (F k) Q)
+  pub append-does-where : (P Q : Ctx → Type 0) (p q : List Instr) (F G : Step Ctx) → Does-where P (run-code vs a p) F
+      → ((k : Ctx) → P k → Holds (F k) Q)
       → Does-where Q (run-code vs a q) G → Does-where P (run-code vs a (p ++ q)) (F then G)
   unfolding _then_
   append-does-where P Q p q F G dp l dq k h = run-append p q (passing 0 k) ∙ rw (dp k h) (bind-does Q (F k) (run-code vs a q) G (l k h) dq)
 
-  pub append-does : (p q : List Instr) (F G : Step Ctx) → Does (run-code vs a p) F → Does (run-code vs a q) G → Does (run-code vs a (p ++ q)) (F then G)
+  pub append-does : (p q : List Instr) (F G : Step Ctx) → Does (run-code vs a p) F → Does (run-code vs a q) G
+      → Does (run-code vs a (p ++ q)) (F then G)
   unfolding _then_
   append-does p q F G dp dq k = run-append p q (passing 0 k) ∙ rw (dp k) (bind-does-all (F k) (run-code vs a q) G dq)
 
   -- one instruction, then a piece
-  pub cons-does : (i : Instr) (p : List Instr) (F G : Step Ctx) → Does (exec vs a i) F → Does (run-code vs a p) G → Does (run-code vs a (i ∷ p)) (F then G)
+  pub cons-does : (i : Instr) (p : List Instr) (F G : Step Ctx) → Does (exec vs a i) F → Does (run-code vs a p) G
+      → Does (run-code vs a (i ∷ p)) (F then G)
   unfolding run-code _then_ each
   cons-does i p F G di dp k = rw (di k) (bind-does-all (F k) (each (exec vs a) p) G dp)
 
   -- a test in front of a piece that passes over all of it
-  pub test-does : (i : Instr) (p : List Instr) (b : Ctx → Bool) (G : Step Ctx) → ((k : Ctx) → exec vs a i (passing 0 k) ≡ on-if (b k) (length p) k)
+  pub test-does : (i : Instr) (p : List Instr) (b : Ctx → Bool) (G : Step Ctx)
+      → ((k : Ctx) → exec vs a i (passing 0 k) ≡ on-if (b k) (length p) k)
       → Does (run-code vs a p) G → Does (run-code vs a (i ∷ p)) (look (λ k. when (b k) G))
   unfolding run-code each look bind on-if when go-on
   test-does i p b G di dp k = rw (di k) (go (b k))
@@ -93,6 +98,20 @@ module _ (vs : List VarRow) (a : ℤ) where
   end-of (refuse n) = refl
 
   -- code that does what F does, run as a block
-  pub block-does : (code : List Instr) (F : Step Ctx) (k : Ctx) → run-code vs a code (passing 0 k) ≡ go-on (F k) → run-block vs a code k ≡ F k
+  pub block-does : (code : List Instr) (F : Step Ctx) (k : Ctx) → run-code vs a code (passing 0 k) ≡ go-on (F k)
+      → run-block vs a code k ≡ F k
   unfolding run-block
   block-does code F k d = rw d (end-of (F k))
+
+  -- a closed piece: begun with nothing to pass over, it ends so
+  abbrev pub Closed : List Instr → Type 0
+  Closed p = Does (run-code vs a p) (run-block vs a p)
+
+  pub does-closed : (p : List Instr) (F : Step Ctx) → Does (run-code vs a p) F → Closed p
+  does-closed p F d k = d k ∙ ap go-on (sym (block-does p F k (d k)))
+
+  -- closed pieces after one another, run as one block
+  pub closed-append : (p q : List Instr) → Closed p → Closed q → (k : Ctx)
+      → run-block vs a (p ++ q) k ≡ (run-block vs a p then run-block vs a q) k
+  closed-append p q cp cq k = block-does (p ++ q) (run-block vs a p then run-block vs a q) k
+      (append-does p q (run-block vs a p) (run-block vs a q) cp cq k)

@@ -8,9 +8,9 @@ use native.Mathlib.Omega.{arith}
 use native.Mathlib.Nat.{eq-or-lt-of-le}
 use mathlib.Core.Bool.{Bool, _&&_, cond, false, true}
 use mathlib.Core.List.{List, _∷_}
-use lib.ListN.{getD, length, length-set}
+use lib.ListN.{length, length-set}
 use lib.Seq.{getD-set-other, getD-set-same}
-use lib.IntN.{negsuc, ℤ}
+use lib.IntN.{ℤ}
 use Rattle.agreement.proofs.Entered.{enter-does}
 use Rattle.agreement.proofs.Running.{Does, code-does, test-does}
 use Rattle.invariants.proofs.Keeps.{Outside, enter-leads, holds-of}
@@ -48,13 +48,15 @@ scan c a d = look (λ k. when (is-active (k .state) (parent-of c d)) (held-step 
 module _ (c : Chart) (a : ℤ) where
   held-does : (x : Kind) (p d : ℕ) → Does (run-code (c .vars) a (held-code c x p d)) (held-step c a x p d)
   unfolding held-code held-step exec exec-at exec-now passing
-  held-does kind-o p d = test-does (c .vars) a _ (enter-code c d) (λ k. holds-it d (slot (k .state) p)) (enter c a d) (λ k. refl) (enter-does c a d)
+  held-does kind-o p d = test-does (c .vars) a _ (enter-code c d) (λ k. holds-it d (slot (k .state) p)) (enter c a d) (λ k. refl)
+      (enter-does c a d)
   held-does kind-a p d = enter-does c a d
   held-does kind-b p d = enter-does c a d
 
   stored-does : (d : ℕ) → Does (run-code (c .vars) a (stored-code c d)) (scan c a d)
   unfolding stored-code past-if-out scan exec exec-at exec-now passing
-  stored-does d = test-does (c .vars) a _ (held-code c (kind-of c (parent-of c d)) (parent-of c d) d) (λ k. is-active (k .state) (parent-of c d))
+  stored-does d = test-does (c .vars) a _ (held-code c (kind-of c (parent-of c d)) (parent-of c d) d)
+      (λ k. is-active (k .state) (parent-of c d))
       (held-step c a (kind-of c (parent-of c d)) (parent-of c d) d) (λ k. refl) (held-does (kind-of c (parent-of c d)) (parent-of c d) d)
 
   pub stored-arm-does : (b : ℕ) → Does (run-code (c .vars) a (stored-arm c b)) (each (scan c a) (descendants c b))
@@ -104,7 +106,8 @@ module _ (sl : List ℤ) (r : ℕ → Bool) (b : ℕ) where
 -- ---- one turn of the pass
 
 -- the two tests are those of the way by slots
-held-when : (c : Chart) (a : ℤ) (x : Kind) (p d : ℕ) (k : Ctx) → held-step c a x p d k ≡ when (picks c x (slot-way (slot (k .state) p)) p d) (enter c a d) k
+held-when : (c : Chart) (a : ℤ) (x : Kind) (p d : ℕ) (k : Ctx)
+    → held-step c a x p d k ≡ when (picks c x (slot-way (slot (k .state) p)) p d) (enter c a d) k
 unfolding held-step picks look when holds-it slot-way
 held-when c a kind-o p d k = go (slot (k .state) p)
   where
@@ -131,9 +134,11 @@ module _ (c : Chart) (a : ℤ) (sl : List ℤ) (r : ℕ → Bool) (b : ℕ) (h :
       → scan c a (suc n) k ≡ when (r (suc n)) (enter c a (suc n)) k
   unfolding scan look slot
   scan-one n e k u lo hi q =
-      when-same (is-active (k .state) p) (held-step c a (kind-of c p) p (suc n)) (when (picks c (kind-of c p) (slot-way (slot-at (k .state .slots) p)) p (suc n)) (enter c a (suc n))) k
+      when-same (is-active (k .state) p) (held-step c a (kind-of c p) p (suc n))
+      (when (picks c (kind-of c p) (slot-way (slot-at (k .state .slots) p)) p (suc n)) (enter c a (suc n))) k
       (held-when c a (kind-of c p) p (suc n) k)
-      ∙ ap (λ z. when z (when (picks c (kind-of c p) (slot-way (slot-at (k .state .slots) p)) p (suc n)) (enter c a (suc n))) k) (q .done p lo (omega arith))
+      ∙ ap (λ z. when z (when (picks c (kind-of c p) (slot-way (slot-at (k .state .slots) p)) p (suc n)) (enter c a (suc n))) k)
+      (q .done p lo (omega arith))
       ∙ ap (λ l. when (r p) (when (picks c (kind-of c p) (slot-way (slot-at l p)) p (suc n)) (enter c a (suc n))) k) (q .slots)
       ∙ when-when (r p) _ (enter c a (suc n)) k ∙ ap (λ z. when z (enter c a (suc n)) k) (sym (h .step n u))
     where
@@ -141,20 +146,27 @@ module _ (c : Chart) (a : ℤ) (sl : List ℤ) (r : ℕ → Bool) (b : ℕ) (h :
       p = parent-of c (suc n)
 
   -- the whole pass enters the states that r names
-  pub scan-all : (m n : ℕ) (k : Ctx) → ((x : ℕ) → suc n ≤ suc x → suc x < suc n + m → Under c b (suc x) × (b ≤ parent-of c (suc x)) × (parent-of c (suc x) ≤ x))
+  pub scan-all : (m n : ℕ) (k : Ctx) → ((x : ℕ) → suc n ≤ suc x → suc x < suc n + m
+      → Under c b (suc x) × (b ≤ parent-of c (suc x)) × (parent-of c (suc x) ≤ x))
       → Upto sl r b (suc n) (suc n + m) (k .state) → each (scan c a) (from (suc n) m) k ≡ each (enter c a) (keep r (from (suc n) m)) k
   unfolding each from keep when bind
   scan-all zero n k t q = refl
   scan-all (suc m) n k t q =
-      rw (scan-one n (suc n + suc m) k (t n (omega arith) (omega arith) .0) (t n (omega arith) (omega arith) .1) (t n (omega arith) (omega arith) .2) q)
-      (go (r (suc n)) refl (λ j w. scan-all m (suc n) j (λ x l g. t x (omega arith) (omega arith)) (subst (λ e. Upto sl r b (suc (suc n)) e (j .state)) (omega arith) w)))
+      rw (scan-one n (suc n + suc m) k (t n (omega arith) (omega arith) .0) (t n (omega arith) (omega arith) .1)
+      (t n (omega arith) (omega arith) .2) q)
+      (go (r (suc n)) refl (λ j w. scan-all m (suc n) j (λ x l g. t x (omega arith) (omega arith))
+      (subst (λ e. Upto sl r b (suc (suc n)) e (j .state)) (omega arith) w)))
     where
       rest : List ℕ
       rest = from (suc (suc n)) m
 
-      go : (x : Bool) → r (suc n) ≡ x → ((j : Ctx) → Upto sl r b (suc (suc n)) (suc n + suc m) (j .state) → each (scan c a) rest j ≡ each (enter c a) (keep r rest) j)
+      go : (x : Bool) → r (suc n) ≡ x → ((j : Ctx) → Upto sl r b (suc (suc n)) (suc n + suc m) (j .state)
+          → each (scan c a) rest j ≡ each (enter c a) (keep r rest) j)
           → bind (when x (enter c a (suc n)) k) (each (scan c a) rest) ≡ each (enter c a) (cond x (suc n ∷ keep r rest) (keep r rest)) k
-      go true e ih = bind-cong-where (λ j. Upto sl r b (suc (suc n)) (suc n + suc m) (j .state)) (enter c a (suc n) k) (each (scan c a) rest) (each (enter c a) (keep r rest))
-          (holds-of (λ j. Upto sl r b (suc (suc n)) (suc n + suc m) (j .state)) (enter c a (suc n) k) (enter-leads (Upto sl r b (suc n) (suc n + suc m)) (Upto sl r b (suc (suc n)) (suc n + suc m)) (upto-outside sl r b (suc (suc n)) (suc n + suc m)) c a (suc n)
+      go true e ih = bind-cong-where (λ j. Upto sl r b (suc (suc n)) (suc n + suc m) (j .state)) (enter c a (suc n) k)
+          (each (scan c a) rest) (each (enter c a) (keep r rest))
+          (holds-of (λ j. Upto sl r b (suc (suc n)) (suc n + suc m) (j .state)) (enter c a (suc n) k)
+          (enter-leads (Upto sl r b (suc n) (suc n + suc m)) (Upto sl r b (suc (suc n)) (suc n + suc m))
+          (upto-outside sl r b (suc (suc n)) (suc n + suc m)) c a (suc n)
           (upto-entered sl r b (suc n) (suc n + suc m) (omega arith) e) k q)) ih
       go false e ih = ih k (upto-passed sl r b (suc n) (suc n + suc m) (omega arith) e (k .state) q)
