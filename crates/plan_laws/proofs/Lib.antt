@@ -4,3 +4,5 @@ pub mod Fits
 pub mod Accepted
 pub mod Below
 pub mod Pieces
+pub mod Spans
+pub mod Heads
