@@ -6,3 +6,6 @@ pub mod Below
 pub mod Pieces
 pub mod Spans
 pub mod Heads
+pub mod Totals
+pub mod Owned
+pub mod Order
