@@ -9,3 +9,6 @@ pub mod Heads
 pub mod Totals
 pub mod Owned
 pub mod Order
+pub mod Lines
+pub mod Counted
+pub mod Compiled
