@@ -4,3 +4,11 @@ pub mod Fits
 pub mod Accepted
 pub mod Below
 pub mod Pieces
+pub mod Spans
+pub mod Heads
+pub mod Totals
+pub mod Owned
+pub mod Order
+pub mod Lines
+pub mod Counted
+pub mod Compiled
