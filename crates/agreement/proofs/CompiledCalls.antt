@@ -23,6 +23,7 @@ use Rattle.meaning.specs.Steps.{_then_}
 use Rattle.meaning.specs.Value.{chart-of}
 use Rattle.meaning.specs.WellFormed.{plan-by, well-formed}
 use Rattle.meaning.specs.declared.State.{State}
+use Rattle.plan_laws.proofs.Compiled.{value-read-back, value-well-formed}
 
 -- ---- what a compile that is done says
 
@@ -97,3 +98,7 @@ one-call v n h back x u l =
     ∙ machine-makes (compile (chart-of v) ++ rest) (plan-of (chart-of v)) (back rest .0) (back rest .1) x u
     ∙ calls-agree (chart-of v) r z (λ a t k w e. block-agrees (chart-of v) r z a t (e .0) k w) (start-agrees (chart-of v) (pos 0)) x u l
     ∙ sym (value-makes v (d .ruled) x u)
+
+-- what is compiled is so
+pub compiled-back : (v : List ℤ) (n : ℕ) → compile-of v n .number ≡ 0 → Reads-back v
+compiled-back v n h rest = let e = compile-done v n h .ruled in (value-well-formed v e rest, value-read-back v e rest)

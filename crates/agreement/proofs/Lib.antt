@@ -16,3 +16,5 @@ pub mod Calling
 pub mod PlanCalls
 pub mod CompiledCalls
 pub mod ListsOfCalls
+pub mod Agreement
+pub mod Onward
