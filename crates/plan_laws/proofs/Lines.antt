@@ -129,7 +129,7 @@ module _ (c : Chart) where
   whole-state s = (1 + acts-many c (entry-of s)) + acts-many c (default-of s)
 
   pub visits-lines : (way : ℕ → Way) → Sound c way → (s : ℕ) → s < length (c .states)
-      → length (concat-map (visit-code c) (all-below c way s)) ≤ acts-many c (default-of s) + total whole-state (descendants c s)
+      → length (concat-map (visit-code c) (all-below c way s)) ≤ acts-many c (default-of s) + total whole-state (keep (λ x. reach c way s x x) (descendants c s))
   unfolding whole-state all-below
   visits-lines way g s l = omega (
     arith,
@@ -140,7 +140,6 @@ module _ (c : Chart) where
     total-sum (λ v. 1 + acts-many c (entry-of (state-of v))) (λ v. acts-many c (default-of (state-of v))) vs,
     total-mapped whole-state state-of vs,
     ap (total whole-state) (pass-states c way g s l),
-    total-kept whole-state (λ x. reach c way s x x) (descendants c s),
   )
     where
       vs : List Visit
