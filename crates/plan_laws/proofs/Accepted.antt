@@ -1,25 +1,24 @@
 -- A plan that fits is well formed: each test of 01's definition passes on the plan's numbers, whatever follows them. In the order of
 -- the definition: counts, variables, heads, blocks, instructions, the plan. Assumes nothing.
-use mathlib.Core.Path.{_∙_, _≡_, ap, refl, sym}
-use Prim.Native.Nat.{_*_, _+_, _<_, _≤_, suc, zero, ℕ}
+use mathlib.Core.Path.{_∙_, _≡_, ap, refl}
+use Prim.Native.Nat.{_+_, _≤_, suc, ℕ}
 use native.Mathlib.Omega.{arith}
 use mathlib.Core.Bool.{Bool, _&&_, false, false≢true, true}
 use mathlib.Core.List.{List, [], _++_, _∷_, append-assoc, map}
 use lib.ListN.{drop, length, length-append}
 use lib.Seq.{drop-at}
-use lib.IntN.{negsuc, pos, ℤ}
-use lib.Dec.{eqb, leb, ltb}
+use lib.IntN.{pos, ℤ}
 use borrow.Author.Tests.{eq-eqb, le-leb, lt-ltb}
 use Rattle.laws.proofs.Lists.{Each, and-both, none-left, one-more}
 use Rattle.laws.proofs.Trace.{concat-map-joined}
-use Rattle.laws.proofs.Value.{Row-in-range}
 use Rattle.meaning.specs.Lists.{concat-map, every}
-use Rattle.meaning.specs.Plan.{Plan, act-numbers, guard-numbers, head-numbers, instr-numbers, plan-numbers, sign-number, six, slot-number, var-numbers}
-use Rattle.meaning.specs.Rules.{row-fits}
+use Rattle.meaning.specs.Plan.{Plan, act-numbers, guard-numbers, head-numbers, instr-numbers, plan-numbers, sign-number, six, slot-number}
+use Rattle.meaning.specs.Plan.{var-numbers}
 use Rattle.meaning.specs.Value.{VAR-ROW, num, var-by, var-statable}
-use Rattle.meaning.specs.WellFormed.{HEAD-ROW, INSTR-ROW, SIX, all-blocks-fill, blocks-fill, code-at, code-fits, counts-keep, counts-of, field-fits}
-use Rattle.meaning.specs.WellFormed.{form-fits, head-fits, head-guard-fits, head-rows, heads-at, instr-fits, is-whole, left-after-each, left-in-blocks}
-use Rattle.meaning.specs.WellFormed.{plan-end, rows-well-formed, span-fits, var-keeps, var-rows, well-formed}
+use Rattle.meaning.specs.WellFormed.{HEAD-ROW, INSTR-ROW, all-blocks-fill, blocks-fill, code-at, code-fits, counts-keep, counts-of}
+use Rattle.meaning.specs.WellFormed.{field-fits, form-fits, head-fits, head-guard-fits, head-rows, heads-at, instr-fits, is-whole}
+use Rattle.meaning.specs.WellFormed.{left-after-each, left-in-blocks, plan-end, rows-well-formed, span-fits, var-keeps, var-rows}
+use Rattle.meaning.specs.WellFormed.{well-formed}
 use Rattle.meaning.specs.declared.chart.Act.the-variants.{AddTo as add-to, Send as send, SetTo as set-to, TakeTo as take-to, Tell as tell}
 use Rattle.meaning.specs.declared.chart.Guard.{Guard}
 use Rattle.meaning.specs.declared.chart.Guard.the-variants.{Always as always, Compares as compares}
@@ -28,12 +27,14 @@ use Rattle.meaning.specs.declared.chart.VarRow.{VarRow}
 use Rattle.meaning.specs.declared.plan.Counts.{Counts}
 use Rattle.meaning.specs.declared.plan.Head.{Head}
 use Rattle.meaning.specs.declared.plan.Instr.{Instr}
-use Rattle.meaning.specs.declared.plan.Instr.the-variants.{Does as does, In as go-in, Out as go-out, SkipEmpty as skip-empty, SkipFull as skip-full}
-use Rattle.meaning.specs.declared.plan.Instr.the-variants.{SkipNot as skip-not, SkipOut as skip-out}
+use Rattle.meaning.specs.declared.plan.Instr.the-variants.{Does as does, In as go-in, Out as go-out, SkipEmpty as skip-empty}
+use Rattle.meaning.specs.declared.plan.Instr.the-variants.{SkipFull as skip-full, SkipNot as skip-not, SkipOut as skip-out}
 use Rattle.numbers.specs.Reference.{ref}
 use Rattle.numbers.specs.declared.Place.the-variants.{At as holds, Empty as empty}
-use Rattle.plan_laws.proofs.Fits.{Fills, Fits, Guard-fits, Head-fits, Instr-fits, Piece, Var-fits, next-block, no-piece, one-instr, to-the-end}
-use Rattle.plan_laws.proofs.ReadBack.{Sayable, after-heads, counts, counts-back, head-long, head-rows-back, instr-long, var-long, var-rows-back}
+use Rattle.plan_laws.proofs.Fits.{Fills, Fits, Guard-fits, Head-fits, Instr-fits, Piece, Var-fits, next-block, no-piece, one-instr}
+use Rattle.plan_laws.proofs.Fits.{to-the-end}
+use Rattle.plan_laws.proofs.ReadBack.{Sayable, after-heads, counts, counts-back, head-long, head-rows-back, instr-long, var-long}
+use Rattle.plan_laws.proofs.ReadBack.{var-rows-back}
 use Rattle.plan_laws.proofs.Rows.{rows-long}
 use Rattle.sizes.specs.Sizes.{EVENTS, INSTRUCTIONS, STATES, TRANSITIONS, VARIABLES}
 

@@ -1,8 +1,7 @@
 -- The states that a firing leaves or enters are states of the chart below the one it starts from. Assumes nothing.
-use mathlib.Core.Path.{_∙_, _≡_, refl, subst, sym}
-use Prim.Native.Nat.{_+_, _<_, _≤_, suc, zero, ℕ}
+use mathlib.Core.Path.{subst, sym}
+use Prim.Native.Nat.{_<_, _≤_, suc, zero, ℕ}
 use native.Mathlib.Omega.{arith}
-use mathlib.Core.List.{List, [], _∷_, map}
 use lib.ListN.{length}
 use Rattle.laws.proofs.Descent.{Sound}
 use Rattle.laws.proofs.Lists.{Each, each-both, each-kept, each-mapped, each-range, each-weaker, none-left, one-more}
@@ -11,7 +10,7 @@ use Rattle.laws.proofs.Sound.{Sound-chart}
 use Rattle.laws.proofs.Ways.{descendants-range}
 use Rattle.meaning.specs.Chart.{Chart}
 use Rattle.meaning.specs.Entry.{Way, all-below, state-of}
-use Rattle.meaning.specs.Lists.{from, has, keep}
+use Rattle.meaning.specs.Lists.{from, has}
 use Rattle.meaning.specs.Tree.{all-states, ancestors, descendants}
 
 each-from : (a n : ℕ) → Each (λ x. a ≤ x) (from a n)

@@ -5,39 +5,30 @@
 --   n + e + 2 d    entries outside the stored arm: IN of each state once, its entry actions, its default's (the owner's once more);
 --   3 n + e + 2    the stored arm: SKIPOUT, SKIPNOT and IN of each state, its entry actions; and the two skips of the arms.
 -- No action has two owners, so e, x, d and all transitions' own actions are together at most the actions. Assumes nothing.
-use mathlib.Core.Path.{_∙_, _≡_, ap, refl, sym}
-use Prim.Native.Nat.{_*_, _+_, _-_, _<_, _≤_, suc, zero, ℕ}
+use mathlib.Core.Path.{ap}
+use Prim.Native.Nat.{_*_, _+_, _<_, _≤_, ℕ}
 use native.Mathlib.Nat.{le-trans, mul-le-mul-right}
 use native.Mathlib.Omega.{arith}
-use mathlib.Core.Bool.{Bool, cond, false, true}
-use mathlib.Core.List.{List, [], _++_, _∷_}
+use mathlib.Core.List.{_++_}
 use lib.ListN.{length, length-append}
-use lib.Dec.{eqb}
-use borrow.Author.Tests.{ne-eqb}
-use Rattle.laws.proofs.Descent.{Sound}
-use Rattle.laws.proofs.Preorder.{sub-kept, sub-run}
-use Rattle.laws.proofs.Reach.{pass-states, reach}
 use Rattle.laws.proofs.Rules.{Target-facts}
 use Rattle.laws.proofs.Scope.{scope-facts}
 use Rattle.laws.proofs.Sound.{Sound-chart}
 use Rattle.laws.proofs.Value.{Sized-chart}
-use Rattle.laws.proofs.Ways.{defaults-sound, owner-sound, towards-sound}
+use Rattle.laws.proofs.Ways.{towards-sound}
 use Rattle.meaning.specs.Chart.{Chart}
-use Rattle.meaning.specs.Compile.{arms, arms-of, block, block-to, code-acts, code-of, default-arm, enter-code, exits-code, head-order, start-block, stored-arm}
-use Rattle.meaning.specs.Compile.{towards-code, visit-code}
-use Rattle.meaning.specs.Entry.{Visit, Way, all-below, by-defaults, state-of, towards, towards-owner}
-use Rattle.meaning.specs.Lists.{concat-map, from, has, keep}
-use Rattle.meaning.specs.Tree.{all-states, all-transitions, ancestors, descendants, scope, trans-row}
-use Rattle.meaning.specs.declared.chart.Owner.the-variants.{DefaultOf as default-of, EntryOf as entry-of, ExitOf as exit-of, TransitionOf as transition-of}
+use Rattle.meaning.specs.Compile.{block, block-to, code-acts, code-of, exits-code, head-order, start-block, towards-code, visit-code}
+use Rattle.meaning.specs.Entry.{all-below, towards, towards-owner}
+use Rattle.meaning.specs.Lists.{concat-map, from}
+use Rattle.meaning.specs.Tree.{all-transitions, descendants, scope, trans-row}
+use Rattle.meaning.specs.declared.chart.Owner.the-variants.{TransitionOf as transition-of}
 use Rattle.meaning.specs.declared.chart.Target.{Target}
 use Rattle.meaning.specs.declared.chart.Target.the-variants.{History as history, InPlace as in-place, To as to}
-use Rattle.meaning.specs.declared.plan.Instr.the-variants.{SkipEmpty as skip-empty}
 use Rattle.plan_laws.proofs.Entered.{defaults, entries, entry-lines, exits, history-lines, start-lines, states}
-use Rattle.plan_laws.proofs.Lines.{acts-long, enter-long, exits-lines, stored-lines, visits-lines, whole-state}
+use Rattle.plan_laws.proofs.Lines.{acts-long, exits-lines}
 use Rattle.plan_laws.proofs.Order.{order-each, order-total}
 use Rattle.plan_laws.proofs.Owned.{acts-many, all-owned, owned}
-use Rattle.plan_laws.proofs.Totals.{length-collected, length-from, total, total-each, total-kept, total-mapped, total-most, total-once, total-part}
-use Rattle.plan_laws.proofs.Totals.{total-same, total-sum}
+use Rattle.plan_laws.proofs.Totals.{length-collected, length-from, total-each, total-same, total-sum}
 use Rattle.sizes.specs.Sizes.{ACTIONS, INSTRUCTIONS, STATES, TRANSITIONS}
 
 -- ---- one block

@@ -24,8 +24,8 @@ use Rattle.meaning.specs.declared.chart.Owner.the-variants.{DefaultOf as defaul
 use Rattle.meaning.specs.declared.plan.Instr.the-variants.{SkipEmpty as skip-empty}
 use Rattle.plan_laws.proofs.Lines.{enter-long, stored-lines, visits-lines, whole-state}
 use Rattle.plan_laws.proofs.Owned.{acts-many, owned}
-use Rattle.plan_laws.proofs.Totals.{keep-within, length-collected, length-from, total, total-apart, total-kept, total-mapped, total-most}
-use Rattle.plan_laws.proofs.Totals.{total-once, total-part, total-same, total-sum}
+use Rattle.plan_laws.proofs.Totals.{keep-within, length-collected, length-from, total, total-apart, total-kept, total-mapped}
+use Rattle.plan_laws.proofs.Totals.{total-most, total-once, total-part, total-same, total-sum}
 
 -- how many states, entry actions, exit actions and default actions a chart has
 abbrev pub states : Chart → ℕ
@@ -117,7 +117,7 @@ module _ (c : Chart) (h : Sound-chart c) (b s : ℕ) (o : kind-of c b ≡ kind-o
     arith,
     total-apart f on-path (λ x. has b (ancestors c x)) (λ x p q. true≢false (sym p ∙ off-path x (has-under c b x q))) (descendants c s),
     ap (total f) (keep-within (λ x. has b (ancestors c x)) (λ x. has s (ancestors c x))
-    (λ x q. under-has c (h .ordered) s x (under-trans u (has-under c b x q))) (all-states c)),
+        (λ x q. under-has c (h .ordered) s x (under-trans u (has-under c b x q))) (all-states c)),
   )
 
   -- the owner is entered at most once

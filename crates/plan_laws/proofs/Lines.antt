@@ -1,34 +1,27 @@
 -- How many instructions the parts of a block have, in the order of 01, "A block": acts, exits, entries, the two arms of a history. A
 -- state is left once and entered once by each part, so that each part has each state's actions at most once. Assumes nothing.
-use mathlib.Core.Path.{_∙_, _≡_, ap, refl, subst, sym}
-use Prim.Native.Nat.{_*_, _+_, _-_, _<_, _≤_, suc, zero, ℕ}
+use mathlib.Core.Path.{_∙_, _≡_, ap}
+use Prim.Native.Nat.{_*_, _+_, _<_, _≤_, suc, zero, ℕ}
 use native.Mathlib.Omega.{arith}
-use mathlib.Core.Bool.{Bool, cond, false, true}
-use mathlib.Core.List.{List, [], _++_, _∷_, map, reverse}
+use mathlib.Core.List.{List, _∷_, reverse}
 use lib.ListN.{length, length-append, length-map}
-use lib.Dec.{eqb}
-use borrow.Author.Tests.{ne-eqb}
 use Rattle.laws.proofs.Descent.{Sound}
-use Rattle.laws.proofs.Preorder.{sub-kept, sub-run}
 use Rattle.laws.proofs.Reach.{pass-states, reach}
-use Rattle.laws.proofs.Sound.{Sound-chart}
-use Rattle.laws.proofs.Ways.{defaults-sound}
 use Rattle.meaning.specs.Chart.{Chart}
-use Rattle.meaning.specs.Compile.{arms, arms-of, code-acts, default-arm, enter-code, exit-code, exits-code, held-code, past-if-out, stored-arm, stored-code}
-use Rattle.meaning.specs.Compile.{towards-code, visit-code}
+use Rattle.meaning.specs.Compile.{code-acts, enter-code, exit-code, exits-code, held-code, past-if-out, stored-arm, stored-code, visit-code}
 use Rattle.meaning.specs.Effects.{acts-of}
-use Rattle.meaning.specs.Entry.{Visit, Way, all-below, below, by-default, by-defaults, defaults, goes-on, on-to, plain, state-of, stops}
+use Rattle.meaning.specs.Entry.{Visit, Way, all-below, below, by-default, defaults, goes-on, on-to, plain, state-of, stops}
 use Rattle.meaning.specs.Lists.{concat-map, from, has, keep}
 use Rattle.meaning.specs.Tree.{all-states, ancestors, children, default-child, descendants, kind-of, parent-of}
 use Rattle.meaning.specs.declared.chart.Kind.{Kind}
 use Rattle.meaning.specs.declared.chart.Kind.the-variants.{A as kind-a, B as kind-b, O as kind-o}
 use Rattle.meaning.specs.declared.chart.Owner.{Owner}
 use Rattle.meaning.specs.declared.chart.Owner.the-variants.{DefaultOf as default-of, EntryOf as entry-of, ExitOf as exit-of}
-use Rattle.meaning.specs.declared.plan.Instr.the-variants.{Does as does, SkipEmpty as skip-empty}
+use Rattle.meaning.specs.declared.plan.Instr.the-variants.{Does as does}
 use Rattle.plan_laws.proofs.Owned.{acts-many, owned}
 use Rattle.plan_laws.proofs.Pieces.{at-value-is}
-use Rattle.plan_laws.proofs.Totals.{length-collected, length-from, total, total-collected, total-kept, total-mapped, total-most, total-once}
-use Rattle.plan_laws.proofs.Totals.{total-part, total-reversed, total-same, total-sum}
+use Rattle.plan_laws.proofs.Totals.{length-collected, length-from, total, total-collected, total-kept, total-mapped, total-most}
+use Rattle.plan_laws.proofs.Totals.{total-reversed, total-same, total-sum}
 
 module _ (c : Chart) where
   -- ---- one state

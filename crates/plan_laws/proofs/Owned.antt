@@ -1,7 +1,7 @@
 -- No action has two owners: the entry, exit and default actions of all states and the actions of all transitions are together no more
 -- than the chart's actions. Assumes nothing.
-use mathlib.Core.Path.{_∙_, _≡_, ap, refl}
-use Prim.Native.Nat.{_+_, _≤_, suc, zero, ℕ}
+use mathlib.Core.Path.{_≡_}
+use Prim.Native.Nat.{_+_, _≤_, ℕ}
 use native.Mathlib.Omega.{arith}
 use mathlib.Core.Bool.{Bool, cond, false, true}
 use mathlib.Core.List.{List, [], _∷_}
@@ -14,7 +14,8 @@ use Rattle.meaning.specs.Lists.{from}
 use Rattle.meaning.specs.Tree.{all-states, all-transitions}
 use Rattle.meaning.specs.declared.chart.ActRow.{ActRow}
 use Rattle.meaning.specs.declared.chart.Owner.{Owner}
-use Rattle.meaning.specs.declared.chart.Owner.the-variants.{DefaultOf as default-of, EntryOf as entry-of, ExitOf as exit-of, TransitionOf as transition-of}
+use Rattle.meaning.specs.declared.chart.Owner.the-variants.{DefaultOf as default-of, EntryOf as entry-of, ExitOf as exit-of}
+use Rattle.meaning.specs.declared.chart.Owner.the-variants.{TransitionOf as transition-of}
 use Rattle.plan_laws.proofs.Totals.{total, total-most, total-once, total-same, total-sum}
 
 -- how many actions an owner has

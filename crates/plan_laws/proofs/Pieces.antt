@@ -1,10 +1,10 @@
 -- The blocks of a chart that passes the rules: each piece names states, variables and events of the chart and constants in range, and
 -- its skips stay within it. In the order of 01, "A block": acts, exits, entries, the two arms of a history, blocks. Assumes nothing.
-use mathlib.Core.Path.{_∙_, _≡_, refl, subst, sym}
-use Prim.Native.Nat.{_+_, _<_, _≤_, suc, zero, ℕ}
+use mathlib.Core.Path.{_≡_, refl, subst, sym}
+use Prim.Native.Nat.{_<_, suc, zero, ℕ}
 use native.Mathlib.Omega.{arith}
 use mathlib.Core.Bool.{Bool, cond, false, true}
-use mathlib.Core.List.{List, [], _++_, _∷_, map, reverse}
+use mathlib.Core.List.{List, [], _∷_, map}
 use lib.ListN.{length, length-append}
 use lib.Dec.{eqb}
 use Rattle.laws.proofs.Lists.{Each, each-both, each-reversed, each-weaker, none-left, one-more}
@@ -14,22 +14,22 @@ use Rattle.laws.proofs.Sound.{Sound-chart, acts-each, acts-sound}
 use Rattle.laws.proofs.Value.{Act-in-range, Sized-chart}
 use Rattle.laws.proofs.Ways.{defaults-sound, owner-sound, towards-sound}
 use Rattle.meaning.specs.Chart.{Chart}
-use Rattle.meaning.specs.Compile.{arms, arms-of, block, block-to, code-acts, default-arm, enter-code, exit-code, exits-code, held-code, past-if-out}
-use Rattle.meaning.specs.Compile.{start-block, stored-arm, stored-code, towards-code, visit-code}
+use Rattle.meaning.specs.Compile.{arms, arms-of, block, block-to, code-acts, default-arm, enter-code, exit-code, exits-code, held-code}
+use Rattle.meaning.specs.Compile.{past-if-out, start-block, stored-arm, stored-code, towards-code, visit-code}
 use Rattle.meaning.specs.Effects.{acts-of, o-parent}
-use Rattle.meaning.specs.Entry.{Visit, all-below, by-default, by-defaults, plain, state-of, towards, towards-owner}
-use Rattle.meaning.specs.Lists.{at-value, concat-map}
+use Rattle.meaning.specs.Entry.{Visit, by-default, by-defaults, plain, state-of, towards, towards-owner}
+use Rattle.meaning.specs.Lists.{at-value}
 use Rattle.meaning.specs.Tree.{descendants, is-o, kind-of, parent-of, scope, trans-row}
 use Rattle.meaning.specs.declared.chart.Act.{Act}
 use Rattle.meaning.specs.declared.chart.Act.the-variants.{AddTo as add-to, Send as send, SetTo as set-to, TakeTo as take-to, Tell as tell}
 use Rattle.meaning.specs.declared.chart.Kind.{Kind}
 use Rattle.meaning.specs.declared.chart.Kind.the-variants.{A as kind-a, B as kind-b, O as kind-o}
 use Rattle.meaning.specs.declared.chart.Owner.{Owner}
-use Rattle.meaning.specs.declared.chart.Owner.the-variants.{DefaultOf as default-of, EntryOf as entry-of, ExitOf as exit-of, TransitionOf as transition-of}
+use Rattle.meaning.specs.declared.chart.Owner.the-variants.{DefaultOf as default-of, EntryOf as entry-of, ExitOf as exit-of}
+use Rattle.meaning.specs.declared.chart.Owner.the-variants.{TransitionOf as transition-of}
 use Rattle.meaning.specs.declared.chart.Target.{Target}
 use Rattle.meaning.specs.declared.chart.Target.the-variants.{History as history, InPlace as in-place, To as to}
 use Rattle.meaning.specs.declared.plan.Counts.{Counts}
-use Rattle.meaning.specs.declared.plan.Instr.{Instr}
 use Rattle.meaning.specs.declared.plan.Instr.the-variants.{Does as does, Out as go-out, SkipEmpty as skip-empty}
 use Rattle.numbers.specs.declared.Place.the-variants.{At as holds, Empty as empty}
 use Rattle.plan_laws.proofs.Below.{descendants-each, visits-each}

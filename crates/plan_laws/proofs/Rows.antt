@@ -1,10 +1,10 @@
 -- Rows of one length, written one after another and read back: laws over the row's length and the element. Assumes nothing.
 use mathlib.Core.Path.{_∙_, _≡_, ap, refl, sym}
-use Prim.Native.Nat.{_*_, _+_, suc, zero, ℕ}
+use Prim.Native.Nat.{_*_, ℕ}
 use native.Mathlib.Nat.{suc-mul, zero-mul}
 use native.Mathlib.Omega.{arith}
 use mathlib.Core.List.{List, [], _++_, _∷_, append-assoc, map}
-use lib.ListN.{drop, length, length-append, length-map}
+use lib.ListN.{drop, length, length-append}
 use lib.Seq.{drop-at, take-at}
 use Rattle.meaning.specs.Lists.{chunks, concat-map}
 

@@ -1,12 +1,12 @@
 -- The span of a transition of a chart that passes the rules is a range of states that is never empty: its ends are states, the first
 -- not past the last. Assumes nothing.
-use mathlib.Core.Path.{_∙_, _≡_, ap, refl, subst, sym}
+use mathlib.Core.Path.{_∙_, _≡_, ap, subst, sym}
 use Prim.Native.Nat.{_+_, _<_, _≤_, suc, zero, ℕ}
 use native.Mathlib.Omega.{arith}
-use mathlib.Core.Bool.{false, false≢true, true}
+use mathlib.Core.Bool.{false, false≢true}
 use mathlib.Core.List.{List, [], _∷_}
 use lib.ListN.{length}
-use Rattle.laws.proofs.Lists.{Each, each-weaker, every-kept, none-left, one-more}
+use Rattle.laws.proofs.Lists.{Each, each-weaker, every-kept, one-more}
 use Rattle.laws.proofs.Rules.{Target-facts}
 use Rattle.laws.proofs.Scope.{scope-facts}
 use Rattle.laws.proofs.Sound.{Sound-chart}
