@@ -73,8 +73,13 @@ module _ (p : Plan) (rest : List ℤ) where
   unfolding plan-numbers six plan-end code-at heads-at counts
   plan-long =
       ap (λ n. suc (suc (suc (suc (suc (suc n))))))
-      (length-append (concat-map var-numbers (p .vars)) _ ∙ ap (λ n. length (concat-map var-numbers (p .vars)) + n) (length-append (concat-map head-numbers (p .heads)) _))
-      ∙ rw (rows-long var-numbers VAR-ROW var-long (p .vars), rows-long head-numbers HEAD-ROW head-long (p .heads), rows-long instr-numbers INSTR-ROW instr-long (p .code)) (omega arith)
+      (length-append (concat-map var-numbers (p .vars)) _
+      ∙ ap (λ n. length (concat-map var-numbers (p .vars)) + n) (length-append (concat-map head-numbers (p .heads)) _))
+      ∙ rw (
+        rows-long var-numbers VAR-ROW var-long (p .vars),
+        rows-long head-numbers HEAD-ROW head-long (p .heads),
+        rows-long instr-numbers INSTR-ROW instr-long (p .code),
+      ) (omega arith)
 
   whole : is-whole (plan-numbers p ++ rest) (counts p) ≡ true
   unfolding is-whole
@@ -89,7 +94,8 @@ var-passes r h = rw (h .in-order, h .in-range .low, h .in-range .high, h .in-ran
 -- ---- heads
 
 guard-passes : (k : Counts) (g : Guard) (a b c : ℤ) (l : List ℤ) → Guard-fits k g
-    → head-guard-fits k (num (a ∷ b ∷ c ∷ guard-numbers g ++ l) 3) (num (a ∷ b ∷ c ∷ guard-numbers g ++ l) 4) (num (a ∷ b ∷ c ∷ guard-numbers g ++ l) 5) ≡ true
+    → head-guard-fits k (num (a ∷ b ∷ c ∷ guard-numbers g ++ l) 3) (num (a ∷ b ∷ c ∷ guard-numbers g ++ l) 4)
+    (num (a ∷ b ∷ c ∷ guard-numbers g ++ l) 5) ≡ true
 unfolding head-guard-fits guard-numbers sign-number
 guard-passes k always a b c l h = refl
 guard-passes k (compares v equal x) a b c l h = rw (lt-ltb v (k .vars) (h .0), h .1)
@@ -97,7 +103,8 @@ guard-passes k (compares v less x) a b c l h = rw (lt-ltb v (k .vars) (h .0), h 
 guard-passes k (compares v more x) a b c l h = rw (lt-ltb v (k .vars) (h .0), h .1)
 
 -- what stands after the guard
-past-guard : (g : Guard) (a b c : ℤ) (l : List ℤ) (i : ℕ) → num (a ∷ b ∷ c ∷ guard-numbers g ++ l) (suc (suc (suc (suc (suc (suc i)))))) ≡ num l i
+past-guard : (g : Guard) (a b c : ℤ) (l : List ℤ) (i : ℕ)
+    → num (a ∷ b ∷ c ∷ guard-numbers g ++ l) (suc (suc (suc (suc (suc (suc i)))))) ≡ num l i
 unfolding guard-numbers
 past-guard always a b c l i = refl
 past-guard (compares v g x) a b c l i = refl
@@ -148,7 +155,8 @@ lengths-back (h ∷ hs) = rw (head-end h 3, lengths-back hs)
 
 -- ---- instructions
 
-instr-passes : (k : Counts) (left : ℕ) (i : Instr) (rest : List ℤ) → Instr-fits k left i → instr-fits k left (instr-numbers i ++ rest) ≡ true
+instr-passes : (k : Counts) (left : ℕ) (i : Instr) (rest : List ℤ) → Instr-fits k left i
+    → instr-fits k left (instr-numbers i ++ rest) ≡ true
 unfolding instr-fits form-fits field-fits instr-numbers act-numbers slot-number
 instr-passes k left (go-in s) rest h = rw (lt-ltb s (k .states) h)
 instr-passes k left (go-out s empty) rest h = rw (lt-ltb s (k .states) (h .0))
@@ -165,7 +173,8 @@ instr-passes k left (does (send e x)) rest h = rw (le-leb 1 e (h .0), le-leb e (
 instr-passes k left (does (tell x)) rest h = rw h
 
 -- an instruction that passes: the next is looked at
-next-instr : (k : Counts) (left : ℕ) (lefts : List ℕ) (ns : List ℤ) → instr-fits k left ns ≡ true → code-fits k (left ∷ lefts) ns ≡ code-fits k lefts (drop INSTR-ROW ns)
+next-instr : (k : Counts) (left : ℕ) (lefts : List ℕ) (ns : List ℤ) → instr-fits k left ns ≡ true
+    → code-fits k (left ∷ lefts) ns ≡ code-fits k lefts (drop INSTR-ROW ns)
 unfolding code-fits
 next-instr k left lefts ns e = if-passed (instr-fits k left ns) (code-fits k lefts (drop INSTR-ROW ns)) e
 
@@ -178,15 +187,17 @@ piece-passes k (i ∷ is) lefts rest (one-instr p ps) =
     let more = concat-map instr-numbers is ++ rest in
     rw (append-assoc (instr-numbers i) (concat-map instr-numbers is) rest)
     (next-instr k (length is) (left-after-each (length is) ++ lefts) (instr-numbers i ++ more) (instr-passes k (length is) i more p)
-    ∙ ap (code-fits k (left-after-each (length is) ++ lefts)) (drop-at (instr-numbers i) more INSTR-ROW (instr-long i)) ∙ piece-passes k is lefts rest ps)
+    ∙ ap (code-fits k (left-after-each (length is) ++ lefts)) (drop-at (instr-numbers i) more INSTR-ROW (instr-long i))
+    ∙ piece-passes k is lefts rest ps)
 
 pieces-pass : (k : Counts) (bs : List (List Instr)) (rest : List ℤ) → Each (Piece k) bs
     → code-fits k (concat-map left-after-each (map length bs)) (concat-map instr-numbers (concat-map (λ b. b) bs) ++ rest) ≡ true
 unfolding concat-map code-fits
 pieces-pass k [] rest none-left = refl
 pieces-pass k (b ∷ bs) rest (one-more p ps) =
-    rw (concat-map-joined instr-numbers b (concat-map (λ x. x) bs), append-assoc (concat-map instr-numbers b) (concat-map instr-numbers (concat-map (λ x. x) bs)) rest)
-    (piece-passes k b (concat-map left-after-each (map length bs)) (concat-map instr-numbers (concat-map (λ x. x) bs) ++ rest) p ∙ pieces-pass k bs rest ps)
+    let more = concat-map instr-numbers (concat-map (λ x. x) bs) in
+    rw (concat-map-joined instr-numbers b (concat-map (λ x. x) bs), append-assoc (concat-map instr-numbers b) more rest)
+    (piece-passes k b (concat-map left-after-each (map length bs)) (more ++ rest) p ∙ pieces-pass k bs rest ps)
 
 -- ---- the plan
 
@@ -199,21 +210,29 @@ well-formed-by ns k e a b r =
 module _ (p : Plan) (rest : List ℤ) (f : Fits p) where
   blocks-pass : all-blocks-fill (plan-numbers p ++ rest) (counts p) ≡ true
   unfolding all-blocks-fill plan-numbers six counts
-  blocks-pass = rw (head-rows-back p rest, le-leb 0 (p .start-length) (omega arith)) (fills-pass (length (p .code)) (p .start-length) (p .heads) (f .fills))
+  blocks-pass =
+      rw (head-rows-back p rest, le-leb 0 (p .start-length) (omega arith))
+      (fills-pass (length (p .code)) (p .start-length) (p .heads) (f .fills))
 
   lefts-back : left-in-blocks (plan-numbers p ++ rest) (counts p) ≡ concat-map left-after-each (map length (f .blocks))
   unfolding left-in-blocks counts
-  lefts-back = ap (λ l. concat-map left-after-each (p .start-length ∷ l)) (rw (head-rows-back p rest) (lengths-back (p .heads))) ∙ ap (concat-map left-after-each) (f .lengths)
+  lefts-back =
+      ap (λ l. concat-map left-after-each (p .start-length ∷ l)) (rw (head-rows-back p rest) (lengths-back (p .heads)))
+      ∙ ap (concat-map left-after-each) (f .lengths)
 
-  code-passes : code-fits (counts p) (left-in-blocks (plan-numbers p ++ rest) (counts p)) (drop (code-at (counts p)) (plan-numbers p ++ rest)) ≡ true
+  code-passes :
+      code-fits (counts p) (left-in-blocks (plan-numbers p ++ rest) (counts p)) (drop (code-at (counts p)) (plan-numbers p ++ rest)) ≡ true
   code-passes =
-      rw (lefts-back, after-heads p rest) (ap (λ l. code-fits (counts p) (concat-map left-after-each (map length (f .blocks))) (concat-map instr-numbers l ++ rest)) (f .code)
+      rw (lefts-back, after-heads p rest)
+      (ap (λ l. code-fits (counts p) (concat-map left-after-each (map length (f .blocks))) (concat-map instr-numbers l ++ rest)) (f .code)
       ∙ pieces-pass (counts p) (f .blocks) rest (f .pieces))
 
   rows-pass : rows-well-formed (plan-numbers p ++ rest) (counts p) ≡ true
   unfolding rows-well-formed
   rows-pass =
-      if-passed (every var-keeps (var-rows ns (counts p)) && (every (head-fits (counts p)) (head-rows ns (counts p)) && all-blocks-fill ns (counts p)))
+      if-passed
+      (every var-keeps (var-rows ns (counts p))
+      && (every (head-fits (counts p)) (head-rows ns (counts p)) && all-blocks-fill ns (counts p)))
       (code-fits (counts p) (left-in-blocks ns (counts p)) (drop (code-at (counts p)) ns))
       (rw (
         var-rows-back p rest,

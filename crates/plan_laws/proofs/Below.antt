@@ -16,7 +16,8 @@ use Rattle.meaning.specs.Tree.{all-states, ancestors, descendants}
 each-from : (a n : ℕ) → Each (λ x. a ≤ x) (from a n)
 unfolding from
 each-from a zero = none-left
-each-from a (suc n) = one-more {x = a} (omega arith) (each-weaker (λ x. suc a ≤ x) (λ x. a ≤ x) (from (suc a) n) (λ x l. omega arith) (each-from (suc a) n))
+each-from a (suc n) = one-more {x = a} (omega arith)
+    (each-weaker (λ x. suc a ≤ x) (λ x. a ≤ x) (from (suc a) n) (λ x l. omega arith) (each-from (suc a) n))
 
 module _ (c : Chart) (h : Sound-chart c) (b : ℕ) (l : b < length (c .states)) where
   pub descendants-each : Each (λ d. (b < d) × (d < length (c .states))) (descendants c b)
@@ -26,8 +27,11 @@ module _ (c : Chart) (h : Sound-chart c) (b : ℕ) (l : b < length (c .states)) 
       (each-kept (λ d. d < length (c .states)) (λ d. has b (ancestors c d)) (from 0 (length (c .states)))
       (each-range 0 (length (c .states)) (length (c .states)) (omega arith)))
 
+  pub states-each : Each (λ d. d < length (c .states)) (descendants c b)
+  states-each =
+      each-weaker (λ d. (b < d) × (d < length (c .states))) (λ d. d < length (c .states)) (descendants c b) (λ d q. q .1) descendants-each
+
   pub visits-each : (way : ℕ → Way) → Sound c way → Each (λ v. state-of v < length (c .states)) (all-below c way b)
   visits-each way g = each-mapped (λ d. d < length (c .states)) state-of (all-below c way b)
       (subst (Each (λ d. d < length (c .states))) (sym (pass-states c way g b l))
-      (each-kept (λ d. d < length (c .states)) (λ x. reach c way b x x) (descendants c b)
-      (each-weaker (λ d. (b < d) × (d < length (c .states))) (λ d. d < length (c .states)) (descendants c b) (λ d q. q .1) descendants-each)))
+      (each-kept (λ d. d < length (c .states)) (λ x. reach c way b x x) (descendants c b) states-each))

@@ -56,7 +56,8 @@ module _ (c : Chart) (h : Sound-chart c) (z : Sized-chart c) where
 
   vars-fit : Each Var-fits (c .vars)
   unfolding row-fits var-row
-  vars-fit = each-of Var-fits no-var (c .vars) (λ v l. record { in-order = rw (h .rows v l .0) (h .rows v l .1); in-range = z .rows-range v l })
+  vars-fit = each-of Var-fits no-var (c .vars)
+      (λ v l. record { in-order = rw (h .rows v l .0) (h .rows v l .1); in-range = z .rows-range v l })
 
   blocks-pieces : (ts : List ℕ) → Each (λ t. t < length (c .transitions)) ts → Each (Piece k) (map (block c) ts)
   blocks-pieces [] none-left = none-left
@@ -98,8 +99,8 @@ module _ (v : List ℤ) (e : failing-rule-of v ≡ none) (rest : List ℤ) where
 
 module _ (v : List ℤ) (n : ℕ) where
   -- what holds of the plan's numbers, whatever follows them, holds of the slice
-  lent : (P : List ℤ → Type 0) → (failing-rule-of v ≡ none → (rest : List ℤ) → P (compile (chart-of v) ++ rest)) → compile-of v n .number ≡ 0
-      → P (plan-lent n (compile-of v n))
+  lent : (P : List ℤ → Type 0) → (failing-rule-of v ≡ none → (rest : List ℤ) → P (compile (chart-of v) ++ rest))
+      → compile-of v n .number ≡ 0 → P (plan-lent n (compile-of v n))
   unfolding compile-of compiled-into not-compiled plan-lent padded
   lent P f = by-rule (failing-rule-of v) refl
     where

@@ -24,10 +24,10 @@ use Rattle.meaning.specs.Tree.{all-transitions, descendants, scope, trans-row}
 use Rattle.meaning.specs.declared.chart.Owner.the-variants.{TransitionOf as transition-of}
 use Rattle.meaning.specs.declared.chart.Target.{Target}
 use Rattle.meaning.specs.declared.chart.Target.the-variants.{History as history, InPlace as in-place, To as to}
-use Rattle.plan_laws.proofs.Entered.{defaults, entries, entry-lines, exits, history-lines, start-lines, states}
+use Rattle.plan_laws.proofs.Entered.{entry-lines, history-lines, start-lines}
 use Rattle.plan_laws.proofs.Lines.{acts-long, exits-lines}
 use Rattle.plan_laws.proofs.Order.{order-each, order-total}
-use Rattle.plan_laws.proofs.Owned.{acts-many, all-owned, owned}
+use Rattle.plan_laws.proofs.Owned.{acts-many, all-owned, defaults, entries, exits, owned}
 use Rattle.plan_laws.proofs.Totals.{length-collected, length-from, total-each, total-same, total-sum}
 use Rattle.sizes.specs.Sizes.{ACTIONS, INSTRUCTIONS, STATES, TRANSITIONS}
 
@@ -36,7 +36,9 @@ use Rattle.sizes.specs.Sizes.{ACTIONS, INSTRUCTIONS, STATES, TRANSITIONS}
 module _ (c : Chart) (h : Sound-chart c) where
   -- all but the transition's own actions
   abbrev most-of-block : ℕ
-  most-of-block = (2 * states c + exits c) + ((states c + entries c + 2 * defaults c) + (3 * states c + entries c + 2))
+  most-of-block =
+      let n = length (c .states) in
+      (2 * n + exits c) + ((n + entries c + 2 * defaults c) + (3 * n + entries c + 2))
 
   block-to-lines : (t s : ℕ) (x : Target) → Target-facts c s x → length (block-to c t s x) ≤ most-of-block + acts-many c (transition-of t)
   unfolding block-to
@@ -76,7 +78,9 @@ block-most states actions = 6 * states + 2 * actions + 2
 abbrev pub lines-most : ℕ → ℕ → ℕ → ℕ
 lines-most states transitions actions = transitions * block-most states actions + states + actions
 
-module _ (c : Chart) (h : Sound-chart c) (S T A : ℕ) (s : length (c .states) ≤ S) (t : length (c .transitions) ≤ T) (a : length (c .actions) ≤ A) where
+-- at most S states, T transitions and A actions
+module _ (c : Chart) (h : Sound-chart c) (S T A : ℕ)
+    (s : length (c .states) ≤ S) (t : length (c .transitions) ≤ T) (a : length (c .actions) ≤ A) where
   block-lines : (i : ℕ) → i < length (c .transitions) → length (block c i) ≤ block-most S A + acts-many c (transition-of i)
   unfolding block
   block-lines i l =
@@ -89,7 +93,8 @@ module _ (c : Chart) (h : Sound-chart c) (S T A : ℕ) (s : length (c .states) �
   blocks-lines k f = omega (
     arith,
     length-collected (block c) (head-order c),
-    total-each (λ i. i < length (c .transitions)) (λ i. length (block c i)) (λ i. k + acts-many c (transition-of i)) f (head-order c) (order-each c),
+    total-each (λ i. i < length (c .transitions)) (λ i. length (block c i)) (λ i. k + acts-many c (transition-of i)) f (head-order c)
+        (order-each c),
     order-total c (λ i. k + acts-many c (transition-of i)),
     total-sum (λ i. k) (λ i. acts-many c (transition-of i)) (from 0 (length (c .transitions))),
     total-same k (from 0 (length (c .transitions))),
@@ -98,7 +103,8 @@ module _ (c : Chart) (h : Sound-chart c) (S T A : ℕ) (s : length (c .states) �
   )
 
   -- the start block enters each state once, so its actions and all transitions' own are together at most the actions
-  code-lines-by : (k : ℕ) → ((i : ℕ) → i < length (c .transitions) → length (block c i) ≤ k + acts-many c (transition-of i)) → length (code-of c) ≤ T * k + S + A
+  code-lines-by : (k : ℕ) → ((i : ℕ) → i < length (c .transitions) → length (block c i) ≤ k + acts-many c (transition-of i))
+      → length (code-of c) ≤ T * k + S + A
   unfolding code-of
   code-lines-by k f =
       omega (arith, length-append (start-block c) (concat-map (block c) (head-order c)), start-lines c h, blocks-lines k f, all-owned c)

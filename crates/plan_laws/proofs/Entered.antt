@@ -20,63 +20,50 @@ use Rattle.meaning.specs.Entry.{Visit, Way, all-below, by-defaults, state-of, t
 use Rattle.meaning.specs.Lists.{concat-map, from, has, keep}
 use Rattle.meaning.specs.Tree.{all-states, ancestors, descendants, kind-of, parent-of}
 use Rattle.meaning.specs.declared.chart.Kind.the-variants.{O as kind-o}
-use Rattle.meaning.specs.declared.chart.Owner.the-variants.{DefaultOf as default-of, EntryOf as entry-of, ExitOf as exit-of}
+use Rattle.meaning.specs.declared.chart.Owner.the-variants.{DefaultOf as default-of, EntryOf as entry-of}
 use Rattle.meaning.specs.declared.plan.Instr.the-variants.{SkipEmpty as skip-empty}
 use Rattle.plan_laws.proofs.Lines.{enter-long, stored-lines, visits-lines, whole-state}
-use Rattle.plan_laws.proofs.Owned.{acts-many, owned}
+use Rattle.plan_laws.proofs.Owned.{acts-many, defaults, entries}
 use Rattle.plan_laws.proofs.Totals.{keep-within, length-collected, length-from, total, total-apart, total-kept, total-mapped}
 use Rattle.plan_laws.proofs.Totals.{total-most, total-once, total-part, total-same, total-sum}
-
--- how many states, entry actions, exit actions and default actions a chart has
-abbrev pub states : Chart → ℕ
-states c = length (c .states)
-
-abbrev pub entries : Chart → ℕ
-entries c = owned c entry-of (all-states c)
-
-abbrev pub exits : Chart → ℕ
-exits c = owned c exit-of (all-states c)
-
-abbrev pub defaults : Chart → ℕ
-defaults c = owned c default-of (all-states c)
 
 module _ (c : Chart) (h : Sound-chart c) where
   -- ---- below a state
 
   -- a state and those below it are among all
-  from-state : (f : ℕ → ℕ) (s : ℕ) → s < states c → f s + total f (descendants c s) ≤ total f (all-states c)
+  from-state : (f : ℕ → ℕ) (s : ℕ) → s < length (c .states) → f s + total f (descendants c s) ≤ total f (all-states c)
   unfolding all-states total from
   from-state f s l =
-      let m : ℕ = states c - suc s in
-      let e : suc s + m ≡ states c = omega arith in
+      let m : ℕ = length (c .states) - suc s in
+      let e : suc s + m ≡ length (c .states) = omega arith in
       let k : ℕ = sub-run c (h .ordered) s m e .k in
-      let q : s + (suc k + (m - k)) ≡ states c = omega (arith, sub-run c (h .ordered) s m e .fits) in
+      let q : s + (suc k + (m - k)) ≡ length (c .states) = omega (arith, sub-run c (h .ordered) s m e .fits) in
       omega (arith, ap (total f) (sub-kept c (h .ordered) s m e), total-part f s (suc k) (m - k), ap (λ i. total f (from 0 i)) q)
 
-  all-whole : total (whole-state c) (all-states c) ≡ states c + entries c + defaults c
+  all-whole : total (whole-state c) (all-states c) ≡ length (c .states) + entries c + defaults c
   unfolding whole-state all-states
   all-whole = omega (
     arith,
-    total-sum (λ s. 1 + acts-many c (entry-of s)) (λ s. acts-many c (default-of s)) (from 0 (states c)),
-    total-sum (λ s. 1) (λ s. acts-many c (entry-of s)) (from 0 (states c)),
-    total-same 1 (from 0 (states c)),
-    length-from 0 (states c),
+    total-sum (λ s. 1 + acts-many c (entry-of s)) (λ s. acts-many c (default-of s)) (from 0 (length (c .states))),
+    total-sum (λ s. 1) (λ s. acts-many c (entry-of s)) (from 0 (length (c .states))),
+    total-same 1 (from 0 (length (c .states))),
+    length-from 0 (length (c .states)),
   )
 
-  below-lines : (way : ℕ → Way) → Sound c way → (s : ℕ) → s < states c
+  below-lines : (way : ℕ → Way) → Sound c way → (s : ℕ) → s < length (c .states)
       → length (concat-map (visit-code c) (all-below c way s)) ≤ acts-many c (default-of s) + total (whole-state c) (descendants c s)
   below-lines way g s l = omega (arith, visits-lines c way g s l, total-kept (whole-state c) (λ x. reach c way s x x) (descendants c s))
 
   -- "For each entered state, ..: default actions where due, IN, entry actions"
-  pub entry-lines : (way : ℕ → Way) → Sound c way → (s : ℕ) → s < states c
-      → length (concat-map (visit-code c) (all-below c way s)) ≤ states c + entries c + defaults c
+  pub entry-lines : (way : ℕ → Way) → Sound c way → (s : ℕ) → s < length (c .states)
+      → length (concat-map (visit-code c) (all-below c way s)) ≤ length (c .states) + entries c + defaults c
   unfolding whole-state
   entry-lines way g s l = omega (arith, below-lines way g s l, from-state (whole-state c) s l, all-whole)
 
-  pub start-lines : length (start-block c) ≤ states c + entries c + defaults c
+  pub start-lines : length (start-block c) ≤ length (c .states) + entries c + defaults c
   unfolding start-block whole-state
   start-lines =
-      let l : 0 < states c = omega (arith, h .two) in
+      let l : 0 < length (c .states) = omega (arith, h .two) in
       omega (
         arith,
         length-append (enter-code c 0) (concat-map (visit-code c) (all-below c by-defaults 0)),
@@ -92,7 +79,8 @@ and-none false b e = refl
 
 -- ---- towards the owner b of a history, from a state s above it
 
-module _ (c : Chart) (h : Sound-chart c) (b s : ℕ) (o : kind-of c b ≡ kind-o) (u : Under c s b) (l : b < states c) (m : s < states c) where
+module _ (c : Chart) (h : Sound-chart c) (b s : ℕ) (o : kind-of c b ≡ kind-o) (u : Under c s b)
+    (l : b < length (c .states)) (m : s < length (c .states)) where
   on-path : ℕ → Bool
   on-path x = reach c (towards-owner c b) s x x
 
@@ -128,8 +116,8 @@ module _ (c : Chart) (h : Sound-chart c) (b s : ℕ) (o : kind-of c b ≡ kind-o
     total-mapped f state-of (all-below c (towards-owner c b) s),
     ap (total f) (pass-states c (towards-owner c b) (owner-sound c h b l) s m),
     total-kept f (λ x. reach c (towards-owner c b) s x x) (descendants c s),
-    total-kept f (λ x. has s (ancestors c x)) (from 0 (states c)),
-    total-once f 0 (states c) b k (at-most (eqb b b)) (λ x e. rw (ne-eqb x b e)),
+    total-kept f (λ x. has s (ancestors c x)) (from 0 (length (c .states))),
+    total-once f 0 (length (c .states)) b k (at-most (eqb b b)) (λ x e. rw (ne-eqb x b e)),
   )
     where
       f : ℕ → ℕ
@@ -143,7 +131,8 @@ module _ (c : Chart) (h : Sound-chart c) (b s : ℕ) (o : kind-of c b ≡ kind-o
   unfolding towards-code
   towards-long v = go (eqb (state-of v) b)
     where
-      go : (t : Bool) → length (visit-code c v ++ elim t [ true ↦ arms c b | false ↦ [] ]) ≤ length (visit-code c v) + cond t (length (arms c b)) 0
+      go : (t : Bool)
+          → length (visit-code c v ++ elim t [ true ↦ arms c b | false ↦ [] ]) ≤ length (visit-code c v) + cond t (length (arms c b)) 0
       go true = omega (arith, length-append (visit-code c v) (arms c b))
       go false = omega (arith, length-append (visit-code c v) [])
 
@@ -154,7 +143,8 @@ module _ (c : Chart) (h : Sound-chart c) (b s : ℕ) (o : kind-of c b ≡ kind-o
       omega (
         arith,
         length-collected (towards-code c b) vs,
-        total-most (λ v. length (towards-code c b v)) (λ v. length (visit-code c v) + cond (eqb (state-of v) b) (length (arms c b)) 0) towards-long vs,
+        total-most (λ v. length (towards-code c b v)) (λ v. length (visit-code c v) + cond (eqb (state-of v) b) (length (arms c b)) 0)
+            towards-long vs,
         total-sum (λ v. length (visit-code c v)) (λ v. cond (eqb (state-of v) b) (length (arms c b)) 0) vs,
         length-collected (visit-code c) vs,
         owner-once (length (arms c b)),
@@ -162,7 +152,7 @@ module _ (c : Chart) (h : Sound-chart c) (b s : ℕ) (o : kind-of c b ≡ kind-o
 
   -- the path and the default arm, then the stored arm and the two skips
   pub history-lines : length (concat-map (towards-code c b) (all-below c (towards-owner c b) s))
-      ≤ (states c + entries c + 2 * defaults c) + (3 * states c + entries c + 2)
+      ≤ (length (c .states) + entries c + 2 * defaults c) + (3 * length (c .states) + entries c + 2)
   unfolding arms arms-of default-arm whole-state on-path
   history-lines = omega (
     arith,

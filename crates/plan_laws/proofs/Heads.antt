@@ -56,7 +56,8 @@ module _ (c : Chart) where
   heads-fill at (t ∷ ts) =
       let e : (at + length (block c t)) + length (concat-map (block c) ts) ≡ at + length (block c t ++ concat-map (block c) ts)
       = omega (arith, length-append (block c t) (concat-map (block c) ts)) in
-      next-block refl (subst (λ n. Fills n (at + length (block c t)) (heads-from c (at + length (block c t)) ts)) e (heads-fill (at + length (block c t)) ts))
+      let next : ℕ = at + length (block c t) in
+      next-block refl (subst (λ n. Fills n next (heads-from c next ts)) e (heads-fill next ts))
 
   pub heads-lengths : (at : ℕ) (ts : List ℕ) → map (λ h. h .length) (heads-from c at ts) ≡ map length (map (block c) ts)
   unfolding heads-from head-of

@@ -45,7 +45,8 @@ of-kind rs kind ns = total (λ n. length (acts-in rs (kind n))) ns
 hits : Owner → (ℕ → Owner) → List ℕ → ℕ
 hits o kind ns = total (λ n. bit (same-owner (kind n) o)) ns
 
-one-row : (r : ActRow) (rs : List ActRow) (kind : ℕ → Owner) (ns : List ℕ) → of-kind (r ∷ rs) kind ns ≤ hits (r .owner) kind ns + of-kind rs kind ns
+one-row : (r : ActRow) (rs : List ActRow) (kind : ℕ → Owner) (ns : List ℕ)
+    → of-kind (r ∷ rs) kind ns ≤ hits (r .owner) kind ns + of-kind rs kind ns
 unfolding of-kind hits acts-in
 one-row r rs kind ns = omega (
   arith,
@@ -68,7 +69,8 @@ unfolding bit
 no-hit ns = omega (arith, total-same 0 ns)
 
 module _ (n m : ℕ) where
-  one-owner : (o : Owner) → hits o entry-of (from 0 n) + hits o exit-of (from 0 n) + hits o default-of (from 0 n) + hits o transition-of (from 0 m) ≤ 1
+  one-owner : (o : Owner)
+      → hits o entry-of (from 0 n) + hits o exit-of (from 0 n) + hits o default-of (from 0 n) + hits o transition-of (from 0 m) ≤ 1
   unfolding hits same-owner
   one-owner (entry-of s) = omega (arith, hit-once s 0 n, no-hit (from 0 n), no-hit (from 0 m))
   one-owner (exit-of s) = omega (arith, hit-once s 0 n, no-hit (from 0 n), no-hit (from 0 m))
@@ -76,7 +78,9 @@ module _ (n m : ℕ) where
   one-owner (transition-of t) = omega (arith, hit-once t 0 m, no-hit (from 0 n))
 
   all-kinds : List ActRow → ℕ
-  all-kinds rs = of-kind rs entry-of (from 0 n) + of-kind rs exit-of (from 0 n) + of-kind rs default-of (from 0 n) + of-kind rs transition-of (from 0 m)
+  all-kinds rs =
+      of-kind rs entry-of (from 0 n) + of-kind rs exit-of (from 0 n) + of-kind rs default-of (from 0 n)
+      + of-kind rs transition-of (from 0 m)
 
   rows-owned : (rs : List ActRow) → all-kinds rs ≤ length rs
   unfolding all-kinds of-kind acts-in
@@ -91,9 +95,18 @@ module _ (n m : ℕ) where
     one-row r rs transition-of (from 0 m),
   )
 
+-- how many entry actions, exit actions and default actions a chart has
+abbrev pub entries : Chart → ℕ
+entries c = owned c entry-of (all-states c)
+
+abbrev pub exits : Chart → ℕ
+exits c = owned c exit-of (all-states c)
+
+abbrev pub defaults : Chart → ℕ
+defaults c = owned c default-of (all-states c)
+
 -- the actions of all owners are no more than the chart's
 pub all-owned : (c : Chart)
-    → owned c entry-of (all-states c) + owned c exit-of (all-states c) + owned c default-of (all-states c) + owned c transition-of (all-transitions c)
-    ≤ length (c .actions)
+    → entries c + exits c + defaults c + owned c transition-of (all-transitions c) ≤ length (c .actions)
 unfolding acts-many acts-of all-states all-transitions all-kinds of-kind
 all-owned c = rows-owned (length (c .states)) (length (c .transitions)) (c .actions)

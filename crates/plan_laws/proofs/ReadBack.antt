@@ -131,7 +131,9 @@ module _ (p : Plan) (rest : List ℤ) where
   unfolding plan-numbers six tail
   after-six = tail-is (concat-map var-numbers (p .vars)) (concat-map head-numbers (p .heads)) (concat-map instr-numbers (p .code))
 
-  after-vars : drop (heads-at (counts p)) (plan-numbers p ++ rest) ≡ concat-map head-numbers (p .heads) ++ (concat-map instr-numbers (p .code) ++ rest)
+  after-vars :
+      drop (heads-at (counts p)) (plan-numbers p ++ rest)
+      ≡ concat-map head-numbers (p .heads) ++ (concat-map instr-numbers (p .code) ++ rest)
   unfolding heads-at counts tail
   after-vars =
       sym (drop-drop (length (p .vars) * VAR-ROW) SIX (plan-numbers p ++ rest)) ∙ ap (drop (length (p .vars) * VAR-ROW)) after-six

@@ -20,7 +20,8 @@ module _ {A B : Type 0} (f : A → List B) (k : ℕ) (h : (x : A) → length (f 
   unfolding concat-map chunks
   rows-back [] rest = refl
   rows-back (x ∷ xs) rest =
-      rw (append-assoc (f x) (concat-map f xs) rest, take-at (f x) (concat-map f xs ++ rest) k (h x), drop-at (f x) (concat-map f xs ++ rest) k (h x))
+      let more = concat-map f xs ++ rest in
+      rw (append-assoc (f x) (concat-map f xs) rest, take-at (f x) more k (h x), drop-at (f x) more k (h x))
       (ap (λ l. f x ∷ l) (rows-back xs rest))
 
   -- and what follows comes after them
