@@ -51,6 +51,19 @@ if-passed false x e = absurd (false≢true e)
 
 -- ---- counts
 
+-- a plan's numbers end where its counts say
+pub plan-long : (p : Plan) → length (plan-numbers p) ≡ plan-end (counts p)
+unfolding plan-numbers six plan-end code-at heads-at counts
+plan-long p =
+    ap (λ n. suc (suc (suc (suc (suc (suc n))))))
+    (length-append (concat-map var-numbers (p .vars)) _
+    ∙ ap (λ n. length (concat-map var-numbers (p .vars)) + n) (length-append (concat-map head-numbers (p .heads)) _))
+    ∙ rw (
+      rows-long var-numbers VAR-ROW var-long (p .vars),
+      rows-long head-numbers HEAD-ROW head-long (p .heads),
+      rows-long instr-numbers INSTR-ROW instr-long (p .code),
+    ) (omega arith)
+
 module _ (p : Plan) (rest : List ℤ) where
   counts-pass : Sayable p → 2 ≤ p .states → counts-keep (plan-numbers p ++ rest) ≡ true
   unfolding counts-keep plan-numbers six
@@ -68,22 +81,9 @@ module _ (p : Plan) (rest : List ℤ) where
         le-leb (length (p .code)) INSTRUCTIONS (h .code),
       )
 
-  -- a plan's numbers end where its counts say
-  pub plan-long : length (plan-numbers p) ≡ plan-end (counts p)
-  unfolding plan-numbers six plan-end code-at heads-at counts
-  plan-long =
-      ap (λ n. suc (suc (suc (suc (suc (suc n))))))
-      (length-append (concat-map var-numbers (p .vars)) _
-      ∙ ap (λ n. length (concat-map var-numbers (p .vars)) + n) (length-append (concat-map head-numbers (p .heads)) _))
-      ∙ rw (
-        rows-long var-numbers VAR-ROW var-long (p .vars),
-        rows-long head-numbers HEAD-ROW head-long (p .heads),
-        rows-long instr-numbers INSTR-ROW instr-long (p .code),
-      ) (omega arith)
-
   whole : is-whole (plan-numbers p ++ rest) (counts p) ≡ true
   unfolding is-whole
-  whole = le-leb (plan-end (counts p)) (length (plan-numbers p ++ rest)) (omega (arith, plan-long, length-append (plan-numbers p) rest))
+  whole = le-leb (plan-end (counts p)) (length (plan-numbers p ++ rest)) (omega (arith, plan-long p, length-append (plan-numbers p) rest))
 
 -- ---- variables
 

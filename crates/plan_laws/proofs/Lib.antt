@@ -13,3 +13,5 @@ pub mod Lines
 pub mod Entered
 pub mod Counted
 pub mod Compiled
+pub mod Room
+pub mod Calls
