@@ -26,7 +26,8 @@ module _ (c : Chart) (e : failing-rule c ≡ none) (z : Sized-chart c) (rest : L
   ns = compile c ++ rest
 
   -- a call over a plan, on these numbers
-  on-plan : (call : Plan → Outcome) (u : State) → elim (well-formed ns) [ true ↦ call (plan-by ns) | false ↦ refused 5 0 u ] ≡ call (plan-of c)
+  on-plan : (call : Plan → Outcome) (u : State)
+      → elim (well-formed ns) [ true ↦ call (plan-by ns) | false ↦ refused 5 0 u ] ≡ call (plan-of c)
   unfolding ns
   on-plan call u =
       if-so (well-formed ns) (call (plan-by ns)) (refused 5 0 u) (compiled-well-formed c e z rest) ∙ ap call (compiled-read-back c e z rest)

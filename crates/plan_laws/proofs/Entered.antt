@@ -25,7 +25,7 @@ use Rattle.meaning.specs.declared.plan.Instr.the-variants.{SkipEmpty as skip-em
 use Rattle.plan_laws.proofs.Lines.{enter-long, stored-lines, visits-lines, whole-state}
 use Rattle.plan_laws.proofs.Owned.{acts-many, defaults, entries}
 use Rattle.plan_laws.proofs.Totals.{keep-within, length-collected, length-from, total, total-apart, total-kept, total-mapped}
-use Rattle.plan_laws.proofs.Totals.{total-most, total-once, total-part, total-same, total-sum}
+use Rattle.plan_laws.proofs.Totals.{total-most, total-when, total-part, total-same, total-sum}
 
 module _ (c : Chart) (h : Sound-chart c) where
   -- ---- below a state
@@ -117,15 +117,11 @@ module _ (c : Chart) (h : Sound-chart c) (b s : ℕ) (o : kind-of c b ≡ kind-o
     ap (total f) (pass-states c (towards-owner c b) (owner-sound c h b l) s m),
     total-kept f (λ x. reach c (towards-owner c b) s x x) (descendants c s),
     total-kept f (λ x. has s (ancestors c x)) (from 0 (length (c .states))),
-    total-once f 0 (length (c .states)) b k (at-most (eqb b b)) (λ x e. rw (ne-eqb x b e)),
+    total-when (λ x. eqb x b) b k 0 (length (c .states)) (λ x e. ne-eqb x b e),
   )
     where
       f : ℕ → ℕ
       f x = cond (eqb x b) k 0
-
-      at-most : (t : Bool) → cond t k 0 ≤ k
-      at-most true = omega arith
-      at-most false = omega arith
 
   towards-long : (v : Visit) → length (towards-code c b v) ≤ length (visit-code c v) + cond (eqb (state-of v) b) (length (arms c b)) 0
   unfolding towards-code

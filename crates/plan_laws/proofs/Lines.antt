@@ -18,7 +18,7 @@ use Rattle.meaning.specs.declared.chart.Kind.the-variants.{A as kind-a, B as ki
 use Rattle.meaning.specs.declared.chart.Owner.{Owner}
 use Rattle.meaning.specs.declared.chart.Owner.the-variants.{DefaultOf as default-of, EntryOf as entry-of, ExitOf as exit-of}
 use Rattle.meaning.specs.declared.plan.Instr.the-variants.{Does as does}
-use Rattle.plan_laws.proofs.Owned.{acts-many, owned}
+use Rattle.plan_laws.proofs.Owned.{acts-many, entries, exits, owned}
 use Rattle.plan_laws.proofs.Pieces.{at-value-is}
 use Rattle.plan_laws.proofs.Totals.{length-collected, length-from, total, total-collected, total-kept, total-mapped, total-most}
 use Rattle.plan_laws.proofs.Totals.{total-reversed, total-same, total-sum}
@@ -74,7 +74,7 @@ module _ (c : Chart) where
       ∙ ap (λ n. n + owned c kind ss) (total-same k ss ∙ ap (λ n. n * k) (length-from 0 (length (c .states))))
 
   -- "for each state of the span, ..: SKIPOUT s k+1, OUT s, the actions"
-  pub exits-lines : (s : ℕ) → length (exits-code c (descendants c s)) ≤ length (c .states) * 2 + owned c exit-of (all-states c)
+  pub exits-lines : (s : ℕ) → length (exits-code c (descendants c s)) ≤ 2 * length (c .states) + exits c
   unfolding exits-code
   exits-lines s = omega (
     arith,
@@ -86,7 +86,7 @@ module _ (c : Chart) where
   )
 
   -- "SKIPOUT p past all of d; SKIPNOT p d k+1 if p is kind o; IN d; its actions"
-  pub stored-lines : (b : ℕ) → length (stored-arm c b) ≤ length (c .states) * 3 + owned c entry-of (all-states c)
+  pub stored-lines : (b : ℕ) → length (stored-arm c b) ≤ 3 * length (c .states) + entries c
   unfolding stored-arm
   stored-lines b = omega (
     arith,

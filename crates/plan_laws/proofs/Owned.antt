@@ -16,7 +16,7 @@ use Rattle.meaning.specs.declared.chart.ActRow.{ActRow}
 use Rattle.meaning.specs.declared.chart.Owner.{Owner}
 use Rattle.meaning.specs.declared.chart.Owner.the-variants.{DefaultOf as default-of, EntryOf as entry-of, ExitOf as exit-of}
 use Rattle.meaning.specs.declared.chart.Owner.the-variants.{TransitionOf as transition-of}
-use Rattle.plan_laws.proofs.Totals.{total, total-most, total-once, total-same, total-sum}
+use Rattle.plan_laws.proofs.Totals.{total, total-most, total-when, total-same, total-sum}
 
 -- how many actions an owner has
 unfoldable pub acts-many : Chart → Owner → ℕ
@@ -58,11 +58,7 @@ one-row r rs kind ns = omega (
 -- a number is its own once
 hit-once : (m a n : ℕ) → total (λ x. bit (eqb x m)) (from a n) ≤ 1
 unfolding bit
-hit-once m a n = total-once (λ x. bit (eqb x m)) a n m 1 (at-most (eqb m m)) (λ x e. rw (ne-eqb x m e))
-  where
-    at-most : (b : Bool) → cond b 1 0 ≤ 1
-    at-most true = omega arith
-    at-most false = omega arith
+hit-once m a n = total-when (λ x. eqb x m) m 1 a n (λ x e. ne-eqb x m e)
 
 no-hit : (ns : List ℕ) → total (λ n. bit false) ns ≡ 0
 unfolding bit

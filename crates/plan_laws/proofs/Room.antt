@@ -27,20 +27,22 @@ use Rattle.sizes.specs.Sizes.{ACTIONS, STATES, TRANSITIONS, VARIABLES}
 abbrev pub numbers-most : ℕ → ℕ → ℕ → ℕ
 numbers-most vars heads lines = SIX + vars * VAR-ROW + heads * HEAD-ROW + lines * INSTR-ROW
 
+-- the room that every plan has enough with
+abbrev pub ROOM : ℕ
+ROOM = numbers-most VARIABLES TRANSITIONS (lines-most STATES TRANSITIONS ACTIONS)
+
 plan-most : (p : Plan) (vars heads lines : ℕ) → length (p .vars) ≤ vars → length (p .heads) ≤ heads → length (p .code) ≤ lines
     → length (plan-numbers p) ≤ numbers-most vars heads lines
 unfolding plan-end code-at heads-at counts
 plan-most p vars heads lines v h l = omega (arith, plan-long p)
 
-pub compiled-most : (c : Chart) → Sound-chart c → Sized-chart c
-    → length (compile c) ≤ numbers-most VARIABLES TRANSITIONS (lines-most STATES TRANSITIONS ACTIONS)
+pub compiled-most : (c : Chart) → Sound-chart c → Sized-chart c → length (compile c) ≤ ROOM
 unfolding compile plan-of
-compiled-most c h z = plan-most (plan-of c) VARIABLES TRANSITIONS (lines-most STATES TRANSITIONS ACTIONS) (z .vars) (plan-sayable c h z .heads)
-    (code-lines c h STATES TRANSITIONS ACTIONS (z .states) (z .transitions) (z .actions))
+compiled-most c h z = plan-most (plan-of c) VARIABLES TRANSITIONS (lines-most STATES TRANSITIONS ACTIONS)
+    (z .vars) (plan-sayable c h z .heads) (code-lines c h STATES TRANSITIONS ACTIONS (z .states) (z .transitions) (z .actions))
 
 -- with that room, a value that passes the rules is compiled
-pub room-suffices : (v : List ℤ) (n : ℕ) → failing-rule-of v ≡ none
-    → numbers-most VARIABLES TRANSITIONS (lines-most STATES TRANSITIONS ACTIONS) ≤ n → compile-of v n .number ≡ 0
+pub room-suffices : (v : List ℤ) (n : ℕ) → failing-rule-of v ≡ none → ROOM ≤ n → compile-of v n .number ≡ 0
 unfolding compile-of compiled-into
 room-suffices v n e l = by-rule (failing-rule-of v) e
   where

@@ -127,10 +127,18 @@ module _ (f : ℕ → ℕ) where
   none-after a (suc n) m l h = omega (arith, h a (λ e. omega arith), none-after (suc a) n m (omega arith) h)
 
   -- what one number alone has
-  pub total-once : (a n m k : ℕ) → f m ≤ k → ((x : ℕ) → (x ≡ m → ⊥) → f x ≡ 0) → total f (from a n) ≤ k
+  total-once : (a n m k : ℕ) → f m ≤ k → ((x : ℕ) → (x ≡ m → ⊥) → f x ≡ 0) → total f (from a n) ≤ k
   unfolding total from
   total-once a zero m k l h = omega arith
   total-once a (suc n) m k l h = ⊎-elim
       (λ e. omega (arith, ap f e, none-after (suc a) n m (omega arith) h))
       (λ e. omega (arith, h a e, total-once (suc a) n m k l h))
       (same-or a m)
+
+-- k where a test holds, which holds of one number at most
+pub total-when : (p : ℕ → Bool) (m k a n : ℕ) → ((x : ℕ) → (x ≡ m → ⊥) → p x ≡ false) → total (λ x. cond (p x) k 0) (from a n) ≤ k
+total-when p m k a n h = total-once (λ x. cond (p x) k 0) a n m k (at-most (p m)) (λ x e. rw (h x e))
+  where
+    at-most : (b : Bool) → cond b k 0 ≤ k
+    at-most true = omega arith
+    at-most false = omega arith
