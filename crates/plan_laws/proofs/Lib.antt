@@ -10,5 +10,8 @@ pub mod Totals
 pub mod Owned
 pub mod Order
 pub mod Lines
+pub mod Entered
 pub mod Counted
 pub mod Compiled
+pub mod Room
+pub mod Calls

@@ -1,12 +1,12 @@
 -- The span of a transition of a chart that passes the rules is a range of states that is never empty: its ends are states, the first
 -- not past the last. Assumes nothing.
-use mathlib.Core.Path.{_∙_, _≡_, ap, refl, subst, sym}
+use mathlib.Core.Path.{_∙_, _≡_, ap, subst, sym}
 use Prim.Native.Nat.{_+_, _<_, _≤_, suc, zero, ℕ}
 use native.Mathlib.Omega.{arith}
-use mathlib.Core.Bool.{false, false≢true, true}
+use mathlib.Core.Bool.{false, false≢true}
 use mathlib.Core.List.{List, [], _∷_}
 use lib.ListN.{length}
-use Rattle.laws.proofs.Lists.{Each, each-weaker, every-kept, none-left, one-more}
+use Rattle.laws.proofs.Lists.{Each, every-kept, one-more}
 use Rattle.laws.proofs.Rules.{Target-facts}
 use Rattle.laws.proofs.Scope.{scope-facts}
 use Rattle.laws.proofs.Sound.{Sound-chart}
@@ -18,7 +18,7 @@ use Rattle.meaning.specs.Lists.{every, from, has}
 use Rattle.meaning.specs.Tree.{all-states, ancestors, descendants, scope, span, span-of, trans-row}
 use Rattle.meaning.specs.declared.chart.Target.{Target}
 use Rattle.meaning.specs.declared.chart.Target.the-variants.{History as history, InPlace as in-place, To as to}
-use Rattle.plan_laws.proofs.Below.{descendants-each}
+use Rattle.plan_laws.proofs.Below.{states-each}
 
 -- the ends of a range
 last-from : (a n : ℕ) → last-of (from a (suc n)) ≡ a + n
@@ -38,7 +38,8 @@ pub record Span-fits (m : ℕ) (xs : List ℕ) : Type 0 where
 
 range-fits : (m a n : ℕ) → Each (λ x. x < m) (from a (suc n)) → Span-fits m (from a (suc n))
 unfolding from first-of
-range-fits m a n f = record { first = first-each f; last = last-each (λ x. x < m) a (from (suc a) n) f; in-order = omega (arith, last-from a n) }
+range-fits m a n f =
+    record { first = first-each f; last = last-each (λ x. x < m) a (from (suc a) n) f; in-order = omega (arith, last-from a n) }
   where
     first-each : Each (λ x. x < m) (a ∷ from (suc a) n) → a < m
     first-each (one-more p ps) = p
@@ -53,12 +54,13 @@ module _ (c : Chart) (h : Sound-chart c) where
       n = length (c .states)
 
       empty-not : descendants c s ≡ [] → ⊥
-      empty-not e = false≢true (every-kept (λ x. false) (λ x. has s (ancestors c x)) 0 n (ap (every (λ x. false)) e) d (omega arith) (omega arith) (under-has c (h .ordered) s d u))
+      empty-not e = false≢true
+          (every-kept (λ x. false) (λ x. has s (ancestors c x)) 0 n (ap (every (λ x. false)) e) d (omega arith) (omega arith)
+          (under-has c (h .ordered) s d u))
 
       go : (k : ℕ) → descendants c s ≡ from (suc s) k → Span-fits n (descendants c s)
       go zero e = absurd (empty-not e)
-      go (suc k) e = subst (Span-fits n) (sym e) (range-fits n (suc s) k
-          (subst (Each (λ x. x < n)) e (each-weaker (λ x. (s < x) × (x < n)) (λ x. x < n) (descendants c s) (λ x p. p .1) (descendants-each c h s l))))
+      go (suc k) e = subst (Span-fits n) (sym e) (range-fits n (suc s) k (subst (Each (λ x. x < n)) e (states-each c h s l)))
 
   -- a state and its descendants
   own-fits : (s : ℕ) → s < length (c .states) → Span-fits (length (c .states)) (s ∷ descendants c s)
@@ -66,8 +68,8 @@ module _ (c : Chart) (h : Sound-chart c) where
   own-fits s l =
       let n = length (c .states) in
       let e : s ∷ descendants c s ≡ from s (suc (length (descendants c s))) = ap (λ xs. s ∷ xs) (descendants-range c h s l) in
-      subst (Span-fits n) (sym e) (range-fits n s (length (descendants c s)) (subst (Each (λ x. x < n)) e
-      (one-more l (each-weaker (λ x. (s < x) × (x < n)) (λ x. x < n) (descendants c s) (λ x p. p .1) (descendants-each c h s l)))))
+      subst (Span-fits n) (sym e)
+      (range-fits n s (length (descendants c s)) (subst (Each (λ x. x < n)) e (one-more l (states-each c h s l))))
 
   -- the scope is a proper ancestor of the source
   span-of-fits : (s : ℕ) (x : Target) → s < length (c .states) → Target-facts c s x → Span-fits (length (c .states)) (span-of c s x)
