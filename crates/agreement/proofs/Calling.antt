@@ -2,14 +2,13 @@
 -- started state that is the chart's own. In the order: the plan machine's test for 6 passes what the chart's passes; the tests 7 and 6;
 -- start; run, post and discard. Assumes nothing.
 use mathlib.Core.Path.{_∙_, _≡_, ap, refl, subst, sym}
-use mathlib.Core.Logic.{_⊎_, inl, inr, ⊎-elim}
+use mathlib.Core.Logic.{inl, inr}
 use Prim.Native.Nat.{_+_, _-_, _<_, _≤_, ℕ}
 use native.Mathlib.Omega.{arith}
-use mathlib.Core.Bool.{Bool, _&&_, false, true}
-use mathlib.Core.List.{List, [], _∷_}
-use lib.ListN.{drop, getD, length, length-drop, length-take, take}
+use mathlib.Core.Bool.{_&&_, true}
+use mathlib.Core.List.{List}
+use lib.ListN.{drop, getD, length, take}
 use lib.Seq.{getD-drop, getD-take, length-take-le, take-append-seam}
-use lib.Dec.{eqb}
 use lib.IntN.{negsuc, pos, ℤ}
 use borrow.Author.Tests.{eq-eqb, lt-ltb}
 use Rattle.agreement.proofs.Stepping.{Blocks-fire, settle-agrees, steps-agree}
@@ -43,7 +42,6 @@ use Rattle.numbers.specs.Equal.{eqZ}
 use Rattle.numbers.specs.Reference.{ref}
 use Rattle.queue.specs.Queue.{removed}
 use Rattle.queue.specs.declared.Removed.{Removed}
-use Rattle.sizes.specs.Sizes.{STATES}
 
 -- ---- what passes the chart's test for 6 passes the plan machine's
 

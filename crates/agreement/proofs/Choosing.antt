@@ -8,7 +8,7 @@ use mathlib.Core.List.{List, [], _++_, _∷_, reverse}
 use lib.ListN.{length}
 use lib.Dec.{eqb, leb}
 use Rattle.agreement.proofs.Heads.{Head-for, Heads-for, heads-kept, no-heads, one-head, plan-heads}
-use Rattle.agreement.proofs.Ranges.{Range, first-of-range, last-of-range, ranges-meet, span-range}
+use Rattle.agreement.proofs.Ranges.{ranges-meet}
 use Rattle.invariants.proofs.Choosing.{has-joined}
 use Rattle.laws.proofs.Sound.{Sound-chart}
 use Rattle.laws.proofs.Tree.{keep-append}
@@ -21,6 +21,7 @@ use Rattle.meaning.specs.Tree.{all-states, all-transitions, span, trans-row}
 use Rattle.meaning.specs.declared.State.{State}
 use Rattle.meaning.specs.declared.plan.Head.{Head}
 use Rattle.meaning.specs.declared.plan.Instr.{Instr}
+use Rattle.plan_laws.proofs.Spans.{Range, first-of-range, last-of-range, span-range}
 
 -- ---- a head is enabled as its transition
 

@@ -3,7 +3,7 @@
 use mathlib.Core.Path.{_∙_, _≡_, ap, refl, subst, sym}
 use Prim.Native.Nat.{_+_, _<_, ℕ}
 use mathlib.Core.Bool.{Bool, cond, false, true}
-use mathlib.Core.List.{List, [], _++_, _∷_, append-assoc, append-nil}
+use mathlib.Core.List.{List, [], _++_, _∷_, append-assoc}
 use lib.ListN.{drop, length, length-append, take}
 use lib.Seq.{drop-append-seam, take-append-seam}
 use Rattle.invariants.proofs.Choosing.{ordered-each}

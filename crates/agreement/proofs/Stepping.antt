@@ -1,9 +1,8 @@
 -- Steps and null steps of the compiled plan are those of the chart (01, "They fire in that order", "null steps follow"), wherever the
 -- block of each transition does what its firing does. In the order: one head; the chosen heads; a step; null steps. Assumes nothing.
 use mathlib.Core.Path.{_∙_, _≡_, ap, refl, subst, sym}
-use Prim.Native.Nat.{_<_, suc, zero, ℕ}
-use mathlib.Core.List.{List, [], _∷_}
-use lib.ListN.{length}
+use Prim.Native.Nat.{suc, zero, ℕ}
+use mathlib.Core.List.{List}
 use lib.IntN.{pos, ℤ}
 use Rattle.agreement.proofs.Choosing.{chosen-alike}
 use Rattle.agreement.proofs.Heads.{Head-for, Heads-for, no-heads, one-head}
@@ -18,9 +17,9 @@ use Rattle.laws.proofs.Steps.{Holds, bind-cong-where}
 use Rattle.laws.proofs.Value.{Sized-chart}
 use Rattle.meaning.specs.Chart.{Chart}
 use Rattle.meaning.specs.Compile.{block, code-of, head-of, plan-of}
-use Rattle.meaning.specs.Machine.{chosen-heads, fire-head, head-block, plan-settle, plan-settle-in, plan-step, run-block}
-use Rattle.meaning.specs.Reaction.{chosen, fire, fire-to, if-any, settle, settle-in, step}
-use Rattle.meaning.specs.Steps.{Res, Step, _then_, bind, each, look, ok, refuse, skip}
+use Rattle.meaning.specs.Machine.{fire-head, head-block, plan-settle, plan-settle-in, plan-step, run-block}
+use Rattle.meaning.specs.Reaction.{fire, fire-to, if-any, settle, settle-in, step}
+use Rattle.meaning.specs.Steps.{Res, Step, _then_, bind, each, look, ok, refuse}
 use Rattle.meaning.specs.Tree.{trans-row}
 use Rattle.meaning.specs.Widget.{Ctx, emit, taken}
 use Rattle.meaning.specs.declared.plan.Head.{Head}

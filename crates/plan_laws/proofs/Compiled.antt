@@ -99,7 +99,7 @@ module _ (v : List ℤ) (e : failing-rule-of v ≡ none) (rest : List ℤ) where
 
 module _ (v : List ℤ) (n : ℕ) where
   -- what holds of the plan's numbers, whatever follows them, holds of the slice
-  lent : (P : List ℤ → Type 0) → (failing-rule-of v ≡ none → (rest : List ℤ) → P (compile (chart-of v) ++ rest))
+  pub lent : (P : List ℤ → Type 0) → (failing-rule-of v ≡ none → (rest : List ℤ) → P (compile (chart-of v) ++ rest))
       → compile-of v n .number ≡ 0 → P (plan-lent n (compile-of v n))
   unfolding compile-of compiled-into not-compiled plan-lent padded
   lent P f = by-rule (failing-rule-of v) refl
@@ -126,3 +126,7 @@ module _ (v : List ℤ) (n : ℕ) where
 
   pub lent-well-formed : compile-of v n .number ≡ 0 → well-formed (plan-lent n (compile-of v n)) ≡ true
   lent-well-formed = lent (λ ns. well-formed ns ≡ true) (value-well-formed v)
+
+  -- and the chart passes the rules
+  pub lent-ruled : compile-of v n .number ≡ 0 → failing-rule-of v ≡ none
+  lent-ruled = lent (λ ns. failing-rule-of v ≡ none) (λ e rest. e)

@@ -14,4 +14,3 @@ pub mod Entered
 pub mod Counted
 pub mod Compiled
 pub mod Room
-pub mod Calls
