@@ -27,7 +27,8 @@ module _ (v : List ℤ) (n : ℕ) (done : compile-of v n .number ≡ 0) where
   either-agrees by-chart x u l = refl
   either-agrees by-plan x u l = one-call v n done x u l
 
-  pub mixed-agree : (xs : List Made) (u : State) → Lived (chart-of v) u → mixed-outcomes v plan xs u ≡ outcomes (make-of v) (map (λ x. x .call) xs) u
+  pub mixed-agree : (xs : List Made) (u : State) → Lived (chart-of v) u
+      → mixed-outcomes v plan xs u ≡ outcomes (make-of v) (map (λ x. x .call) xs) u
   unfolding outcomes mixed-outcomes
   mixed-agree [] u l = refl
   mixed-agree (x ∷ xs) u l =

@@ -53,7 +53,8 @@ module _ (c : Chart) (r : Sound-chart c) (z : Sized-chart c) (fires : Blocks-fir
       (fire-to c a t (trans-row c t .source) (trans-row c t .target)) (entry-stands t k w e) (λ j q. fires a t j (q .0) (q .1))
 
   -- "They fire in that order"
-  heads-fire : (a : ℤ) {hs : List Head} {ts : List ℕ} → Heads-for c (code-of c) hs ts → Apart c ts → (k : Ctx) → Whole c k → Each (Armed c (k .state)) ts
+  heads-fire : (a : ℤ) {hs : List Head} {ts : List ℕ} → Heads-for c (code-of c) hs ts → Apart c ts → (k : Ctx) → Whole c k
+      → Each (Armed c (k .state)) ts
       → each (fire-head (plan-of c) a) hs k ≡ each (fire c a) ts k
   unfolding each
   heads-fire a no-heads none-apart k w none-left = refl
@@ -70,7 +71,8 @@ module _ (c : Chart) (r : Sound-chart c) (z : Sized-chart c) (fires : Blocks-fir
 
   -- ---- null steps
 
-  any-alike : {hs : List Head} {ts : List ℕ} → Heads-for c (code-of c) hs ts → (F G : Step Ctx) (k : Ctx) → F k ≡ G k → if-any hs F k ≡ if-any ts G k
+  any-alike : {hs : List Head} {ts : List ℕ} → Heads-for c (code-of c) hs ts → (F G : Step Ctx) (k : Ctx) → F k ≡ G k
+      → if-any hs F k ≡ if-any ts G k
   unfolding if-any
   any-alike no-heads F G k e = refl
   any-alike (one-head x xs) F G k e = e
@@ -78,7 +80,8 @@ module _ (c : Chart) (r : Sound-chart c) (z : Sized-chart c) (fires : Blocks-fir
   settle-in-agrees : (n : ℕ) (k : Ctx) → Whole c k → plan-settle-in (plan-of c) n k ≡ settle-in c n k
   unfolding plan-settle-in settle-in look _then_
   settle-in-agrees zero k w = any-alike (chosen-alike c r 0 (k .state)) (λ _. refuse 12) (λ _. refuse 12) k refl
-  settle-in-agrees (suc n) k w = any-alike (chosen-alike c r 0 (k .state)) (plan-step (plan-of c) 0 (pos 0) then plan-settle-in (plan-of c) n)
+  settle-in-agrees (suc n) k w = any-alike (chosen-alike c r 0 (k .state))
+      (plan-step (plan-of c) 0 (pos 0) then plan-settle-in (plan-of c) n)
       (step c 0 (pos 0) then settle-in c n) k
       (ap (λ x. bind x (plan-settle-in (plan-of c) n)) (steps-agree 0 (pos 0) k w)
       ∙ bind-cong-where (Whole c) (step c 0 (pos 0) k) (plan-settle-in (plan-of c) n) (settle-in c n)

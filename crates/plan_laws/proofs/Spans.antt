@@ -49,7 +49,12 @@ pub record Span-fits (m : ℕ) (xs : List ℕ) : Type 0 where
 
 range-fits : (m a n : ℕ) → Each (λ x. x < m) (from a (suc n)) → Span-fits m (from a (suc n))
 unfolding from first-of
-range-fits m a n f = record { first = first-each f; last = last-each (λ x. x < m) a (from (suc a) n) f; in-order = omega (arith, last-of-range a n) }
+range-fits m a n f = record {
+  first = first-each f;
+  last = last-each (λ x. x < m) a (from (suc a) n) f;
+  in-order = omega
+      (arith, last-of-range a n);
+}
   where
     first-each : Each (λ x. x < m) (a ∷ from (suc a) n) → a < m
     first-each (one-more p ps) = p
