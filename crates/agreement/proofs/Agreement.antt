@@ -9,7 +9,6 @@ use Prim.Native.Nat.{ℕ}
 use mathlib.Core.Bool.{false}
 use mathlib.Core.List.{List}
 use lib.IntN.{ℤ}
-use Rattle.agreement.proofs.CompiledCalls.{compiled-back}
 use Rattle.agreement.proofs.ListsOfCalls.{lists-agree}
 use Rattle.agreement.proofs.PlanCalls.{machine-make, outcomes}
 use Rattle.invariants.proofs.CallLists.{Call, make-of}
@@ -18,4 +17,4 @@ use Rattle.meaning.specs.declared.State.{State}
 
 pub agreement : (v : List ℤ) (n : ℕ) → compile-of v n .number ≡ 0 → (xs : List Call) (u : State) → u .started ≡ false
     → outcomes (machine-make (plan-lent n (compile-of v n))) xs u ≡ outcomes (make-of v) xs u
-agreement v n done xs u l = lists-agree v n done (compiled-back v n done) xs u (inl l)
+agreement v n done xs u l = lists-agree v n done xs u (inl l)

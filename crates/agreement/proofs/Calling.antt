@@ -2,14 +2,13 @@
 -- started state that is the chart's own. In the order: the plan machine's test for 6 passes what the chart's passes; the tests 7 and 6;
 -- start; run, post and discard. Assumes nothing.
 use mathlib.Core.Path.{_∙_, _≡_, ap, refl, subst, sym}
-use mathlib.Core.Logic.{_⊎_, inl, inr, ⊎-elim}
+use mathlib.Core.Logic.{inl, inr}
 use Prim.Native.Nat.{_+_, _-_, _<_, _≤_, ℕ}
 use native.Mathlib.Omega.{arith}
-use mathlib.Core.Bool.{Bool, _&&_, false, true}
-use mathlib.Core.List.{List, [], _∷_}
-use lib.ListN.{drop, getD, length, length-drop, length-take, take}
+use mathlib.Core.Bool.{_&&_, true}
+use mathlib.Core.List.{List}
+use lib.ListN.{drop, getD, length, take}
 use lib.Seq.{getD-drop, getD-take, length-take-le, take-append-seam}
-use lib.Dec.{eqb}
 use lib.IntN.{negsuc, pos, ℤ}
 use borrow.Author.Tests.{eq-eqb, lt-ltb}
 use Rattle.agreement.proofs.Stepping.{Blocks-fire, settle-agrees, steps-agree}
@@ -29,9 +28,11 @@ use Rattle.meaning.specs.Chart.{Chart}
 use Rattle.meaning.specs.Compile.{block, code-of, head-order, plan-of, start-block}
 use Rattle.meaning.specs.Effects.{enqueue, enter}
 use Rattle.meaning.specs.Entry.{all-below, by-defaults, visit}
-use Rattle.meaning.specs.Foreign.{event-fits, legal, legal-at, marks-fit, own, plan-own, plan-slot-fits, plan-slots-fit, queue-fits, slots-fit, values-fit}
+use Rattle.meaning.specs.Foreign.{event-fits, legal, legal-at, marks-fit, own, plan-own, plan-slot-fits, plan-slots-fit, queue-fits}
+use Rattle.meaning.specs.Foreign.{slots-fit, values-fit}
 use Rattle.meaning.specs.Lists.{concat-map, every}
-use Rattle.meaning.specs.Machine.{plan-discard, plan-post, plan-react, plan-run, plan-settle, plan-start, plan-start-steps, plan-step, plan-tests, run-block}
+use Rattle.meaning.specs.Machine.{plan-discard, plan-post, plan-react, plan-run, plan-settle, plan-start, plan-start-steps, plan-step}
+use Rattle.meaning.specs.Machine.{plan-tests, run-block}
 use Rattle.meaning.specs.Plan.{Plan}
 use Rattle.meaning.specs.Reaction.{settle, step}
 use Rattle.meaning.specs.Steps.{Step, _then_, bind, each, require}
@@ -43,7 +44,6 @@ use Rattle.numbers.specs.Equal.{eqZ}
 use Rattle.numbers.specs.Reference.{ref}
 use Rattle.queue.specs.Queue.{removed}
 use Rattle.queue.specs.declared.Removed.{Removed}
-use Rattle.sizes.specs.Sizes.{STATES}
 
 -- ---- what passes the chart's test for 6 passes the plan machine's
 
@@ -63,7 +63,8 @@ slots-pass c sl l h = and-both (every (plan-slot-fits n) (take n sl)) (every (eq
     (λ i m. let q : i < n = rw (length-take-le n sl l) at m in
     subst (λ x. plan-slot-fits n x ≡ true) (sym (getD-take n sl i (negsuc 0) q)) (slot-passes c i (getD sl i (negsuc 0)) (h i))))
     (at-every (eqZ (negsuc 0)) (drop n sl) (negsuc 0)
-    (λ i m. subst (λ x. eqZ (negsuc 0) x ≡ true) (sym (getD-drop n sl i (negsuc 0))) (slot-unused c (n + i) (getD sl (n + i) (negsuc 0)) (omega arith) (h (n + i)))))
+    (λ i m. subst (λ x. eqZ (negsuc 0) x ≡ true) (sym (getD-drop n sl i (negsuc 0)))
+    (slot-unused c (n + i) (getD sl (n + i) (negsuc 0)) (omega arith) (h (n + i)))))
   where
     n : ℕ
     n = length (c .states)
@@ -77,7 +78,8 @@ plan-make p to-discard u = plan-discard p u
 
 -- the start block enters the root and its defaults
 abbrev pub entering : Chart → Ctx → Type 0
-entering c k = run-block (c .vars) (pos 0) (start-block c) k ≡ bind (enter c (pos 0) 0 k) (each (visit c (pos 0)) (all-below c by-defaults 0))
+entering c k = run-block (c .vars) (pos 0) (start-block c) k
+    ≡ bind (enter c (pos 0) 0 k) (each (visit c (pos 0)) (all-below c by-defaults 0))
 
 module _ (c : Chart) (r : Sound-chart c) (z : Sized-chart c) where
   own-passes : (u : State) → Own-state c u → plan-own (length (c .states)) (c .vars) (c .events) u ≡ true
@@ -133,8 +135,10 @@ module _ (c : Chart) (r : Sound-chart c) (z : Sized-chart c) where
     start-agrees u n = ap (outcome u)
         (ap (λ b. bind (run-block (c .vars) (pos 0) b k) (plan-settle (plan-of c))) start-code
         ∙ ap (λ x. bind x (plan-settle (plan-of c))) (enters k)
-        ∙ bind-cong-where (Whole c) (bind (enter c (pos 0) 0 k) (each (visit c (pos 0)) (all-below c by-defaults 0))) (plan-settle (plan-of c)) (settle c)
-        (holds-of (Whole c) (bind (enter c (pos 0) 0 k) (each (visit c (pos 0)) (all-below c by-defaults 0))) (start-enters c r z n)) (settle-agrees c r z fires)
+        ∙ bind-cong-where (Whole c) (bind (enter c (pos 0) 0 k) (each (visit c (pos 0)) (all-below c by-defaults 0)))
+        (plan-settle (plan-of c)) (settle c)
+        (holds-of (Whole c) (bind (enter c (pos 0) 0 k) (each (visit c (pos 0)) (all-below c by-defaults 0))) (start-enters c r z n))
+        (settle-agrees c r z fires)
         ∙ bind-assoc (enter c (pos 0) 0 k) (each (visit c (pos 0)) (all-below c by-defaults 0)) (settle c))
       where
         k : Ctx
@@ -142,9 +146,11 @@ module _ (c : Chart) (r : Sound-chart c) (z : Sized-chart c) where
 
     -- ---- run
 
-    react-agrees : (u : State) (n : ℕ) → Own-state c u → plan-react (plan-of c) (removed (u .queue)) (begin u n) ≡ react c (removed (u .queue)) (begin u n)
+    react-agrees : (u : State) (n : ℕ) → Own-state c u
+        → plan-react (plan-of c) (removed (u .queue)) (begin u n) ≡ react c (removed (u .queue)) (begin u n)
     unfolding plan-react react _then_
-    react-agrees u n h = bind-cong-where (Whole c) (take-front q (begin u n)) (plan-step (plan-of c) e a then plan-settle (plan-of c)) (step c e a then settle c)
+    react-agrees u n h = bind-cong-where (Whole c) (take-front q (begin u n)) (plan-step (plan-of c) e a then plan-settle (plan-of c))
+        (step c e a then settle c)
         (holds-of (Whole c) (take-front q (begin u n)) (front-stands c r z u h n))
         (λ j w. ap (λ x. bind x (plan-settle (plan-of c))) (steps-agree c r z fires e a j w)
         ∙ bind-cong-where (Whole c) (step c e a j) (plan-settle (plan-of c)) (settle c)

@@ -3,7 +3,7 @@
 use mathlib.Core.Path.{_∙_, _≡_, ap, refl, subst, sym}
 use Prim.Native.Nat.{_+_, _<_, ℕ}
 use mathlib.Core.Bool.{Bool, cond, false, true}
-use mathlib.Core.List.{List, [], _++_, _∷_, append-assoc, append-nil}
+use mathlib.Core.List.{List, [], _++_, _∷_, append-assoc}
 use lib.ListN.{drop, length, length-append, take}
 use lib.Seq.{drop-append-seam, take-append-seam}
 use Rattle.invariants.proofs.Choosing.{ordered-each}
@@ -25,7 +25,8 @@ pub record Head-for (c : Chart) (code : List Instr) (h : Head) (t : ℕ) : Type 
 -- heads for transitions, one for each, in one order
 pub data Heads-for (c : Chart) (code : List Instr) : List Head → List ℕ → Type 0 where
   no-heads : Heads-for c code [] []
-  one-head : {h : Head} {t : ℕ} {hs : List Head} {ts : List ℕ} → Head-for c code h t → Heads-for c code hs ts → Heads-for c code (h ∷ hs) (t ∷ ts)
+  one-head : {h : Head} {t : ℕ} {hs : List Head} {ts : List ℕ} → Head-for c code h t → Heads-for c code hs ts
+      → Heads-for c code (h ∷ hs) (t ∷ ts)
 
 module _ (c : Chart) (code : List Instr) where
   -- two tests that agree on a head and its transition keep heads and their transitions
@@ -33,10 +34,12 @@ module _ (c : Chart) (code : List Instr) where
       → {hs : List Head} {ts : List ℕ} → Heads-for c code hs ts → Heads-for c code (keep p hs) (keep q ts)
   unfolding keep
   heads-kept p q f no-heads = no-heads
-  heads-kept p q f (one-head {h} {t} {hs} {ts} x xs) = subst (λ b. Heads-for c code (cond b (h ∷ keep p hs) (keep p hs)) (cond (q t) (t ∷ keep q ts) (keep q ts)))
+  heads-kept p q f (one-head {h} {t} {hs} {ts} x xs) = subst
+      (λ b. Heads-for c code (cond b (h ∷ keep p hs) (keep p hs)) (cond (q t) (t ∷ keep q ts) (keep q ts)))
       (sym (f h t x)) (go (q t) (heads-kept p q f xs))
     where
-      go : (b : Bool) → Heads-for c code (keep p hs) (keep q ts) → Heads-for c code (cond b (h ∷ keep p hs) (keep p hs)) (cond b (t ∷ keep q ts) (keep q ts))
+      go : (b : Bool) → Heads-for c code (keep p hs) (keep q ts)
+          → Heads-for c code (cond b (h ∷ keep p hs) (keep p hs)) (cond b (t ∷ keep q ts) (keep q ts))
       go true ih = one-head x ih
       go false ih = ih
 
@@ -59,4 +62,5 @@ module _ (c : Chart) (code : List Instr) where
 pub plan-heads : (c : Chart) → Heads-for c (code-of c) (plan-of c .heads) (head-order c)
 unfolding plan-of code-of head-order all-transitions
 plan-heads c = heads-stand c (code-of c) (start-block c) (head-order c)
-    (ordered-each (λ t. t < length (c .transitions)) c (all-transitions c) (each-range 0 (length (c .transitions)) (length (c .transitions)) (omega arith))) refl
+    (ordered-each (λ t. t < length (c .transitions)) c (all-transitions c)
+    (each-range 0 (length (c .transitions)) (length (c .transitions)) (omega arith))) refl

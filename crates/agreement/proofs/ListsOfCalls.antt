@@ -4,15 +4,14 @@ use mathlib.Core.Path.{_∙_, _≡_, ap, refl}
 use Prim.Native.Nat.{ℕ}
 use mathlib.Core.List.{List, [], _∷_, map}
 use lib.IntN.{ℤ}
-use Rattle.agreement.proofs.CompiledCalls.{Reads-back, one-call}
+use Rattle.agreement.proofs.CompiledCalls.{one-call}
 use Rattle.agreement.proofs.PlanCalls.{Made, Runner, by-chart, by-plan, machine-make, made-by, mixed-outcomes, outcomes}
 use Rattle.invariants.proofs.CallLists.{Call, Lived, make-of, make-of-lives}
-use Rattle.meaning.specs.Calls.{Outcome}
 use Rattle.meaning.specs.Compile.{compile-of, plan-lent}
 use Rattle.meaning.specs.Value.{chart-of}
 use Rattle.meaning.specs.declared.State.{State}
 
-module _ (v : List ℤ) (n : ℕ) (done : compile-of v n .number ≡ 0) (back : Reads-back v) where
+module _ (v : List ℤ) (n : ℕ) (done : compile-of v n .number ≡ 0) where
   abbrev plan : List ℤ
   plan = plan-lent n (compile-of v n)
 
@@ -20,15 +19,16 @@ module _ (v : List ℤ) (n : ℕ) (done : compile-of v n .number ≡ 0) (back : 
   unfolding outcomes
   lists-agree [] u l = refl
   lists-agree (x ∷ xs) u l =
-      ap (λ o. o ∷ outcomes (machine-make plan) xs (o .after)) (one-call v n done back x u l)
+      ap (λ o. o ∷ outcomes (machine-make plan) xs (o .after)) (one-call v n done x u l)
       ∙ ap (λ os. make-of v x u ∷ os) (lists-agree xs (make-of v x u .after) (make-of-lives v x u l .lived))
 
   either-agrees : (r : Runner) (x : Call) (u : State) → Lived (chart-of v) u → made-by v plan r x u ≡ make-of v x u
   unfolding made-by
   either-agrees by-chart x u l = refl
-  either-agrees by-plan x u l = one-call v n done back x u l
+  either-agrees by-plan x u l = one-call v n done x u l
 
-  pub mixed-agree : (xs : List Made) (u : State) → Lived (chart-of v) u → mixed-outcomes v plan xs u ≡ outcomes (make-of v) (map (λ x. x .call) xs) u
+  pub mixed-agree : (xs : List Made) (u : State) → Lived (chart-of v) u
+      → mixed-outcomes v plan xs u ≡ outcomes (make-of v) (map (λ x. x .call) xs) u
   unfolding outcomes mixed-outcomes
   mixed-agree [] u l = refl
   mixed-agree (x ∷ xs) u l =

@@ -1,30 +1,16 @@
--- Spans as ranges of numbers (01, "Span" and "The plan"): when two ranges have a number in common, the first and the last of one, and the
--- span of a transition as a range. Assumes nothing.
-use mathlib.Core.Path.{_∙_, _≡_, ap, refl, subst, sym}
+-- When two ranges of numbers, such as spans are, have a number in common (01, "Chosen" and "The plan"). Assumes nothing.
+use mathlib.Core.Path.{_∙_, _≡_, ap, refl, sym}
 use mathlib.Core.Logic.{_⊎_, inl, inr, ⊎-elim}
 use Prim.Native.Nat.{_+_, _<_, _≤_, suc, zero, ℕ}
 use native.Mathlib.Omega.{arith}
-use native.Mathlib.Nat.{add-zero}
-use mathlib.Core.Bool.{Bool, _&&_, _||_, false, false≢true, true}
-use mathlib.Core.List.{List, [], _∷_}
-use lib.ListN.{length}
+use mathlib.Core.Bool.{Bool, _&&_, false, true}
 use lib.Dec.{eqb, leb}
 use borrow.Author.Tests.{le-leb, lt-leb, ne-eqb}
 use Rattle.invariants.proofs.Choosing.{or-off}
 use Rattle.invariants.proofs.Enters.{in-range}
-use Rattle.invariants.proofs.Stepping.{descendant-has}
 use Rattle.laws.proofs.Lists.{le-or-lt, or-left, or-right}
-use Rattle.laws.proofs.Rules.{Target-facts}
-use Rattle.laws.proofs.Scope.{scope-facts}
-use Rattle.laws.proofs.Sound.{Sound-chart}
-use Rattle.laws.proofs.Tree.{Under, range}
-use Rattle.meaning.specs.Chart.{Chart}
-use Rattle.meaning.specs.Compile.{first-of, last-of}
 use Rattle.meaning.specs.Lists.{exists, from, has}
 use Rattle.meaning.specs.Reaction.{meets}
-use Rattle.meaning.specs.Tree.{descendants, scope, span, span-of, trans-row}
-use Rattle.meaning.specs.declared.chart.Target.{Target}
-use Rattle.meaning.specs.declared.chart.Target.the-variants.{History as history, InPlace as in-place, To as to}
 
 -- ---- what a range has
 
@@ -76,45 +62,3 @@ module _ (a n b m : ℕ) where
       (le-or-lt b (a + n)))
       (λ p. meet-never (inl p) ∙ sym (rw (lt-leb a (b + m) p) refl))
       (le-or-lt a (b + m))
-
--- ---- the first and the last of a range
-
-pub first-of-range : (a n : ℕ) → first-of (from a (suc n)) ≡ a
-unfolding first-of from
-first-of-range a n = refl
-
-pub last-of-range : (a n : ℕ) → last-of (from a (suc n)) ≡ a + n
-unfolding last-of from
-last-of-range a zero = sym (add-zero a)
-last-of-range a (suc n) = last-of-range (suc a) n ∙ omega arith
-
--- ---- the span of a transition
-
--- a list is a range that is not empty
-pub record Range (l : List ℕ) : Type 0 where
-  pub first : ℕ
-  pub more : ℕ
-  pub is : l ≡ from first (suc more)
-
-range-of : (l : List ℕ) (a x : ℕ) → l ≡ from a (length l) → has x l ≡ true → Range l
-unfolding has
-range-of [] a x e h = absurd (false≢true h)
-range-of (y ∷ l) a x e h = record { first = a; more = length l; is = e }
-
-module _ (c : Chart) (h : Sound-chart c) where
-  -- the states below s, of which there is one
-  below-range : (s d : ℕ) → s < length (c .states) → d < length (c .states) → Under c s d → Range (descendants c s)
-  below-range s d l m u = range-of (descendants c s) (suc s) d (range c (h .ordered) s l) (descendant-has c h s d u m)
-
-  span-of-range : (s : ℕ) (x : Target) → s < length (c .states) → Target-facts c s x → Range (span-of c s x)
-  unfolding span-of from
-  span-of-range s (to d) l f =
-      let q = scope-facts c h s d (f .2) (f .1) in below-range (scope c s d) s (q .inside) l (q .above-source)
-  span-of-range s (history b) l f =
-      let q = scope-facts c h s b (f .3) (f .1) in below-range (scope c s b) s (q .inside) l (q .above-source)
-  span-of-range s in-place l f = record { first = s; more = length (descendants c s); is = ap (λ r. s ∷ r) (range c (h .ordered) s l) }
-
-  -- "all proper descendants of the scope; for a reaction in place, the source and its descendants": one range, and not empty
-  pub span-range : (t : ℕ) → t < length (c .transitions) → Range (span c t)
-  unfolding span
-  span-range t l = let f = h .transitions t l in span-of-range (trans-row c t .source) (trans-row c t .target) (f .source) (f .target)

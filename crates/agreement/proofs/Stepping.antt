@@ -1,9 +1,8 @@
 -- Steps and null steps of the compiled plan are those of the chart (01, "They fire in that order", "null steps follow"), wherever the
 -- block of each transition does what its firing does. In the order: one head; the chosen heads; a step; null steps. Assumes nothing.
 use mathlib.Core.Path.{_∙_, _≡_, ap, refl, subst, sym}
-use Prim.Native.Nat.{_<_, suc, zero, ℕ}
-use mathlib.Core.List.{List, [], _∷_}
-use lib.ListN.{length}
+use Prim.Native.Nat.{suc, zero, ℕ}
+use mathlib.Core.List.{List}
 use lib.IntN.{pos, ℤ}
 use Rattle.agreement.proofs.Choosing.{chosen-alike}
 use Rattle.agreement.proofs.Heads.{Head-for, Heads-for, no-heads, one-head}
@@ -18,9 +17,9 @@ use Rattle.laws.proofs.Steps.{Holds, bind-cong-where}
 use Rattle.laws.proofs.Value.{Sized-chart}
 use Rattle.meaning.specs.Chart.{Chart}
 use Rattle.meaning.specs.Compile.{block, code-of, head-of, plan-of}
-use Rattle.meaning.specs.Machine.{chosen-heads, fire-head, head-block, plan-settle, plan-settle-in, plan-step, run-block}
-use Rattle.meaning.specs.Reaction.{chosen, fire, fire-to, if-any, settle, settle-in, step}
-use Rattle.meaning.specs.Steps.{Res, Step, _then_, bind, each, look, ok, refuse, skip}
+use Rattle.meaning.specs.Machine.{fire-head, head-block, plan-settle, plan-settle-in, plan-step, run-block}
+use Rattle.meaning.specs.Reaction.{fire, fire-to, if-any, settle, settle-in, step}
+use Rattle.meaning.specs.Steps.{Res, Step, _then_, bind, each, look, ok, refuse}
 use Rattle.meaning.specs.Tree.{trans-row}
 use Rattle.meaning.specs.Widget.{Ctx, emit, taken}
 use Rattle.meaning.specs.declared.plan.Head.{Head}
@@ -54,7 +53,8 @@ module _ (c : Chart) (r : Sound-chart c) (z : Sized-chart c) (fires : Blocks-fir
       (fire-to c a t (trans-row c t .source) (trans-row c t .target)) (entry-stands t k w e) (λ j q. fires a t j (q .0) (q .1))
 
   -- "They fire in that order"
-  heads-fire : (a : ℤ) {hs : List Head} {ts : List ℕ} → Heads-for c (code-of c) hs ts → Apart c ts → (k : Ctx) → Whole c k → Each (Armed c (k .state)) ts
+  heads-fire : (a : ℤ) {hs : List Head} {ts : List ℕ} → Heads-for c (code-of c) hs ts → Apart c ts → (k : Ctx) → Whole c k
+      → Each (Armed c (k .state)) ts
       → each (fire-head (plan-of c) a) hs k ≡ each (fire c a) ts k
   unfolding each
   heads-fire a no-heads none-apart k w none-left = refl
@@ -71,7 +71,8 @@ module _ (c : Chart) (r : Sound-chart c) (z : Sized-chart c) (fires : Blocks-fir
 
   -- ---- null steps
 
-  any-alike : {hs : List Head} {ts : List ℕ} → Heads-for c (code-of c) hs ts → (F G : Step Ctx) (k : Ctx) → F k ≡ G k → if-any hs F k ≡ if-any ts G k
+  any-alike : {hs : List Head} {ts : List ℕ} → Heads-for c (code-of c) hs ts → (F G : Step Ctx) (k : Ctx) → F k ≡ G k
+      → if-any hs F k ≡ if-any ts G k
   unfolding if-any
   any-alike no-heads F G k e = refl
   any-alike (one-head x xs) F G k e = e
@@ -79,7 +80,8 @@ module _ (c : Chart) (r : Sound-chart c) (z : Sized-chart c) (fires : Blocks-fir
   settle-in-agrees : (n : ℕ) (k : Ctx) → Whole c k → plan-settle-in (plan-of c) n k ≡ settle-in c n k
   unfolding plan-settle-in settle-in look _then_
   settle-in-agrees zero k w = any-alike (chosen-alike c r 0 (k .state)) (λ _. refuse 12) (λ _. refuse 12) k refl
-  settle-in-agrees (suc n) k w = any-alike (chosen-alike c r 0 (k .state)) (plan-step (plan-of c) 0 (pos 0) then plan-settle-in (plan-of c) n)
+  settle-in-agrees (suc n) k w = any-alike (chosen-alike c r 0 (k .state))
+      (plan-step (plan-of c) 0 (pos 0) then plan-settle-in (plan-of c) n)
       (step c 0 (pos 0) then settle-in c n) k
       (ap (λ x. bind x (plan-settle-in (plan-of c) n)) (steps-agree 0 (pos 0) k w)
       ∙ bind-cong-where (Whole c) (step c 0 (pos 0) k) (plan-settle-in (plan-of c) n) (settle-in c n)

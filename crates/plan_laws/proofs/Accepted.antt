@@ -1,25 +1,24 @@
 -- A plan that fits is well formed: each test of 01's definition passes on the plan's numbers, whatever follows them. In the order of
 -- the definition: counts, variables, heads, blocks, instructions, the plan. Assumes nothing.
-use mathlib.Core.Path.{_∙_, _≡_, ap, refl, sym}
-use Prim.Native.Nat.{_*_, _+_, _<_, _≤_, suc, zero, ℕ}
+use mathlib.Core.Path.{_∙_, _≡_, ap, refl}
+use Prim.Native.Nat.{_+_, _≤_, suc, ℕ}
 use native.Mathlib.Omega.{arith}
 use mathlib.Core.Bool.{Bool, _&&_, false, false≢true, true}
 use mathlib.Core.List.{List, [], _++_, _∷_, append-assoc, map}
 use lib.ListN.{drop, length, length-append}
 use lib.Seq.{drop-at}
-use lib.IntN.{negsuc, pos, ℤ}
-use lib.Dec.{eqb, leb, ltb}
+use lib.IntN.{pos, ℤ}
 use borrow.Author.Tests.{eq-eqb, le-leb, lt-ltb}
 use Rattle.laws.proofs.Lists.{Each, and-both, none-left, one-more}
 use Rattle.laws.proofs.Trace.{concat-map-joined}
-use Rattle.laws.proofs.Value.{Row-in-range}
 use Rattle.meaning.specs.Lists.{concat-map, every}
-use Rattle.meaning.specs.Plan.{Plan, act-numbers, guard-numbers, head-numbers, instr-numbers, plan-numbers, sign-number, six, slot-number, var-numbers}
-use Rattle.meaning.specs.Rules.{row-fits}
+use Rattle.meaning.specs.Plan.{Plan, act-numbers, guard-numbers, head-numbers, instr-numbers, plan-numbers, sign-number, six, slot-number}
+use Rattle.meaning.specs.Plan.{var-numbers}
 use Rattle.meaning.specs.Value.{VAR-ROW, num, var-by, var-statable}
-use Rattle.meaning.specs.WellFormed.{HEAD-ROW, INSTR-ROW, SIX, all-blocks-fill, blocks-fill, code-at, code-fits, counts-keep, counts-of, field-fits}
-use Rattle.meaning.specs.WellFormed.{form-fits, head-fits, head-guard-fits, head-rows, heads-at, instr-fits, is-whole, left-after-each, left-in-blocks}
-use Rattle.meaning.specs.WellFormed.{plan-end, rows-well-formed, span-fits, var-keeps, var-rows, well-formed}
+use Rattle.meaning.specs.WellFormed.{HEAD-ROW, INSTR-ROW, all-blocks-fill, blocks-fill, code-at, code-fits, counts-keep, counts-of}
+use Rattle.meaning.specs.WellFormed.{field-fits, form-fits, head-fits, head-guard-fits, head-rows, heads-at, instr-fits, is-whole}
+use Rattle.meaning.specs.WellFormed.{left-after-each, left-in-blocks, plan-end, rows-well-formed, span-fits, var-keeps, var-rows}
+use Rattle.meaning.specs.WellFormed.{well-formed}
 use Rattle.meaning.specs.declared.chart.Act.the-variants.{AddTo as add-to, Send as send, SetTo as set-to, TakeTo as take-to, Tell as tell}
 use Rattle.meaning.specs.declared.chart.Guard.{Guard}
 use Rattle.meaning.specs.declared.chart.Guard.the-variants.{Always as always, Compares as compares}
@@ -28,12 +27,14 @@ use Rattle.meaning.specs.declared.chart.VarRow.{VarRow}
 use Rattle.meaning.specs.declared.plan.Counts.{Counts}
 use Rattle.meaning.specs.declared.plan.Head.{Head}
 use Rattle.meaning.specs.declared.plan.Instr.{Instr}
-use Rattle.meaning.specs.declared.plan.Instr.the-variants.{Does as does, In as go-in, Out as go-out, SkipEmpty as skip-empty, SkipFull as skip-full}
-use Rattle.meaning.specs.declared.plan.Instr.the-variants.{SkipNot as skip-not, SkipOut as skip-out}
+use Rattle.meaning.specs.declared.plan.Instr.the-variants.{Does as does, In as go-in, Out as go-out, SkipEmpty as skip-empty}
+use Rattle.meaning.specs.declared.plan.Instr.the-variants.{SkipFull as skip-full, SkipNot as skip-not, SkipOut as skip-out}
 use Rattle.numbers.specs.Reference.{ref}
 use Rattle.numbers.specs.declared.Place.the-variants.{At as holds, Empty as empty}
-use Rattle.plan_laws.proofs.Fits.{Fills, Fits, Guard-fits, Head-fits, Instr-fits, Piece, Var-fits, next-block, no-piece, one-instr, to-the-end}
-use Rattle.plan_laws.proofs.ReadBack.{Sayable, after-heads, counts, counts-back, head-long, head-rows-back, instr-long, var-long, var-rows-back}
+use Rattle.plan_laws.proofs.Fits.{Fills, Fits, Guard-fits, Head-fits, Instr-fits, Piece, Var-fits, next-block, no-piece, one-instr}
+use Rattle.plan_laws.proofs.Fits.{to-the-end}
+use Rattle.plan_laws.proofs.ReadBack.{Sayable, after-heads, counts, counts-back, head-long, head-rows-back, instr-long, var-long}
+use Rattle.plan_laws.proofs.ReadBack.{var-rows-back}
 use Rattle.plan_laws.proofs.Rows.{rows-long}
 use Rattle.sizes.specs.Sizes.{EVENTS, INSTRUCTIONS, STATES, TRANSITIONS, VARIABLES}
 
@@ -49,6 +50,19 @@ if-passed true x e = refl
 if-passed false x e = absurd (false≢true e)
 
 -- ---- counts
+
+-- a plan's numbers end where its counts say
+pub plan-long : (p : Plan) → length (plan-numbers p) ≡ plan-end (counts p)
+unfolding plan-numbers six plan-end code-at heads-at counts
+plan-long p =
+    ap (λ n. suc (suc (suc (suc (suc (suc n))))))
+    (length-append (concat-map var-numbers (p .vars)) _
+    ∙ ap (λ n. length (concat-map var-numbers (p .vars)) + n) (length-append (concat-map head-numbers (p .heads)) _))
+    ∙ rw (
+      rows-long var-numbers VAR-ROW var-long (p .vars),
+      rows-long head-numbers HEAD-ROW head-long (p .heads),
+      rows-long instr-numbers INSTR-ROW instr-long (p .code),
+    ) (omega arith)
 
 module _ (p : Plan) (rest : List ℤ) where
   counts-pass : Sayable p → 2 ≤ p .states → counts-keep (plan-numbers p ++ rest) ≡ true
@@ -67,17 +81,9 @@ module _ (p : Plan) (rest : List ℤ) where
         le-leb (length (p .code)) INSTRUCTIONS (h .code),
       )
 
-  -- a plan's numbers end where its counts say
-  pub plan-long : length (plan-numbers p) ≡ plan-end (counts p)
-  unfolding plan-numbers six plan-end code-at heads-at counts
-  plan-long =
-      ap (λ n. suc (suc (suc (suc (suc (suc n))))))
-      (length-append (concat-map var-numbers (p .vars)) _ ∙ ap (λ n. length (concat-map var-numbers (p .vars)) + n) (length-append (concat-map head-numbers (p .heads)) _))
-      ∙ rw (rows-long var-numbers VAR-ROW var-long (p .vars), rows-long head-numbers HEAD-ROW head-long (p .heads), rows-long instr-numbers INSTR-ROW instr-long (p .code)) (omega arith)
-
   whole : is-whole (plan-numbers p ++ rest) (counts p) ≡ true
   unfolding is-whole
-  whole = le-leb (plan-end (counts p)) (length (plan-numbers p ++ rest)) (omega (arith, plan-long, length-append (plan-numbers p) rest))
+  whole = le-leb (plan-end (counts p)) (length (plan-numbers p ++ rest)) (omega (arith, plan-long p, length-append (plan-numbers p) rest))
 
 -- ---- variables
 
@@ -88,7 +94,8 @@ var-passes r h = rw (h .in-order, h .in-range .low, h .in-range .high, h .in-ran
 -- ---- heads
 
 guard-passes : (k : Counts) (g : Guard) (a b c : ℤ) (l : List ℤ) → Guard-fits k g
-    → head-guard-fits k (num (a ∷ b ∷ c ∷ guard-numbers g ++ l) 3) (num (a ∷ b ∷ c ∷ guard-numbers g ++ l) 4) (num (a ∷ b ∷ c ∷ guard-numbers g ++ l) 5) ≡ true
+    → head-guard-fits k (num (a ∷ b ∷ c ∷ guard-numbers g ++ l) 3) (num (a ∷ b ∷ c ∷ guard-numbers g ++ l) 4)
+    (num (a ∷ b ∷ c ∷ guard-numbers g ++ l) 5) ≡ true
 unfolding head-guard-fits guard-numbers sign-number
 guard-passes k always a b c l h = refl
 guard-passes k (compares v equal x) a b c l h = rw (lt-ltb v (k .vars) (h .0), h .1)
@@ -96,7 +103,8 @@ guard-passes k (compares v less x) a b c l h = rw (lt-ltb v (k .vars) (h .0), h 
 guard-passes k (compares v more x) a b c l h = rw (lt-ltb v (k .vars) (h .0), h .1)
 
 -- what stands after the guard
-past-guard : (g : Guard) (a b c : ℤ) (l : List ℤ) (i : ℕ) → num (a ∷ b ∷ c ∷ guard-numbers g ++ l) (suc (suc (suc (suc (suc (suc i)))))) ≡ num l i
+past-guard : (g : Guard) (a b c : ℤ) (l : List ℤ) (i : ℕ)
+    → num (a ∷ b ∷ c ∷ guard-numbers g ++ l) (suc (suc (suc (suc (suc (suc i)))))) ≡ num l i
 unfolding guard-numbers
 past-guard always a b c l i = refl
 past-guard (compares v g x) a b c l i = refl
@@ -147,7 +155,8 @@ lengths-back (h ∷ hs) = rw (head-end h 3, lengths-back hs)
 
 -- ---- instructions
 
-instr-passes : (k : Counts) (left : ℕ) (i : Instr) (rest : List ℤ) → Instr-fits k left i → instr-fits k left (instr-numbers i ++ rest) ≡ true
+instr-passes : (k : Counts) (left : ℕ) (i : Instr) (rest : List ℤ) → Instr-fits k left i
+    → instr-fits k left (instr-numbers i ++ rest) ≡ true
 unfolding instr-fits form-fits field-fits instr-numbers act-numbers slot-number
 instr-passes k left (go-in s) rest h = rw (lt-ltb s (k .states) h)
 instr-passes k left (go-out s empty) rest h = rw (lt-ltb s (k .states) (h .0))
@@ -164,7 +173,8 @@ instr-passes k left (does (send e x)) rest h = rw (le-leb 1 e (h .0), le-leb e (
 instr-passes k left (does (tell x)) rest h = rw h
 
 -- an instruction that passes: the next is looked at
-next-instr : (k : Counts) (left : ℕ) (lefts : List ℕ) (ns : List ℤ) → instr-fits k left ns ≡ true → code-fits k (left ∷ lefts) ns ≡ code-fits k lefts (drop INSTR-ROW ns)
+next-instr : (k : Counts) (left : ℕ) (lefts : List ℕ) (ns : List ℤ) → instr-fits k left ns ≡ true
+    → code-fits k (left ∷ lefts) ns ≡ code-fits k lefts (drop INSTR-ROW ns)
 unfolding code-fits
 next-instr k left lefts ns e = if-passed (instr-fits k left ns) (code-fits k lefts (drop INSTR-ROW ns)) e
 
@@ -177,15 +187,17 @@ piece-passes k (i ∷ is) lefts rest (one-instr p ps) =
     let more = concat-map instr-numbers is ++ rest in
     rw (append-assoc (instr-numbers i) (concat-map instr-numbers is) rest)
     (next-instr k (length is) (left-after-each (length is) ++ lefts) (instr-numbers i ++ more) (instr-passes k (length is) i more p)
-    ∙ ap (code-fits k (left-after-each (length is) ++ lefts)) (drop-at (instr-numbers i) more INSTR-ROW (instr-long i)) ∙ piece-passes k is lefts rest ps)
+    ∙ ap (code-fits k (left-after-each (length is) ++ lefts)) (drop-at (instr-numbers i) more INSTR-ROW (instr-long i))
+    ∙ piece-passes k is lefts rest ps)
 
 pieces-pass : (k : Counts) (bs : List (List Instr)) (rest : List ℤ) → Each (Piece k) bs
     → code-fits k (concat-map left-after-each (map length bs)) (concat-map instr-numbers (concat-map (λ b. b) bs) ++ rest) ≡ true
 unfolding concat-map code-fits
 pieces-pass k [] rest none-left = refl
 pieces-pass k (b ∷ bs) rest (one-more p ps) =
-    rw (concat-map-joined instr-numbers b (concat-map (λ x. x) bs), append-assoc (concat-map instr-numbers b) (concat-map instr-numbers (concat-map (λ x. x) bs)) rest)
-    (piece-passes k b (concat-map left-after-each (map length bs)) (concat-map instr-numbers (concat-map (λ x. x) bs) ++ rest) p ∙ pieces-pass k bs rest ps)
+    let more = concat-map instr-numbers (concat-map (λ x. x) bs) in
+    rw (concat-map-joined instr-numbers b (concat-map (λ x. x) bs), append-assoc (concat-map instr-numbers b) more rest)
+    (piece-passes k b (concat-map left-after-each (map length bs)) (more ++ rest) p ∙ pieces-pass k bs rest ps)
 
 -- ---- the plan
 
@@ -198,21 +210,29 @@ well-formed-by ns k e a b r =
 module _ (p : Plan) (rest : List ℤ) (f : Fits p) where
   blocks-pass : all-blocks-fill (plan-numbers p ++ rest) (counts p) ≡ true
   unfolding all-blocks-fill plan-numbers six counts
-  blocks-pass = rw (head-rows-back p rest, le-leb 0 (p .start-length) (omega arith)) (fills-pass (length (p .code)) (p .start-length) (p .heads) (f .fills))
+  blocks-pass =
+      rw (head-rows-back p rest, le-leb 0 (p .start-length) (omega arith))
+      (fills-pass (length (p .code)) (p .start-length) (p .heads) (f .fills))
 
   lefts-back : left-in-blocks (plan-numbers p ++ rest) (counts p) ≡ concat-map left-after-each (map length (f .blocks))
   unfolding left-in-blocks counts
-  lefts-back = ap (λ l. concat-map left-after-each (p .start-length ∷ l)) (rw (head-rows-back p rest) (lengths-back (p .heads))) ∙ ap (concat-map left-after-each) (f .lengths)
+  lefts-back =
+      ap (λ l. concat-map left-after-each (p .start-length ∷ l)) (rw (head-rows-back p rest) (lengths-back (p .heads)))
+      ∙ ap (concat-map left-after-each) (f .lengths)
 
-  code-passes : code-fits (counts p) (left-in-blocks (plan-numbers p ++ rest) (counts p)) (drop (code-at (counts p)) (plan-numbers p ++ rest)) ≡ true
+  code-passes :
+      code-fits (counts p) (left-in-blocks (plan-numbers p ++ rest) (counts p)) (drop (code-at (counts p)) (plan-numbers p ++ rest)) ≡ true
   code-passes =
-      rw (lefts-back, after-heads p rest) (ap (λ l. code-fits (counts p) (concat-map left-after-each (map length (f .blocks))) (concat-map instr-numbers l ++ rest)) (f .code)
+      rw (lefts-back, after-heads p rest)
+      (ap (λ l. code-fits (counts p) (concat-map left-after-each (map length (f .blocks))) (concat-map instr-numbers l ++ rest)) (f .code)
       ∙ pieces-pass (counts p) (f .blocks) rest (f .pieces))
 
   rows-pass : rows-well-formed (plan-numbers p ++ rest) (counts p) ≡ true
   unfolding rows-well-formed
   rows-pass =
-      if-passed (every var-keeps (var-rows ns (counts p)) && (every (head-fits (counts p)) (head-rows ns (counts p)) && all-blocks-fill ns (counts p)))
+      if-passed
+      (every var-keeps (var-rows ns (counts p))
+      && (every (head-fits (counts p)) (head-rows ns (counts p)) && all-blocks-fill ns (counts p)))
       (code-fits (counts p) (left-in-blocks ns (counts p)) (drop (code-at (counts p)) ns))
       (rw (
         var-rows-back p rest,

@@ -1,26 +1,26 @@
 -- The plan of a chart that passes the rules (01, "The plan"): its numbers, whatever follows them, read back as the plan and are well
 -- formed. First for a chart, then for a chart handed over as a value, then for what compiling leaves in a lent slice. Assumes nothing.
-use mathlib.Core.Path.{_∙_, _≡_, ap, refl, subst, sym}
-use Prim.Native.Nat.{_+_, _-_, _<_, _≤_, suc, ℕ}
+use mathlib.Core.Path.{_≡_, ap, refl, subst, sym}
+use Prim.Native.Nat.{_-_, _<_, suc, ℕ}
 use native.Mathlib.Omega.{arith}
-use mathlib.Core.Bool.{Bool, true}
+use mathlib.Core.Bool.{Bool, cond, false, true}
 use mathlib.Core.List.{List, [], _++_, _∷_, map}
-use mathlib.Core.Option.{none}
-use lib.ListN.{getD, length, length-append}
-use lib.IntN.{ℤ}
+use mathlib.Core.Option.{Option, none, some}
+use lib.ListN.{getD, length, length-append, replicate}
+use lib.Dec.{ltb}
+use lib.IntN.{pos, ℤ}
 use Rattle.laws.proofs.Lists.{Each, none-left, one-more}
 use Rattle.laws.proofs.Sound.{Sound-chart, sound-chart}
 use Rattle.laws.proofs.Value.{Sized-chart, sized-chart, value-passes}
 use Rattle.meaning.specs.Chart.{Chart, no-var}
-use Rattle.meaning.specs.Compile.{block, code-of, compile, head-order, heads-from, plan-of, start-block}
-use Rattle.meaning.specs.Lists.{concat-map}
+use Rattle.meaning.specs.Compile.{Compiling, block, code-of, compile, compile-of, compiled-into, head-order, heads-from, not-compiled}
+use Rattle.meaning.specs.Compile.{plan-lent, plan-of, start-block}
+use Rattle.meaning.specs.Lists.{concat-map, padded}
 use Rattle.meaning.specs.Rules.{failing-rule, failing-rule-of, row-fits}
 use Rattle.meaning.specs.Tree.{var-row}
 use Rattle.meaning.specs.Value.{chart-of}
 use Rattle.meaning.specs.WellFormed.{plan-by, well-formed}
-use Rattle.meaning.specs.declared.chart.VarRow.{VarRow}
 use Rattle.meaning.specs.declared.plan.Counts.{Counts}
-use Rattle.meaning.specs.declared.plan.Instr.{Instr}
 use Rattle.plan_laws.proofs.Accepted.{fits-well-formed}
 use Rattle.plan_laws.proofs.Counted.{code-bound}
 use Rattle.plan_laws.proofs.Fits.{Fills, Fits, Piece, Var-fits}
@@ -56,7 +56,8 @@ module _ (c : Chart) (h : Sound-chart c) (z : Sized-chart c) where
 
   vars-fit : Each Var-fits (c .vars)
   unfolding row-fits var-row
-  vars-fit = each-of Var-fits no-var (c .vars) (λ v l. record { in-order = rw (h .rows v l .0) (h .rows v l .1); in-range = z .rows-range v l })
+  vars-fit = each-of Var-fits no-var (c .vars)
+      (λ v l. record { in-order = rw (h .rows v l .0) (h .rows v l .1); in-range = z .rows-range v l })
 
   blocks-pieces : (ts : List ℕ) → Each (λ t. t < length (c .transitions)) ts → Each (Piece k) (map (block c) ts)
   blocks-pieces [] none-left = none-left
@@ -93,3 +94,39 @@ module _ (v : List ℤ) (e : failing-rule-of v ≡ none) (rest : List ℤ) where
 
   pub value-well-formed : well-formed (compile (chart-of v) ++ rest) ≡ true
   value-well-formed = compiled-well-formed (chart-of v) (value-passes v e .1) (sized-chart v (value-passes v e .0)) rest
+
+-- ---- what compiling leaves in n lent numbers, where it is done
+
+module _ (v : List ℤ) (n : ℕ) where
+  -- what holds of the plan's numbers, whatever follows them, holds of the slice
+  pub lent : (P : List ℤ → Type 0) → (failing-rule-of v ≡ none → (rest : List ℤ) → P (compile (chart-of v) ++ rest))
+      → compile-of v n .number ≡ 0 → P (plan-lent n (compile-of v n))
+  unfolding compile-of compiled-into not-compiled plan-lent padded
+  lent P f = by-rule (failing-rule-of v) refl
+    where
+      plan : List ℤ
+      plan = compile (chart-of v)
+
+      placed : Bool → Compiling
+      placed b = cond b (not-compiled 4 0) (record { number = 0; place = 0; plan = plan })
+
+      by-room : failing-rule-of v ≡ none → (b : Bool) → placed b .number ≡ 0 → P (plan-lent n (placed b))
+      by-room q true e = absurd (omega arith)
+      by-room q false e = f q (replicate (n - length plan) (pos 0))
+
+      given : Option ℕ → Compiling
+      given o = elim o [ none ↦ compiled-into n plan | some r ↦ not-compiled 3 r ]
+
+      by-rule : (o : Option ℕ) → failing-rule-of v ≡ o → given o .number ≡ 0 → P (plan-lent n (given o))
+      by-rule none q e = by-room q (ltb n (length plan)) e
+      by-rule (some r) q e = absurd (omega arith)
+
+  pub lent-read-back : compile-of v n .number ≡ 0 → plan-by (plan-lent n (compile-of v n)) ≡ plan-of (chart-of v)
+  lent-read-back = lent (λ ns. plan-by ns ≡ plan-of (chart-of v)) (value-read-back v)
+
+  pub lent-well-formed : compile-of v n .number ≡ 0 → well-formed (plan-lent n (compile-of v n)) ≡ true
+  lent-well-formed = lent (λ ns. well-formed ns ≡ true) (value-well-formed v)
+
+  -- and the chart passes the rules
+  pub lent-ruled : compile-of v n .number ≡ 0 → failing-rule-of v ≡ none
+  lent-ruled = lent (λ ns. failing-rule-of v ≡ none) (λ e rest. e)

@@ -1,7 +1,7 @@
 -- The heads of a chart's plan fit, and its blocks fill the instructions with no gaps: heads and code walk the same lengths.
 -- Assumes nothing.
-use mathlib.Core.Path.{_∙_, _≡_, ap, refl, subst, sym}
-use Prim.Native.Nat.{_+_, _<_, _≤_, suc, zero, ℕ}
+use mathlib.Core.Path.{_≡_, ap, refl, subst}
+use Prim.Native.Nat.{_+_, _<_, suc, ℕ}
 use native.Mathlib.Omega.{arith}
 use mathlib.Core.List.{List, [], _++_, _∷_, map}
 use lib.ListN.{length, length-append}
@@ -16,11 +16,9 @@ use Rattle.meaning.specs.Tree.{trans-row}
 use Rattle.meaning.specs.declared.chart.Guard.{Guard}
 use Rattle.meaning.specs.declared.chart.Guard.the-variants.{Always as always, Compares as compares}
 use Rattle.meaning.specs.declared.plan.Counts.{Counts}
-use Rattle.meaning.specs.declared.plan.Instr.{Instr}
 use Rattle.plan_laws.proofs.Fits.{Fills, Guard-fits, Head-fits, next-block, to-the-end}
 use Rattle.plan_laws.proofs.Pieces.{Counts-of}
 use Rattle.plan_laws.proofs.Spans.{span-fits}
-use Rattle.sizes.specs.Sizes.{TRANSITIONS}
 
 -- ---- each head fits
 
@@ -58,7 +56,8 @@ module _ (c : Chart) where
   heads-fill at (t ∷ ts) =
       let e : (at + length (block c t)) + length (concat-map (block c) ts) ≡ at + length (block c t ++ concat-map (block c) ts)
       = omega (arith, length-append (block c t) (concat-map (block c) ts)) in
-      next-block refl (subst (λ n. Fills n (at + length (block c t)) (heads-from c (at + length (block c t)) ts)) e (heads-fill (at + length (block c t)) ts))
+      let next : ℕ = at + length (block c t) in
+      next-block refl (subst (λ n. Fills n next (heads-from c next ts)) e (heads-fill next ts))
 
   pub heads-lengths : (at : ℕ) (ts : List ℕ) → map (λ h. h .length) (heads-from c at ts) ≡ map length (map (block c) ts)
   unfolding heads-from head-of

@@ -10,5 +10,7 @@ pub mod Totals
 pub mod Owned
 pub mod Order
 pub mod Lines
+pub mod Entered
 pub mod Counted
 pub mod Compiled
+pub mod Room

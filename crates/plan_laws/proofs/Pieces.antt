@@ -1,12 +1,13 @@
 -- The blocks of a chart that passes the rules: each piece names states, variables and events of the chart and constants in range, and
 -- its skips stay within it. In the order of 01, "A block": acts, exits, entries, the two arms of a history, blocks. Assumes nothing.
-use mathlib.Core.Path.{_∙_, _≡_, refl, subst, sym}
-use Prim.Native.Nat.{_+_, _<_, _≤_, suc, zero, ℕ}
+use mathlib.Core.Path.{_≡_, refl, subst, sym}
+use Prim.Native.Nat.{_<_, suc, zero, ℕ}
 use native.Mathlib.Omega.{arith}
 use mathlib.Core.Bool.{Bool, cond, false, true}
-use mathlib.Core.List.{List, [], _++_, _∷_, map, reverse}
+use mathlib.Core.List.{List, [], _∷_, map}
 use lib.ListN.{length, length-append}
 use lib.Dec.{eqb}
+use Rattle.laws.proofs.Descent.{Sound}
 use Rattle.laws.proofs.Lists.{Each, each-both, each-reversed, each-weaker, none-left, one-more}
 use Rattle.laws.proofs.Rules.{Act-facts, Target-facts}
 use Rattle.laws.proofs.Scope.{scope-facts}
@@ -14,22 +15,22 @@ use Rattle.laws.proofs.Sound.{Sound-chart, acts-each, acts-sound}
 use Rattle.laws.proofs.Value.{Act-in-range, Sized-chart}
 use Rattle.laws.proofs.Ways.{defaults-sound, owner-sound, towards-sound}
 use Rattle.meaning.specs.Chart.{Chart}
-use Rattle.meaning.specs.Compile.{arms, arms-of, block, block-to, code-acts, default-arm, enter-code, exit-code, exits-code, held-code, past-if-out}
-use Rattle.meaning.specs.Compile.{start-block, stored-arm, stored-code, towards-code, visit-code}
+use Rattle.meaning.specs.Compile.{arms, arms-of, block, block-to, code-acts, default-arm, enter-code, exit-code, exits-code, held-code}
+use Rattle.meaning.specs.Compile.{past-if-out, start-block, stored-arm, stored-code, towards-code, visit-code}
 use Rattle.meaning.specs.Effects.{acts-of, o-parent}
-use Rattle.meaning.specs.Entry.{Visit, all-below, by-default, by-defaults, plain, state-of, towards, towards-owner}
-use Rattle.meaning.specs.Lists.{at-value, concat-map}
+use Rattle.meaning.specs.Lists.{concat-map, at-value}
+use Rattle.meaning.specs.Entry.{Visit, Way, all-below, by-default, by-defaults, plain, state-of, towards, towards-owner}
 use Rattle.meaning.specs.Tree.{descendants, is-o, kind-of, parent-of, scope, trans-row}
 use Rattle.meaning.specs.declared.chart.Act.{Act}
 use Rattle.meaning.specs.declared.chart.Act.the-variants.{AddTo as add-to, Send as send, SetTo as set-to, TakeTo as take-to, Tell as tell}
 use Rattle.meaning.specs.declared.chart.Kind.{Kind}
 use Rattle.meaning.specs.declared.chart.Kind.the-variants.{A as kind-a, B as kind-b, O as kind-o}
 use Rattle.meaning.specs.declared.chart.Owner.{Owner}
-use Rattle.meaning.specs.declared.chart.Owner.the-variants.{DefaultOf as default-of, EntryOf as entry-of, ExitOf as exit-of, TransitionOf as transition-of}
+use Rattle.meaning.specs.declared.chart.Owner.the-variants.{DefaultOf as default-of, EntryOf as entry-of, ExitOf as exit-of}
+use Rattle.meaning.specs.declared.chart.Owner.the-variants.{TransitionOf as transition-of}
 use Rattle.meaning.specs.declared.chart.Target.{Target}
 use Rattle.meaning.specs.declared.chart.Target.the-variants.{History as history, InPlace as in-place, To as to}
 use Rattle.meaning.specs.declared.plan.Counts.{Counts}
-use Rattle.meaning.specs.declared.plan.Instr.{Instr}
 use Rattle.meaning.specs.declared.plan.Instr.the-variants.{Does as does, Out as go-out, SkipEmpty as skip-empty}
 use Rattle.numbers.specs.declared.Place.the-variants.{At as holds, Empty as empty}
 use Rattle.plan_laws.proofs.Below.{descendants-each, visits-each}
@@ -90,7 +91,9 @@ module _ (c : Chart) (h : Sound-chart c) (z : Sized-chart c) (k : Counts) (q : C
 
   exit-piece : (s : ℕ) → s < length (c .states) → Piece k (exit-code c s)
   unfolding exit-code
-  exit-piece s l = skip-out-piece k s _ _ (inside s l) (omega arith) (one-instr {i = go-out s (o-parent c s)} (inside s l, slot-fits s l) (acts-piece (exit-of s)))
+  exit-piece s l =
+      skip-out-piece k s _ _ (inside s l) (omega arith)
+      (one-instr {i = go-out s (o-parent c s)} (inside s l, slot-fits s l) (acts-piece (exit-of s)))
 
   -- ---- entries
 
@@ -105,6 +108,9 @@ module _ (c : Chart) (h : Sound-chart c) (z : Sized-chart c) (k : Counts) (q : C
       (subst (Piece k) (sym (at-value-is (λ o. code-acts c (default-of o)) p)) (acts-piece (default-of p)))
       (subst (Piece k) (sym (at-value-is (enter-code c) s)) (enter-piece s l))
 
+  visits-piece : (way : ℕ → Way) → Sound c way → (s : ℕ) → s < length (c .states) → Piece k (concat-map (visit-code c) (all-below c way s))
+  visits-piece way g s l = pieces-joined k (visit-code c) (λ v. state-of v < length (c .states)) visit-piece _ (visits-each c h s l way g)
+
   -- ---- the two arms
 
   held-piece : (x : Kind) (p d : ℕ) → p < k .states → d < length (c .states) → Piece k (held-code c x p d)
@@ -115,16 +121,19 @@ module _ (c : Chart) (h : Sound-chart c) (z : Sized-chart c) (k : Counts) (q : C
 
   stored-piece : (d : ℕ) → 0 < d → d < length (c .states) → Piece k (stored-code c d)
   unfolding stored-code past-if-out
-  stored-piece d m l = skip-out-piece k _ _ _ (parent-inside d m l) (omega arith) (held-piece (kind-of c (parent-of c d)) (parent-of c d) d (parent-inside d m l) l)
+  stored-piece d m l =
+      let p : ℕ = parent-of c d in
+      skip-out-piece k p _ _ (parent-inside d m l) (omega arith) (held-piece (kind-of c p) p d (parent-inside d m l) l)
 
   arms-piece : (b : ℕ) → b < length (c .states) → Piece k (arms c b)
   unfolding arms arms-of default-arm stored-arm
   arms-piece b l =
-      skip-full-piece k b _ _ (inside b l) (omega (arith, length-append (default-arm c b) (skip-empty b (length (stored-arm c b)) ∷ stored-arm c b)))
-      (piece-joined k _ _
-      (pieces-joined k (visit-code c) (λ v. state-of v < length (c .states)) visit-piece _ (visits-each c h b l by-defaults (defaults-sound c h)))
+      skip-full-piece k b _ _ (inside b l)
+      (omega (arith, length-append (default-arm c b) (skip-empty b (length (stored-arm c b)) ∷ stored-arm c b)))
+      (piece-joined k _ _ (visits-piece by-defaults (defaults-sound c h) b l)
       (skip-empty-piece k b _ _ (inside b l) (omega arith)
-      (pieces-joined k (stored-code c) (λ d. (b < d) × (d < length (c .states))) (λ d p. stored-piece d (omega (arith, p .0)) (p .1)) _ (descendants-each c h b l))))
+      (pieces-joined k (stored-code c) (λ d. (b < d) × (d < length (c .states))) (λ d p. stored-piece d (omega (arith, p .0)) (p .1)) _
+      (descendants-each c h b l))))
 
   towards-piece : (b : ℕ) → b < length (c .states) → (v : Visit) → state-of v < length (c .states) → Piece k (towards-code c b v)
   unfolding towards-code
@@ -146,8 +155,8 @@ module _ (c : Chart) (h : Sound-chart c) (z : Sized-chart c) (k : Counts) (q : C
   block-to-piece t s (to d) f =
       let x = scope c s d in
       let i = scope-facts c h s d (f .2) (f .1) .inside in
-      piece-joined k _ _ (exits-piece x i) (piece-joined k _ _ (acts-piece (transition-of t))
-      (pieces-joined k (visit-code c) (λ v. state-of v < length (c .states)) visit-piece _ (visits-each c h x i (towards c d) (towards-sound c h d (f .0)))))
+      piece-joined k _ _ (exits-piece x i)
+      (piece-joined k _ _ (acts-piece (transition-of t)) (visits-piece (towards c d) (towards-sound c h d (f .0)) x i))
   block-to-piece t s (history b) f =
       let x = scope c s b in
       let i = scope-facts c h s b (f .3) (f .1) .inside in
@@ -164,5 +173,4 @@ module _ (c : Chart) (h : Sound-chart c) (z : Sized-chart c) (k : Counts) (q : C
   unfolding start-block
   start-piece =
       let l : 0 < length (c .states) = omega (arith, h .two) in
-      piece-joined k _ _ (enter-piece 0 l)
-      (pieces-joined k (visit-code c) (λ v. state-of v < length (c .states)) visit-piece _ (visits-each c h 0 l by-defaults (defaults-sound c h)))
+      piece-joined k _ _ (enter-piece 0 l) (visits-piece by-defaults (defaults-sound c h) 0 l)

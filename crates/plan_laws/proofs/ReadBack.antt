@@ -1,18 +1,18 @@
 -- A plan read back from its numbers is the plan, whatever follows it in the slice (01, "The plan"): the rows of each kind, the six
 -- counts, then the plan. Only the counts must keep their sizes: every field of a head or an instruction reads back. Assumes nothing.
 use mathlib.Core.Path.{_∙_, _≡_, ap, refl, sym}
-use Prim.Native.Nat.{_*_, _+_, _≤_, suc, zero, ℕ}
-use mathlib.Core.Bool.{Bool, cond}
+use Prim.Native.Nat.{_*_, _≤_, suc, ℕ}
 use mathlib.Core.List.{List, [], _++_, _∷_, append-assoc, map}
 use lib.ListN.{drop, length}
 use lib.Seq.{drop-drop}
-use lib.IntN.{negsuc, pos, ℤ}
+use lib.IntN.{pos, ℤ}
 use borrow.Author.Tests.{le-leb}
 use Rattle.meaning.specs.Lists.{concat-map}
-use Rattle.meaning.specs.Plan.{Plan, act-numbers, guard-numbers, head-numbers, instr-numbers, plan-numbers, sign-number, six, slot-number, var-numbers}
+use Rattle.meaning.specs.Plan.{Plan, act-numbers, guard-numbers, head-numbers, instr-numbers, plan-numbers, sign-number, six, slot-number}
+use Rattle.meaning.specs.Plan.{var-numbers}
 use Rattle.meaning.specs.Value.{VAR-ROW, size-by, var-by}
-use Rattle.meaning.specs.WellFormed.{HEAD-ROW, INSTR-ROW, SIX, code-at, code-rows, counts-of, head-by, head-guard-by, head-rows, heads-at, instr-act-by}
-use Rattle.meaning.specs.WellFormed.{instr-by, instr-of, plan-by, var-rows}
+use Rattle.meaning.specs.WellFormed.{HEAD-ROW, INSTR-ROW, SIX, code-at, code-rows, counts-of, head-by, head-guard-by, head-rows, heads-at}
+use Rattle.meaning.specs.WellFormed.{instr-act-by, instr-by, instr-of, plan-by, var-rows}
 use Rattle.meaning.specs.declared.chart.Act.the-variants.{AddTo as add-to, Send as send, SetTo as set-to, TakeTo as take-to, Tell as tell}
 use Rattle.meaning.specs.declared.chart.Guard.{Guard}
 use Rattle.meaning.specs.declared.chart.Guard.the-variants.{Always as always, Compares as compares}
@@ -21,8 +21,8 @@ use Rattle.meaning.specs.declared.chart.VarRow.{VarRow}
 use Rattle.meaning.specs.declared.plan.Counts.{Counts}
 use Rattle.meaning.specs.declared.plan.Head.{Head}
 use Rattle.meaning.specs.declared.plan.Instr.{Instr}
-use Rattle.meaning.specs.declared.plan.Instr.the-variants.{Does as does, In as go-in, Out as go-out, SkipEmpty as skip-empty, SkipFull as skip-full}
-use Rattle.meaning.specs.declared.plan.Instr.the-variants.{SkipNot as skip-not, SkipOut as skip-out}
+use Rattle.meaning.specs.declared.plan.Instr.the-variants.{Does as does, In as go-in, Out as go-out, SkipEmpty as skip-empty}
+use Rattle.meaning.specs.declared.plan.Instr.the-variants.{SkipFull as skip-full, SkipNot as skip-not, SkipOut as skip-out}
 use Rattle.numbers.specs.Place.{placeOf as as-slot}
 use Rattle.numbers.specs.declared.Place.{Place as Slot}
 use Rattle.numbers.specs.declared.Place.the-variants.{At as holds, Empty as empty}
@@ -131,7 +131,9 @@ module _ (p : Plan) (rest : List ℤ) where
   unfolding plan-numbers six tail
   after-six = tail-is (concat-map var-numbers (p .vars)) (concat-map head-numbers (p .heads)) (concat-map instr-numbers (p .code))
 
-  after-vars : drop (heads-at (counts p)) (plan-numbers p ++ rest) ≡ concat-map head-numbers (p .heads) ++ (concat-map instr-numbers (p .code) ++ rest)
+  after-vars :
+      drop (heads-at (counts p)) (plan-numbers p ++ rest)
+      ≡ concat-map head-numbers (p .heads) ++ (concat-map instr-numbers (p .code) ++ rest)
   unfolding heads-at counts tail
   after-vars =
       sym (drop-drop (length (p .vars) * VAR-ROW) SIX (plan-numbers p ++ rest)) ∙ ap (drop (length (p .vars) * VAR-ROW)) after-six

@@ -1,10 +1,10 @@
 -- Rows of one length, written one after another and read back: laws over the row's length and the element. Assumes nothing.
 use mathlib.Core.Path.{_∙_, _≡_, ap, refl, sym}
-use Prim.Native.Nat.{_*_, _+_, suc, zero, ℕ}
+use Prim.Native.Nat.{_*_, ℕ}
 use native.Mathlib.Nat.{suc-mul, zero-mul}
 use native.Mathlib.Omega.{arith}
 use mathlib.Core.List.{List, [], _++_, _∷_, append-assoc, map}
-use lib.ListN.{drop, length, length-append, length-map}
+use lib.ListN.{drop, length, length-append}
 use lib.Seq.{drop-at, take-at}
 use Rattle.meaning.specs.Lists.{chunks, concat-map}
 
@@ -20,7 +20,8 @@ module _ {A B : Type 0} (f : A → List B) (k : ℕ) (h : (x : A) → length (f 
   unfolding concat-map chunks
   rows-back [] rest = refl
   rows-back (x ∷ xs) rest =
-      rw (append-assoc (f x) (concat-map f xs) rest, take-at (f x) (concat-map f xs ++ rest) k (h x), drop-at (f x) (concat-map f xs ++ rest) k (h x))
+      let more = concat-map f xs ++ rest in
+      rw (append-assoc (f x) (concat-map f xs) rest, take-at (f x) more k (h x), drop-at (f x) more k (h x))
       (ap (λ l. f x ∷ l) (rows-back xs rest))
 
   -- and what follows comes after them

@@ -4,7 +4,7 @@ use mathlib.Core.Logic.{⊎-elim}
 use Prim.Native.Nat.{_*_, _+_, _<_, _≤_, suc, zero, ℕ}
 use native.Mathlib.Nat.{suc-mul, zero-add, zero-mul}
 use native.Mathlib.Omega.{arith}
-use mathlib.Core.Bool.{Bool, cond, false, true}
+use mathlib.Core.Bool.{Bool, cond, false, true, true≢false}
 use mathlib.Core.List.{List, [], _++_, _∷_, map, reverse, reverseAux}
 use lib.ListN.{length, length-append}
 use Rattle.laws.proofs.Lists.{Each, none-left, one-more, same-or}
@@ -67,6 +67,33 @@ module _ {A : Type 0} where
       go true ih = omega arith
       go false ih = omega arith
 
+  -- two parts that have nothing in common
+  pub total-apart : (f : A → ℕ) (p q : A → Bool) → ((x : A) → p x ≡ true → q x ≡ true → ⊥) → (xs : List A)
+      → total f (keep p xs) + total f (keep q xs) ≤ total f xs
+  unfolding total keep
+  total-apart f p q h [] = omega arith
+  total-apart f p q h (x ∷ xs) = go (p x) (q x) refl refl (total-apart f p q h xs)
+    where
+      go : (a b : Bool) → p x ≡ a → q x ≡ b → total f (keep p xs) + total f (keep q xs) ≤ total f xs
+          → total f (cond a (x ∷ keep p xs) (keep p xs)) + total f (cond b (x ∷ keep q xs) (keep q xs)) ≤ f x + total f xs
+      go true true d e ih = absurd (h x d e)
+      go true false d e ih = omega arith
+      go false true d e ih = omega arith
+      go false false d e ih = omega arith
+
+  -- a narrower test keeps the same of what a wider one has kept
+  pub keep-within : (p q : A → Bool) → ((x : A) → p x ≡ true → q x ≡ true) → (xs : List A) → keep p (keep q xs) ≡ keep p xs
+  unfolding keep
+  keep-within p q h [] = refl
+  keep-within p q h (x ∷ xs) = go (p x) (q x) refl refl (keep-within p q h xs)
+    where
+      go : (a b : Bool) → p x ≡ a → q x ≡ b → keep p (keep q xs) ≡ keep p xs
+          → keep p (cond b (x ∷ keep q xs) (keep q xs)) ≡ cond a (x ∷ keep p xs) (keep p xs)
+      go true true d e ih = rw d (ap (λ l. x ∷ l) ih)
+      go true false d e ih = absurd (true≢false (sym (h x d) ∙ e))
+      go false true d e ih = rw d ih
+      go false false d e ih = ih
+
   total-turned : (f : A → ℕ) (xs ys : List A) → total f (reverseAux xs ys) ≡ total f xs + total f ys
   unfolding total
   total-turned f [] ys = omega arith
@@ -100,10 +127,18 @@ module _ (f : ℕ → ℕ) where
   none-after a (suc n) m l h = omega (arith, h a (λ e. omega arith), none-after (suc a) n m (omega arith) h)
 
   -- what one number alone has
-  pub total-once : (a n m k : ℕ) → f m ≤ k → ((x : ℕ) → (x ≡ m → ⊥) → f x ≡ 0) → total f (from a n) ≤ k
+  total-once : (a n m k : ℕ) → f m ≤ k → ((x : ℕ) → (x ≡ m → ⊥) → f x ≡ 0) → total f (from a n) ≤ k
   unfolding total from
   total-once a zero m k l h = omega arith
   total-once a (suc n) m k l h = ⊎-elim
       (λ e. omega (arith, ap f e, none-after (suc a) n m (omega arith) h))
       (λ e. omega (arith, h a e, total-once (suc a) n m k l h))
       (same-or a m)
+
+-- k where a test holds, which holds of one number at most
+pub total-when : (p : ℕ → Bool) (m k a n : ℕ) → ((x : ℕ) → (x ≡ m → ⊥) → p x ≡ false) → total (λ x. cond (p x) k 0) (from a n) ≤ k
+total-when p m k a n h = total-once (λ x. cond (p x) k 0) a n m k (at-most (p m)) (λ x e. rw (h x e))
+  where
+    at-most : (b : Bool) → cond b k 0 ≤ k
+    at-most true = omega arith
+    at-most false = omega arith
