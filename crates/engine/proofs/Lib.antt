@@ -1,1 +1,2 @@
 pub mod ByRules
+pub mod Unique
