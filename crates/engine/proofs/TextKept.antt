@@ -12,11 +12,13 @@ use Rattle.writer.specs.Pen.{zeros}
 use Rattle.writer.proofs.WriteLaws.{wrote-refused}
 
 pub reads : {text : List ℕ} {chart after : List ℤ} {r : Answer}
-    → (r ≡ answer-of (read text (length chart))) × (after ≡ lent-numbers (length chart) (read text (length chart))) → Read text chart r after
+    → (r ≡ answer-of (read text (length chart))) × (after ≡ lent-numbers (length chart) (read text (length chart)))
+    → Read text chart r after
 reads h = record { result = h .0; lent = h .1 }
 
 module _ {v : List ℤ} {out after : List ℕ} where
-  pub writes : {r : Written} → (r ≡ written v (length out)) × (after ≡ lent-bytes (length out) (write v (length out))) → Wrote v out r after
+  pub writes : {r : Written} → (r ≡ written v (length out)) × (after ≡ lent-bytes (length out) (write v (length out)))
+      → Wrote v out r after
   writes h = record { result = h .0; lent = h .1 }
 
   -- the rules refuse: 3 with the rule, and the bytes are 0

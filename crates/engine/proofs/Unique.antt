@@ -37,56 +37,64 @@ nothing a = Unit {0}
 
 -- ---- the functions that require nothing
 
-pub check-settles : (κs : Lfts 1) → Settles nothing (check-reads.Asked κs) (check-reads.Learnt κs) (λ a r x. Checked (now (a .0)) r) (λ x. tt {0})
+pub check-settles : (κs : Lfts 1) → Settles nothing (check-reads.Asked κs) (check-reads.Learnt κs)
+    (λ a r x. Checked (now (a .0)) r) (λ x. tt {0})
 check-settles κs = record {
   asks = λ a g. tt;
   promised = λ a r x p. p;
   unique = λ a r s x y p q. (one (p .result) (q .result), refl);
 }
 
-pub read-settles : (κs : Lfts 2) → Settles nothing (read-reads.Asked κs) (read-reads.Learnt κs) (λ a r x. Read (now (a .0)) (now (a .1 .0)) r (now (x .1 .0))) (λ x. now (x .1 .0))
+pub read-settles : (κs : Lfts 2) → Settles nothing (read-reads.Asked κs) (read-reads.Learnt κs)
+    (λ a r x. Read (now (a .0)) (now (a .1 .0)) r (now (x .1 .0))) (λ x. now (x .1 .0))
 read-settles κs = record {
   asks = λ a g. tt;
   promised = λ a r x p. p;
   unique = λ a r s x y p q. (one (p .result) (q .result), one (p .lent) (q .lent));
 }
 
-pub write-settles : (κs : Lfts 2) → Settles nothing (write-reads.Asked κs) (write-reads.Learnt κs) (λ a r x. Wrote (now (a .0)) (now (a .1 .0)) r (now (x .1 .0))) (λ x. now (x .1 .0))
+pub write-settles : (κs : Lfts 2) → Settles nothing (write-reads.Asked κs) (write-reads.Learnt κs)
+    (λ a r x. Wrote (now (a .0)) (now (a .1 .0)) r (now (x .1 .0))) (λ x. now (x .1 .0))
 write-settles κs = record {
   asks = λ a g. tt;
   promised = λ a r x p. p;
   unique = λ a r s x y p q. (one (p .result) (q .result), one (p .lent) (q .lent));
 }
 
-pub unstarted-settles : (κs : Lfts 0) → Settles nothing (unstarted-reads.Asked κs) (unstarted-reads.Learnt κs) (λ a r x. Unstarted r) (λ x. tt {0})
+pub unstarted-settles : (κs : Lfts 0) → Settles nothing (unstarted-reads.Asked κs) (unstarted-reads.Learnt κs)
+    (λ a r x. Unstarted r) (λ x. tt {0})
 unstarted-settles κs = record {
   asks = λ a g. tt;
   promised = λ a r x p. p;
   unique = λ a r s x y p q. (one (p .result) (q .result), refl);
 }
 
-pub start-settles : (κs : Lfts 2) → Settles nothing (start-reads.Asked κs) (start-reads.Learnt κs) (λ a r x. Started (now (a .0)) (a .1 .0) (now (a .1 .1 .0)) r (now (x .1 .1 .0))) (λ x. now (x .1 .1 .0))
+pub start-settles : (κs : Lfts 2) → Settles nothing (start-reads.Asked κs) (start-reads.Learnt κs)
+    (λ a r x. Started (now (a .0)) (a .1 .0) (now (a .1 .1 .0)) r (now (x .1 .1 .0))) (λ x. now (x .1 .1 .0))
 start-settles κs = record {
   asks = λ a g. tt;
   promised = λ a r x p. p;
   unique = λ a r s x y p q. (one (p .result) (q .result), one (p .lent) (q .lent));
 }
 
-pub run-settles : (κs : Lfts 2) → Settles nothing (run-reads.Asked κs) (run-reads.Learnt κs) (λ a r x. Ran (now (a .0)) (a .1 .0) (now (a .1 .1 .0)) r (now (x .1 .1 .0))) (λ x. now (x .1 .1 .0))
+pub run-settles : (κs : Lfts 2) → Settles nothing (run-reads.Asked κs) (run-reads.Learnt κs)
+    (λ a r x. Ran (now (a .0)) (a .1 .0) (now (a .1 .1 .0)) r (now (x .1 .1 .0))) (λ x. now (x .1 .1 .0))
 run-settles κs = record {
   asks = λ a g. tt;
   promised = λ a r x p. p;
   unique = λ a r s x y p q. (one (p .result) (q .result), one (p .lent) (q .lent));
 }
 
-pub post-settles : (κs : Lfts 1) → Settles nothing (post-reads.Asked κs) (post-reads.Learnt κs) (λ a r x. Posted (now (a .0)) (a .1 .0) (a .1 .1 .0) (a .1 .1 .1 .0) r) (λ x. tt {0})
+pub post-settles : (κs : Lfts 1) → Settles nothing (post-reads.Asked κs) (post-reads.Learnt κs)
+    (λ a r x. Posted (now (a .0)) (a .1 .0) (a .1 .1 .0) (a .1 .1 .1 .0) r) (λ x. tt {0})
 post-settles κs = record {
   asks = λ a g. tt;
   promised = λ a r x p. p;
   unique = λ a r s x y p q. (one (p .result) (q .result), refl);
 }
 
-pub discard-settles : (κs : Lfts 1) → Settles nothing (discard-reads.Asked κs) (discard-reads.Learnt κs) (λ a r x. Discarded (now (a .0)) (a .1 .0) r) (λ x. tt {0})
+pub discard-settles : (κs : Lfts 1) → Settles nothing (discard-reads.Asked κs) (discard-reads.Learnt κs)
+    (λ a r x. Discarded (now (a .0)) (a .1 .0) r) (λ x. tt {0})
 discard-settles κs = record {
   asks = λ a g. tt;
   promised = λ a r x p. p;
@@ -95,7 +103,8 @@ discard-settles κs = record {
 
 -- ---- on a checked chart: what check promises with answer 0 is all that they ask
 
-pub start-checked-settles : (κs : Lfts 2) → Settles (λ a. Accepted (now (a .0))) (start-checked-reads.Asked κs) (start-checked-reads.Learnt κs)
+pub start-checked-settles : (κs : Lfts 2) → Settles (λ a. Accepted (now (a .0)))
+    (start-checked-reads.Asked κs) (start-checked-reads.Learnt κs)
     (λ a r x. Started (now (a .0)) (a .1 .0) (now (a .1 .1 .0)) r (now (x .1 .1 .0))) (λ x. now (x .1 .1 .0))
 start-checked-settles κs = record {
   asks = λ a g. g;
@@ -103,7 +112,8 @@ start-checked-settles κs = record {
   unique = λ a r s x y p q. (one (p .result) (q .result), one (p .lent) (q .lent));
 }
 
-pub run-checked-settles : (κs : Lfts 2) → Settles (λ a. Accepted (now (a .0))) (run-checked-reads.Asked κs) (run-checked-reads.Learnt κs)
+pub run-checked-settles : (κs : Lfts 2) → Settles (λ a. Accepted (now (a .0)))
+    (run-checked-reads.Asked κs) (run-checked-reads.Learnt κs)
     (λ a r x. Ran (now (a .0)) (a .1 .0) (now (a .1 .1 .0)) r (now (x .1 .1 .0))) (λ x. now (x .1 .1 .0))
 run-checked-settles κs = record {
   asks = λ a g. g;
@@ -111,7 +121,8 @@ run-checked-settles κs = record {
   unique = λ a r s x y p q. (one (p .result) (q .result), one (p .lent) (q .lent));
 }
 
-pub post-checked-settles : (κs : Lfts 1) → Settles (λ a. Accepted (now (a .0))) (post-checked-reads.Asked κs) (post-checked-reads.Learnt κs)
+pub post-checked-settles : (κs : Lfts 1) → Settles (λ a. Accepted (now (a .0)))
+    (post-checked-reads.Asked κs) (post-checked-reads.Learnt κs)
     (λ a r x. Posted (now (a .0)) (a .1 .0) (a .1 .1 .0) (a .1 .1 .1 .0) r) (λ x. tt {0})
 post-checked-settles κs = record {
   asks = λ a g. g;
@@ -119,7 +130,8 @@ post-checked-settles κs = record {
   unique = λ a r s x y p q. (one (p .result) (q .result), refl);
 }
 
-pub discard-checked-settles : (κs : Lfts 1) → Settles (λ a. Accepted (now (a .0))) (discard-checked-reads.Asked κs) (discard-checked-reads.Learnt κs)
+pub discard-checked-settles : (κs : Lfts 1) → Settles (λ a. Accepted (now (a .0)))
+    (discard-checked-reads.Asked κs) (discard-checked-reads.Learnt κs)
     (λ a r x. Discarded (now (a .0)) (a .1 .0) r) (λ x. tt {0})
 discard-checked-settles κs = record {
   asks = λ a g. g;

@@ -56,7 +56,7 @@ pub fn write(chart: &[i32], out: &mut [u8]) -> Written
     ensures { λ r. ⌜ Wrote (now (chart .entry)) (now (out .entry)) r (now (out .exit)) ⌝ }
 {
     let verdict = check(chart);
-    if verdict.number != 0 {
+    if verdict.number != 0 { // before 13
         writer::clear(out);
         return Written {
             answer: verdict,
@@ -87,7 +87,7 @@ pub fn start(chart: &[i32], state: State, trace: &mut [i32]) -> Called
     ensures { λ r. ⌜ Started (now (chart .entry)) state (now (trace .entry)) r (now (trace .exit)) ⌝ }
 {
     let verdict = check(chart);
-    if verdict.number != 0 {
+    if verdict.number != 0 { // "chart 3 .. first"
         return refuse(3, verdict.place, state, trace); // before the first refusal met
     }
     start_checked(chart, state, trace)

@@ -5,7 +5,9 @@ use Rattle.engine.proofs.run.Statement.{statement}
 use Rattle.engine.proofs.run.Tie as tie
 
 returns : tie.Need-returns
-returns c = run-3 (c .before .before .before .before .before .check .ensures) (c .before .before .before .if1 .taken) (c .before .refuse .ensures)
+returns c =
+    run-3 (c .before .before .before .before .before .check .ensures) (c .before .before .before .if1 .taken)
+    (c .before .refuse .ensures)
 
 run-checked-requires : tie.Need-run-checked-requires
 run-checked-requires c κs = accepted (c .before .before .before .check .ensures) (c .before .if1 .left)

@@ -5,7 +5,9 @@ use Rattle.engine.proofs.start.Statement.{statement}
 use Rattle.engine.proofs.start.Tie as tie
 
 returns : tie.Need-returns
-returns c = start-3 (c .before .before .before .before .before .check .ensures) (c .before .before .before .if1 .taken) (c .before .refuse .ensures)
+returns c =
+    start-3 (c .before .before .before .before .before .check .ensures) (c .before .before .before .if1 .taken)
+    (c .before .refuse .ensures)
 
 start-checked-requires : tie.Need-start-checked-requires
 start-checked-requires c κs = accepted (c .before .before .before .check .ensures) (c .before .if1 .left)
