@@ -1,2 +1,3 @@
 pub mod Walk
 pub mod Well
+pub mod Good

@@ -12,7 +12,7 @@ use borrow.Author.Tests.{eq-eqb}
 use Rattle.plan_invariants.specs.Names.{of-plan}
 use Rattle.laws.proofs.Lists.{Each, each-kept, each-weaker, none-left, one-more, or-left, or-right}
 use Rattle.meaning.specs.Lists.{exists, keep}
-use Rattle.meaning.specs.Machine.{Mach, chosen-heads, end-code, exec, exec-at, exec-now, fire-head, head-block, head-enabled, passing, plan-settle, plan-settle-in}
+use Rattle.meaning.specs.Machine.{Mach, chosen-heads, end-code, exec, exec-at, exec-now, fire-head, go-on, head-block, head-enabled, on-if, passing, plan-settle, plan-settle-in}
 use Rattle.meaning.specs.Machine.{plan-step, run-block, run-code, spans-meet, thin-heads}
 use Rattle.meaning.specs.Plan.{Plan}
 use Rattle.meaning.specs.Reaction.{if-any}
@@ -58,6 +58,18 @@ module _ (R : ℕ → Type 0) (P : Ctx → Type 0) where
   unfolding if-any skip
   if-any-runs [] F f k h = h
   if-any-runs (x ∷ xs) F f k h = f k h
+
+  -- ---- one instruction: after an effect nothing is passed over, and a skip changes nothing
+
+  pub gone-on : (r : Res Ctx) → Ends R r P → Ends R (go-on r) (λ m. P (m .ctx))
+  unfolding go-on passing
+  gone-on (ok k) h = h
+  gone-on (refuse n) h = h
+
+  pub either-way : (b : Bool) (n : ℕ) (k : Ctx) → P k → Ends R (on-if b n k) (λ m. P (m .ctx))
+  unfolding on-if passing
+  either-way true n k h = h
+  either-way false n k h = h
 
   -- ---- blocks
 

@@ -1,0 +1,235 @@
+-- What every instruction of a well-formed plan keeps true of all that the plan machine works on: the started mark, the sizes, each
+-- clause of the machine's test for 6 but the root's mark, and a trace that names only what the plan has. Assumes nothing.
+use mathlib.Core.Path.{_∙_, _≡_, ap, refl, subst, sym}
+use mathlib.Core.Logic.{⊎-elim}
+use Prim.Native.Nat.{_<_, _≤_, suc, zero, ℕ}
+use native.Mathlib.Omega.{arith}
+use mathlib.Core.Bool.{Bool, _&&_, _||_, false, false≢true, not, true}
+use mathlib.Core.List.{List, [], _++_, _∷_}
+use lib.ListN.{drop, getD, length, length-set, set, take}
+use lib.Seq.{drop-set-lt}
+use lib.IntN.{_+ℤ_, negsuc, pos, ℤ}
+use lib.Signed.{leZ}
+use lib.Dec.{leb, ltb}
+use borrow.Author.Tests.{le-leb, lt-ltb}
+use Rattle.invariants.proofs.Good.{Sized}
+use Rattle.invariants.proofs.Values.{appended-fits, held-in-row, values-fit-of, values-of, values-set}
+use Rattle.laws.proofs.Lists.{Each, and-both, and-left, and-right, each-at, each-joined, le-or-lt, none-left, one-more, or-left}
+use Rattle.laws.proofs.Trace.{numbers-more}
+use Rattle.meaning.specs.Chart.{no-var}
+use Rattle.meaning.specs.Effects.{act-on, act-var, assign, enqueue, held, mark-entered, mark-left, perform, store-in, take-queue}
+use Rattle.meaning.specs.Foreign.{event-fits, marks-fit, plan-slot-fits, plan-slots-fit, queue-fits, values-fit}
+use Rattle.meaning.specs.Lists.{concat-map, every}
+use Rattle.meaning.specs.Machine.{Mach, exec-now, go-on, holds-it, on-if, passing}
+use Rattle.meaning.specs.Plan.{Plan}
+use Rattle.meaning.specs.Rules.{row-fits, within-row}
+use Rattle.meaning.specs.Steps.{Res, _then_, bind, look, ok, refuse, require}
+use Rattle.meaning.specs.Tree.{var-row}
+use Rattle.meaning.specs.Widget.{Ctx, ENTRY, Entry, change, changed, emit, entered, is-active, is-empty, is-filled, left, numbers, sent, set-active}
+use Rattle.meaning.specs.Widget.{set-queue, set-slot, set-value, slot, taken, told, value-of, written}
+use Rattle.meaning.specs.declared.State.{State}
+use Rattle.meaning.specs.declared.chart.Act.{Act}
+use Rattle.meaning.specs.declared.chart.Act.the-variants.{AddTo as add-to, Send as send, SetTo as set-to, TakeTo as take-to, Tell as tell}
+use Rattle.meaning.specs.declared.chart.VarRow.{VarRow}
+use Rattle.meaning.specs.declared.plan.Instr.{Instr}
+use Rattle.meaning.specs.declared.plan.Instr.the-variants.{Does as does, In as go-in, Out as go-out, SkipEmpty as skip-empty, SkipFull as skip-full}
+use Rattle.meaning.specs.declared.plan.Instr.the-variants.{SkipNot as skip-not, SkipOut as skip-out}
+use Rattle.numbers.specs.Equal.{eqZ}
+use Rattle.numbers.specs.Range.{inRange}
+use Rattle.numbers.specs.declared.Place.{Place as Slot}
+use Rattle.numbers.specs.declared.Place.the-variants.{At as holds, Empty as empty}
+use Rattle.plan_invariants.proofs.Walk.{Effects, Ends, Runs, either-way, gone-on, look-runs, then-runs}
+use Rattle.plan_invariants.proofs.Well.{Act-named, Instr-named, Slot-named, Well}
+use Rattle.plan_invariants.specs.Names.{Names, all-named, entry-named, of-plan, one-of}
+use Rattle.queue.proofs.Tidy.{appended-long}
+use Rattle.queue.proofs.Waiting.{appended-full}
+use Rattle.queue.specs.Queue.{appended}
+use Rattle.queue.specs.declared.Queue.{Queue}
+use Rattle.queue.specs.declared.Queued.{Queued}
+use Rattle.sizes.specs.Sizes.{QUEUE, STATES, VARIABLES}
+
+-- ---- what is kept
+
+-- a started state of 01's sizes that passes each clause of the plan machine's test for 6 but the root's mark
+pub record Fit (p : Plan) (u : State) : Type 0 where
+  pub started : u .started ≡ true
+  pub sized : Sized u
+  pub marks : marks-fit (p .states) u ≡ true
+  pub values : values-fit (p .vars) (u .vars) ≡ true
+  pub slots : plan-slots-fit (p .states) (u .slots) ≡ true
+  pub queue : queue-fits (p .events) (u .queue) ≡ true
+
+pub record Good (p : Plan) (k : Ctx) : Type 0 where
+  pub state : Fit p (k .state)
+  pub trace : all-named (of-plan p) (k .out) ≡ true
+
+-- ---- the trace
+
+-- an entry that names only what there is
+abbrev pub Entry-named : Names → Entry → Type 0
+Entry-named w (taken t) = w .transition t ≡ true
+Entry-named w (left s) = s < w .states
+Entry-named w (entered s) = s < w .states
+Entry-named w (changed v x) = (v < length (w .vars)) × (within-row (var-row (w .vars) v) x ≡ true)
+Entry-named w (sent e x) = event-fits (w .events) (pos e) x ≡ true
+Entry-named w (told x) = inRange x ≡ true
+
+module _ (w : Names) where
+  one-of-below : (n k : ℕ) → k < n → one-of n (pos k) ≡ true
+  unfolding one-of
+  one-of-below n k l = and-both (leb 0 k) _ (le-leb 0 k (omega arith)) (lt-ltb k n l)
+
+  pub numbers-named : (e : Entry) → Entry-named w e → all-named w (numbers e) ≡ true
+  unfolding all-named entry-named numbers
+  numbers-named (taken t) h = and-both _ true (or-left _ _ (and-both _ true (and-both _ _ (le-leb 0 t (omega arith)) h) refl)) refl
+  numbers-named (left s) h = and-both _ true (or-left _ _ (and-both _ true (one-of-below (w .states) s h) refl)) refl
+  numbers-named (entered s) h = and-both _ true (or-left _ _ (and-both _ true (one-of-below (w .states) s h) refl)) refl
+  numbers-named (changed v x) h = and-both _ true (or-left _ _ (and-both _ _ (one-of-below (length (w .vars)) v (h .0)) (h .1))) refl
+  numbers-named (sent e x) h = and-both _ true (or-left _ _ h) refl
+  numbers-named (told x) h = and-both _ true (and-both _ true h refl) refl
+
+  pub named-more : (out more : List ℤ) → all-named w out ≡ true → all-named w more ≡ true → all-named w (out ++ more) ≡ true
+  unfolding all-named
+  named-more [] more h g = g
+  named-more (kind ∷ []) more h g = absurd (false≢true h)
+  named-more (kind ∷ x ∷ []) more h g = absurd (false≢true h)
+  named-more (kind ∷ x ∷ y ∷ rest) more h g = and-both (entry-named w kind x y) _ (and-left (entry-named w kind x y) _ h) (named-more rest more (and-right (entry-named w kind x y) _ h) g)
+
+-- ---- lists
+
+every-taken-set : {A : Type 0} (p : A → Bool) (n : ℕ) (xs : List A) (i : ℕ) (x : A) → p x ≡ true → every p (take n xs) ≡ true → every p (take n (set xs i x)) ≡ true
+unfolding every
+every-taken-set p zero xs i x h e = refl
+every-taken-set p (suc n) [] i x h e = e
+every-taken-set p (suc n) (y ∷ xs) zero x h e = and-both (p x) _ h (and-right (p y) _ e)
+every-taken-set p (suc n) (y ∷ xs) (suc i) x h e = and-both (p y) _ (and-left (p y) _ e) (every-taken-set p n xs i x h (and-right (p y) _ e))
+
+-- ---- the few changes of a state
+
+module _ (p : Plan) where
+  pub mark-fit : (s : ℕ) (b : Bool) (u : State) → s < p .states → Fit p u → Fit p (set-active s b u)
+  unfolding set-active marks-fit
+  mark-fit s b u l f = record {
+    started = f .started;
+    sized = record { active = length-set (u .active) s b ∙ f .sized .active; slots = f .sized .slots; vars = f .sized .vars; items = f .sized .items };
+    marks = subst (λ x. every not x ≡ true) (sym (drop-set-lt (p .states) (u .active) s b l)) (f .marks);
+    values = f .values;
+    slots = f .slots;
+    queue = f .queue;
+  }
+
+  pub slot-fit : (q s : ℕ) (u : State) → q < p .states → s < p .states → Fit p u → Fit p (set-slot q s u)
+  unfolding set-slot plan-slots-fit plan-slot-fits marks-fit
+  slot-fit q s u l m f = record {
+    started = f .started;
+    sized = record { active = f .sized .active; slots = length-set (u .slots) q (pos s) ∙ f .sized .slots; vars = f .sized .vars; items = f .sized .items };
+    marks = f .marks;
+    values = f .values;
+    slots = and-both (every (plan-slot-fits (p .states)) (take (p .states) (set (u .slots) q (pos s)))) _
+        (every-taken-set (plan-slot-fits (p .states)) (p .states) (u .slots) q (pos s) (lt-ltb s (p .states) m) (and-left (every (plan-slot-fits (p .states)) (take (p .states) (u .slots))) _ (f .slots)))
+        (subst (λ x. every (eqZ (negsuc 0)) x ≡ true) (sym (drop-set-lt (p .states) (u .slots) q (pos s) l)) (and-right (every (plan-slot-fits (p .states)) (take (p .states) (u .slots))) _ (f .slots)));
+    queue = f .queue;
+  }
+
+  pub value-fit : (v : ℕ) (x : ℤ) (u : State) → Well p → v < length (p .vars) → within-row (var-row (p .vars) v) x ≡ true → Fit p u → Fit p (set-value v x u)
+  unfolding set-value marks-fit
+  value-fit v x u w l e f =
+      let long : length (p .vars) ≤ length (u .vars) = omega (arith, f .sized .vars, w .vars) in
+      record {
+        started = f .started;
+        sized = record { active = f .sized .active; slots = f .sized .slots; vars = length-set (u .vars) v x ∙ f .sized .vars; items = f .sized .items };
+        marks = f .marks;
+        values = values-fit-of (p .vars) (set (u .vars) v x) (omega (arith, long, length-set (u .vars) v x)) (values-set (p .vars) (u .vars) v x l long e (values-of (p .vars) (u .vars) (f .values)));
+        slots = f .slots;
+        queue = f .queue;
+      }
+
+  pub queue-fit : (q : Queue) (u : State) → queue-fits (p .events) q ≡ true → length (q .items) ≡ QUEUE → Fit p u → Fit p (set-queue q u)
+  unfolding set-queue marks-fit
+  queue-fit q u h l f = record {
+    started = f .started;
+    sized = record { active = f .sized .active; slots = f .sized .slots; vars = f .sized .vars; items = l };
+    marks = f .marks;
+    values = f .values;
+    slots = f .slots;
+    queue = h;
+  }
+
+-- ---- the effects, one at a time
+
+-- 9 and 11 are refusals that R allows
+module _ (p : Plan) (w : Well p) (R : ℕ → Type 0) (full : R 9) (no-room : R 11) where
+  pub emit-good : (e : Entry) → Entry-named (of-plan p) e → Runs R (Good p) (emit e)
+  unfolding emit written _then_ require bind
+  emit-good e h k g = go (leb ENTRY (k .room))
+    where
+      go : (b : Bool) → Ends R (bind (require 11 b k) (written (numbers e))) (Good p)
+      go true = record { state = g .state; trace = named-more (of-plan p) (k .out) (numbers e) (g .trace) (numbers-named (of-plan p) e h) }
+      go false = no-room
+
+  pub change-good : (f : State → State) → ((u : State) → Fit p u → Fit p (f u)) → Runs R (Good p) (change f)
+  unfolding change
+  change-good f h k g = record { state = h (k .state) (g .state); trace = g .trace }
+
+  pub enqueue-good : (e x : ℤ) → event-fits (p .events) e x ≡ true → Runs R (Good p) (enqueue e x)
+  unfolding enqueue look take-queue _then_ require bind
+  enqueue-good e x f k g = ⊎-elim over room (le-or-lt QUEUE (k .state .queue .len))
+    where
+      Done : Queued → Type 0
+      Done q = Ends R (bind (require 9 (q .done) k) (change (set-queue (q .queue)))) (Good p)
+
+      over : QUEUE ≤ k .state .queue .len → Done (appended (k .state .queue) e x)
+      over l = subst Done (sym (appended-full (k .state .queue) e x l)) full
+
+      room : k .state .queue .len < QUEUE → Done (appended (k .state .queue) e x)
+      room l = on (appended (k .state .queue) e x .done)
+        where
+          on : (b : Bool) → Ends R (bind (require 9 b k) (change (set-queue (appended (k .state .queue) e x .queue)))) (Good p)
+          on true = change-good (set-queue (appended (k .state .queue) e x .queue))
+              (λ u. queue-fit p (appended (k .state .queue) e x .queue) u (appended-fits (p .events) (k .state .queue) (g .state .queue) (g .state .sized .items) e x f l)
+              (appended-long (k .state .queue) e x ∙ g .state .sized .items)) k g
+          on false = full
+
+  row-at : (v : ℕ) → v < length (p .vars) → row-fits (var-row (p .vars) v) ≡ true
+  unfolding var-row
+  row-at v l = each-at (λ r. row-fits r ≡ true) (p .vars) (w .rows) v l no-var
+
+  assign-good : (v : ℕ) (x : ℤ) → v < length (p .vars) → Runs R (Good p) (assign (var-row (p .vars) v) v x)
+  unfolding assign row-fits of-plan
+  assign-good v x l =
+      let r = var-row (p .vars) v in
+      let e = held-in-row r x (and-left (leZ (r .low) (r .first)) _ (row-at v l)) (and-right (leZ (r .low) (r .first)) _ (row-at v l)) in
+      then-runs R (Good p) _ _ (emit-good (changed v (held r x)) (l, e)) (change-good (set-value v (held r x)) (λ u. value-fit p v (held r x) u w l e))
+
+  sent-fits : (e : ℕ) (x : ℤ) → 1 ≤ e → e ≤ p .events → inRange x ≡ true → event-fits (p .events) (pos e) x ≡ true
+  unfolding event-fits
+  sent-fits e x l m r = and-both (leZ (pos 1) (pos e)) _ (le-leb 1 e l) (and-both (leZ (pos e) (pos (p .events))) _ (le-leb e (p .events) m) r)
+
+  act-good : (a : ℤ) (x : Act) → Act-named (length (p .vars)) (p .events) x → Runs R (Good p) (perform (p .vars) a x)
+  unfolding perform act-on act-var of-plan
+  act-good a (set-to v x) f = assign-good v x (f .0)
+  act-good a (add-to v x) f = look-runs R (Good p) _ (λ k g. assign-good v (value-of (k .state) v +ℤ x) (f .0))
+  act-good a (take-to v) f = assign-good v a f
+  act-good a (send e x) f = let h = sent-fits e x (f .0) (f .1) (f .2) in then-runs R (Good p) _ _ (emit-good (sent e x) h) (enqueue-good (pos e) x h)
+  act-good a (tell x) f = emit-good (told x) f
+
+  store-fit : (q : Slot) (s : ℕ) (u : State) → Slot-named (p .states) q → s < p .states → Fit p u → Fit p (store-in q s u)
+  unfolding store-in
+  store-fit empty s u h l f = f
+  store-fit (holds q) s u h l f = slot-fit p q s u h l f
+
+  -- ---- one instruction
+
+  pub instr-good : (a : ℤ) (i : Instr) → Instr-named (p .states) (length (p .vars)) (p .events) i → (k : Ctx) → Good p k → Ends R (exec-now (p .vars) a i k) (λ m. Good p (m .ctx))
+  unfolding exec-now mark-entered mark-left of-plan
+  instr-good a (go-in s) h k g = gone-on R (Good p) (mark-entered s k) (then-runs R (Good p) _ _ (emit-good (entered s) h) (change-good (set-active s true) (λ u. mark-fit p s true u h)) k g)
+  instr-good a (go-out s q) h k g = gone-on R (Good p) (mark-left q s k)
+      (then-runs R (Good p) _ _ (emit-good (left s) (h .0)) (change-good (λ u. store-in q s (set-active s false u)) (λ u f. store-fit q s (set-active s false u) (h .1) (h .0) (mark-fit p s false u (h .0) f))) k g)
+  instr-good a (skip-out s n) h k g = either-way R (Good p) (is-active (k .state) s) n k g
+  instr-good a (skip-empty s n) h k g = either-way R (Good p) (is-filled (slot (k .state) s)) n k g
+  instr-good a (skip-full s n) h k g = either-way R (Good p) (is-empty (slot (k .state) s)) n k g
+  instr-good a (skip-not s d n) h k g = either-way R (Good p) (holds-it d (slot (k .state) s)) n k g
+  instr-good a (does x) h k g = gone-on R (Good p) (perform (p .vars) a x k) (act-good a x h k g)
+
+  pub good-effects : R 12 → Effects p R (Instr-named (p .states) (length (p .vars)) (p .events)) (Good p)
+  good-effects h = record { unsettled = h; takes = λ x n. emit-good (taken (x .transition)) n; does = instr-good }
