@@ -157,20 +157,13 @@ module _ (p : Plan) where
 
 -- ---- the effects, one at a time
 
--- 9 and 11 are refusals that R allows
-module _ (p : Plan) (w : Well p) (R : ℕ → Type 0) (full : R 9) (no-room : R 11) where
-  pub emit-good : (e : Entry) → Entry-named (of-plan p) e → Runs R (Good p) (emit e)
-  unfolding emit written _then_ require bind
-  emit-good e h k g = go (leb ENTRY (k .room))
-    where
-      go : (b : Bool) → Ends R (bind (require 11 b k) (written (numbers e))) (Good p)
-      go true = record { state = g .state; trace = named-more (of-plan p) (k .out) (numbers e) (g .trace) (numbers-named (of-plan p) e h) }
-      go false = no-room
-
+module _ (p : Plan) (R : ℕ → Type 0) where
   pub change-good : (f : State → State) → ((u : State) → Fit p u → Fit p (f u)) → Runs R (Good p) (change f)
   unfolding change
   change-good f h k g = record { state = h (k .state) (g .state); trace = g .trace }
 
+-- a refusal with 9 is one that R allows
+module _ (p : Plan) (R : ℕ → Type 0) (full : R 9) where
   pub enqueue-good : (e x : ℤ) → event-fits (p .events) e x ≡ true → Runs R (Good p) (enqueue e x)
   unfolding enqueue look take-queue _then_ require bind
   enqueue-good e x f k g = ⊎-elim over room (le-or-lt QUEUE (k .state .queue .len))
@@ -185,10 +178,20 @@ module _ (p : Plan) (w : Well p) (R : ℕ → Type 0) (full : R 9) (no-room : R 
       room l = on (appended (k .state .queue) e x .done)
         where
           on : (b : Bool) → Ends R (bind (require 9 b k) (change (set-queue (appended (k .state .queue) e x .queue)))) (Good p)
-          on true = change-good (set-queue (appended (k .state .queue) e x .queue))
+          on true = change-good p R (set-queue (appended (k .state .queue) e x .queue))
               (λ u. queue-fit p (appended (k .state .queue) e x .queue) u (appended-fits (p .events) (k .state .queue) (g .state .queue) (g .state .sized .items) e x f l)
               (appended-long (k .state .queue) e x ∙ g .state .sized .items)) k g
           on false = full
+
+-- and one with 11
+module _ (p : Plan) (w : Well p) (R : ℕ → Type 0) (full : R 9) (no-room : R 11) where
+  pub emit-good : (e : Entry) → Entry-named (of-plan p) e → Runs R (Good p) (emit e)
+  unfolding emit written _then_ require bind
+  emit-good e h k g = go (leb ENTRY (k .room))
+    where
+      go : (b : Bool) → Ends R (bind (require 11 b k) (written (numbers e))) (Good p)
+      go true = record { state = g .state; trace = named-more (of-plan p) (k .out) (numbers e) (g .trace) (numbers-named (of-plan p) e h) }
+      go false = no-room
 
   row-at : (v : ℕ) → v < length (p .vars) → row-fits (var-row (p .vars) v) ≡ true
   unfolding var-row
@@ -199,7 +202,7 @@ module _ (p : Plan) (w : Well p) (R : ℕ → Type 0) (full : R 9) (no-room : R 
   assign-good v x l =
       let r = var-row (p .vars) v in
       let e = held-in-row r x (and-left (leZ (r .low) (r .first)) _ (row-at v l)) (and-right (leZ (r .low) (r .first)) _ (row-at v l)) in
-      then-runs R (Good p) _ _ (emit-good (changed v (held r x)) (l, e)) (change-good (set-value v (held r x)) (λ u. value-fit p v (held r x) u w l e))
+      then-runs R (Good p) _ _ (emit-good (changed v (held r x)) (l, e)) (change-good p R (set-value v (held r x)) (λ u. value-fit p v (held r x) u w l e))
 
   sent-fits : (e : ℕ) (x : ℤ) → 1 ≤ e → e ≤ p .events → inRange x ≡ true → event-fits (p .events) (pos e) x ≡ true
   unfolding event-fits
@@ -210,7 +213,7 @@ module _ (p : Plan) (w : Well p) (R : ℕ → Type 0) (full : R 9) (no-room : R 
   act-good a (set-to v x) f = assign-good v x (f .0)
   act-good a (add-to v x) f = look-runs R (Good p) _ (λ k g. assign-good v (value-of (k .state) v +ℤ x) (f .0))
   act-good a (take-to v) f = assign-good v a f
-  act-good a (send e x) f = let h = sent-fits e x (f .0) (f .1) (f .2) in then-runs R (Good p) _ _ (emit-good (sent e x) h) (enqueue-good (pos e) x h)
+  act-good a (send e x) f = let h = sent-fits e x (f .0) (f .1) (f .2) in then-runs R (Good p) _ _ (emit-good (sent e x) h) (enqueue-good p R full (pos e) x h)
   act-good a (tell x) f = emit-good (told x) f
 
   store-fit : (q : Slot) (s : ℕ) (u : State) → Slot-named (p .states) q → s < p .states → Fit p u → Fit p (store-in q s u)
@@ -222,9 +225,9 @@ module _ (p : Plan) (w : Well p) (R : ℕ → Type 0) (full : R 9) (no-room : R 
 
   pub instr-good : (a : ℤ) (i : Instr) → Instr-named (p .states) (length (p .vars)) (p .events) i → (k : Ctx) → Good p k → Ends R (exec-now (p .vars) a i k) (λ m. Good p (m .ctx))
   unfolding exec-now mark-entered mark-left of-plan
-  instr-good a (go-in s) h k g = gone-on R (Good p) (mark-entered s k) (then-runs R (Good p) _ _ (emit-good (entered s) h) (change-good (set-active s true) (λ u. mark-fit p s true u h)) k g)
+  instr-good a (go-in s) h k g = gone-on R (Good p) (mark-entered s k) (then-runs R (Good p) _ _ (emit-good (entered s) h) (change-good p R (set-active s true) (λ u. mark-fit p s true u h)) k g)
   instr-good a (go-out s q) h k g = gone-on R (Good p) (mark-left q s k)
-      (then-runs R (Good p) _ _ (emit-good (left s) (h .0)) (change-good (λ u. store-in q s (set-active s false u)) (λ u f. store-fit q s (set-active s false u) (h .1) (h .0) (mark-fit p s false u (h .0) f))) k g)
+      (then-runs R (Good p) _ _ (emit-good (left s) (h .0)) (change-good p R (λ u. store-in q s (set-active s false u)) (λ u f. store-fit q s (set-active s false u) (h .1) (h .0) (mark-fit p s false u (h .0) f))) k g)
   instr-good a (skip-out s n) h k g = either-way R (Good p) (is-active (k .state) s) n k g
   instr-good a (skip-empty s n) h k g = either-way R (Good p) (is-filled (slot (k .state) s)) n k g
   instr-good a (skip-full s n) h k g = either-way R (Good p) (is-empty (slot (k .state) s)) n k g

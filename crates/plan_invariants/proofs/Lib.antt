@@ -1,3 +1,6 @@
 pub mod Walk
 pub mod Well
 pub mod Good
+pub mod Calls
+pub mod AnyNumbers
+pub mod Root
