@@ -4,3 +4,5 @@ pub mod Good
 pub mod Calls
 pub mod AnyNumbers
 pub mod Root
+pub mod Replay
+pub mod Examples
