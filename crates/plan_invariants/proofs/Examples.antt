@@ -1,8 +1,7 @@
 -- Replay computed over the plan of chart K (01, "Checked by example"): events 1, 2, 1 give what the single calls give; an event that the
 -- plan has not stops it, and the trace stays that of the last run. Assumes nothing.
 use mathlib.Core.Path.{_≡_, refl}
-use Prim.Native.Nat.{ℕ}
-use mathlib.Core.List.{List, [], _∷_}
+use mathlib.Core.List.{[], _∷_}
 use lib.IntN.{pos}
 use Rattle.meaning.proofs.Starred.{m-1, m-2, m-3, m-started}
 use Rattle.meaning.specs.Examples.{plan-K}

@@ -1,36 +1,34 @@
 -- What every instruction of a well-formed plan keeps true of all that the plan machine works on: the started mark, the sizes, each
 -- clause of the machine's test for 6 but the root's mark, and a trace that names only what the plan has. Assumes nothing.
-use mathlib.Core.Path.{_∙_, _≡_, ap, refl, subst, sym}
+use mathlib.Core.Path.{_∙_, _≡_, refl, subst, sym}
 use mathlib.Core.Logic.{⊎-elim}
 use Prim.Native.Nat.{_<_, _≤_, suc, zero, ℕ}
 use native.Mathlib.Omega.{arith}
-use mathlib.Core.Bool.{Bool, _&&_, _||_, false, false≢true, not, true}
-use mathlib.Core.List.{List, [], _++_, _∷_}
-use lib.ListN.{drop, getD, length, length-set, set, take}
+use mathlib.Core.Bool.{Bool, false, not, true}
+use mathlib.Core.List.{List, [], _∷_}
+use lib.ListN.{length, length-set, set, take}
 use lib.Seq.{drop-set-lt}
 use lib.IntN.{_+ℤ_, negsuc, pos, ℤ}
 use lib.Signed.{leZ}
-use lib.Dec.{leb, ltb}
+use lib.Dec.{leb}
 use borrow.Author.Tests.{le-leb, lt-ltb}
 use Rattle.invariants.proofs.Good.{Sized}
 use Rattle.invariants.proofs.Values.{appended-fits, held-in-row, values-fit-of, values-of, values-set}
-use Rattle.laws.proofs.Lists.{Each, and-both, and-left, and-right, each-at, each-joined, le-or-lt, none-left, one-more, or-left}
-use Rattle.laws.proofs.Trace.{numbers-more}
+use Rattle.laws.proofs.Lists.{and-both, and-left, and-right, each-at, le-or-lt}
 use Rattle.meaning.specs.Chart.{no-var}
 use Rattle.meaning.specs.Effects.{act-on, act-var, assign, enqueue, held, mark-entered, mark-left, perform, store-in, take-queue}
 use Rattle.meaning.specs.Foreign.{event-fits, marks-fit, plan-slot-fits, plan-slots-fit, queue-fits, values-fit}
-use Rattle.meaning.specs.Lists.{concat-map, every}
-use Rattle.meaning.specs.Machine.{Mach, exec-now, go-on, holds-it, on-if, passing}
+use Rattle.meaning.specs.Lists.{every}
+use Rattle.meaning.specs.Machine.{exec-now, holds-it}
 use Rattle.meaning.specs.Plan.{Plan}
 use Rattle.meaning.specs.Rules.{row-fits, within-row}
-use Rattle.meaning.specs.Steps.{Res, _then_, bind, look, ok, refuse, require}
+use Rattle.meaning.specs.Steps.{_then_, bind, look, require}
 use Rattle.meaning.specs.Tree.{var-row}
 use Rattle.meaning.specs.Widget.{Ctx, ENTRY, Entry, change, changed, emit, entered, is-active, is-empty, is-filled, left, numbers, sent, set-active}
 use Rattle.meaning.specs.Widget.{set-queue, set-slot, set-value, slot, taken, told, value-of, written}
 use Rattle.meaning.specs.declared.State.{State}
 use Rattle.meaning.specs.declared.chart.Act.{Act}
 use Rattle.meaning.specs.declared.chart.Act.the-variants.{AddTo as add-to, Send as send, SetTo as set-to, TakeTo as take-to, Tell as tell}
-use Rattle.meaning.specs.declared.chart.VarRow.{VarRow}
 use Rattle.meaning.specs.declared.plan.Instr.{Instr}
 use Rattle.meaning.specs.declared.plan.Instr.the-variants.{Does as does, In as go-in, Out as go-out, SkipEmpty as skip-empty, SkipFull as skip-full}
 use Rattle.meaning.specs.declared.plan.Instr.the-variants.{SkipNot as skip-not, SkipOut as skip-out}
@@ -38,15 +36,16 @@ use Rattle.numbers.specs.Equal.{eqZ}
 use Rattle.numbers.specs.Range.{inRange}
 use Rattle.numbers.specs.declared.Place.{Place as Slot}
 use Rattle.numbers.specs.declared.Place.the-variants.{At as holds, Empty as empty}
-use Rattle.plan_invariants.proofs.Walk.{Effects, Ends, Runs, either-way, gone-on, look-runs, then-runs}
+use Rattle.plan_invariants.proofs.Naming.{Entry-named, named-more, numbers-named}
+use Rattle.plan_invariants.proofs.Walk.{Effects, Ends, Refusal, Runs, either-way, gone-on, look-runs, then-runs}
 use Rattle.plan_invariants.proofs.Well.{Act-named, Instr-named, Slot-named, Well}
-use Rattle.plan_invariants.specs.Names.{Names, all-named, entry-named, of-plan, one-of}
+use Rattle.plan_invariants.specs.Names.{all-named, of-plan}
 use Rattle.queue.proofs.Tidy.{appended-long}
 use Rattle.queue.proofs.Waiting.{appended-full}
 use Rattle.queue.specs.Queue.{appended}
 use Rattle.queue.specs.declared.Queue.{Queue}
 use Rattle.queue.specs.declared.Queued.{Queued}
-use Rattle.sizes.specs.Sizes.{QUEUE, STATES, VARIABLES}
+use Rattle.sizes.specs.Sizes.{QUEUE}
 
 -- ---- what is kept
 
@@ -62,38 +61,6 @@ pub record Fit (p : Plan) (u : State) : Type 0 where
 pub record Good (p : Plan) (k : Ctx) : Type 0 where
   pub state : Fit p (k .state)
   pub trace : all-named (of-plan p) (k .out) ≡ true
-
--- ---- the trace
-
--- an entry that names only what there is
-abbrev pub Entry-named : Names → Entry → Type 0
-Entry-named w (taken t) = w .transition t ≡ true
-Entry-named w (left s) = s < w .states
-Entry-named w (entered s) = s < w .states
-Entry-named w (changed v x) = (v < length (w .vars)) × (within-row (var-row (w .vars) v) x ≡ true)
-Entry-named w (sent e x) = event-fits (w .events) (pos e) x ≡ true
-Entry-named w (told x) = inRange x ≡ true
-
-module _ (w : Names) where
-  one-of-below : (n k : ℕ) → k < n → one-of n (pos k) ≡ true
-  unfolding one-of
-  one-of-below n k l = and-both (leb 0 k) _ (le-leb 0 k (omega arith)) (lt-ltb k n l)
-
-  pub numbers-named : (e : Entry) → Entry-named w e → all-named w (numbers e) ≡ true
-  unfolding all-named entry-named numbers
-  numbers-named (taken t) h = and-both _ true (or-left _ _ (and-both _ true (and-both _ _ (le-leb 0 t (omega arith)) h) refl)) refl
-  numbers-named (left s) h = and-both _ true (or-left _ _ (and-both _ true (one-of-below (w .states) s h) refl)) refl
-  numbers-named (entered s) h = and-both _ true (or-left _ _ (and-both _ true (one-of-below (w .states) s h) refl)) refl
-  numbers-named (changed v x) h = and-both _ true (or-left _ _ (and-both _ _ (one-of-below (length (w .vars)) v (h .0)) (h .1))) refl
-  numbers-named (sent e x) h = and-both _ true (or-left _ _ h) refl
-  numbers-named (told x) h = and-both _ true (and-both _ true h refl) refl
-
-  pub named-more : (out more : List ℤ) → all-named w out ≡ true → all-named w more ≡ true → all-named w (out ++ more) ≡ true
-  unfolding all-named
-  named-more [] more h g = g
-  named-more (kind ∷ []) more h g = absurd (false≢true h)
-  named-more (kind ∷ x ∷ []) more h g = absurd (false≢true h)
-  named-more (kind ∷ x ∷ y ∷ rest) more h g = and-both (entry-named w kind x y) _ (and-left (entry-named w kind x y) _ h) (named-more rest more (and-right (entry-named w kind x y) _ h) g)
 
 -- ---- lists
 
@@ -157,64 +124,75 @@ module _ (p : Plan) where
 
 -- ---- the effects, one at a time
 
-module _ (p : Plan) (R : ℕ → Type 0) where
-  pub change-good : (f : State → State) → ((u : State) → Fit p u → Fit p (f u)) → Runs R (Good p) (change f)
+module _ (p : Plan) where
+  pub change-good : (f : State → State) → ((u : State) → Fit p u → Fit p (f u)) → Runs Refusal (Good p) (change f)
   unfolding change
   change-good f h k g = record { state = h (k .state) (g .state); trace = g .trace }
 
--- a refusal with 9 is one that R allows
-module _ (p : Plan) (R : ℕ → Type 0) (full : R 9) where
-  pub enqueue-good : (e x : ℤ) → event-fits (p .events) e x ≡ true → Runs R (Good p) (enqueue e x)
-  unfolding enqueue look take-queue _then_ require bind
-  enqueue-good e x f k g = ⊎-elim over room (le-or-lt QUEUE (k .state .queue .len))
-    where
-      Done : Queued → Type 0
-      Done q = Ends R (bind (require 9 (q .done) k) (change (set-queue (q .queue)))) (Good p)
-
-      over : QUEUE ≤ k .state .queue .len → Done (appended (k .state .queue) e x)
-      over l = subst Done (sym (appended-full (k .state .queue) e x l)) full
-
-      room : k .state .queue .len < QUEUE → Done (appended (k .state .queue) e x)
-      room l = on (appended (k .state .queue) e x .done)
-        where
-          on : (b : Bool) → Ends R (bind (require 9 b k) (change (set-queue (appended (k .state .queue) e x .queue)))) (Good p)
-          on true = change-good p R (set-queue (appended (k .state .queue) e x .queue))
-              (λ u. queue-fit p (appended (k .state .queue) e x .queue) u (appended-fits (p .events) (k .state .queue) (g .state .queue) (g .state .sized .items) e x f l)
-              (appended-long (k .state .queue) e x ∙ g .state .sized .items)) k g
-          on false = full
-
--- and one with 11
-module _ (p : Plan) (w : Well p) (R : ℕ → Type 0) (full : R 9) (no-room : R 11) where
-  pub emit-good : (e : Entry) → Entry-named (of-plan p) e → Runs R (Good p) (emit e)
+  pub emit-good : (e : Entry) → Entry-named (of-plan p) e → Runs Refusal (Good p) (emit e)
   unfolding emit written _then_ require bind
   emit-good e h k g = go (leb ENTRY (k .room))
     where
-      go : (b : Bool) → Ends R (bind (require 11 b k) (written (numbers e))) (Good p)
+      go : (b : Bool) → Ends Refusal (bind (require 11 b k) (written (numbers e))) (Good p)
       go true = record { state = g .state; trace = named-more (of-plan p) (k .out) (numbers e) (g .trace) (numbers-named (of-plan p) e h) }
-      go false = no-room
+      go false = λ z. omega arith
 
+  pub enqueue-good : (e x : ℤ) → event-fits (p .events) e x ≡ true → Runs Refusal (Good p) (enqueue e x)
+  unfolding enqueue look take-queue _then_ require bind
+  enqueue-good e x f k g = ⊎-elim over room (le-or-lt QUEUE (k .state .queue .len))
+    where
+      next : Queued
+      next = appended (k .state .queue) e x
+
+      Done : Queued → Type 0
+      Done q = Ends Refusal (bind (require 9 (q .done) k) (change (set-queue (q .queue)))) (Good p)
+
+      over : QUEUE ≤ k .state .queue .len → Done next
+      over l = subst Done (sym (appended-full (k .state .queue) e x l)) (λ z. omega arith)
+
+      room : k .state .queue .len < QUEUE → Done next
+      room l = on (next .done)
+        where
+          fits : queue-fits (p .events) (next .queue) ≡ true
+          fits = appended-fits (p .events) (k .state .queue) (g .state .queue) (g .state .sized .items) e x f l
+
+          on : (b : Bool) → Ends Refusal (bind (require 9 b k) (change (set-queue (next .queue)))) (Good p)
+          on true = change-good (set-queue (next .queue))
+              (λ u. queue-fit p (next .queue) u fits (appended-long (k .state .queue) e x ∙ g .state .sized .items)) k g
+          on false = λ z. omega arith
+
+module _ (p : Plan) (w : Well p) where
   row-at : (v : ℕ) → v < length (p .vars) → row-fits (var-row (p .vars) v) ≡ true
   unfolding var-row
   row-at v l = each-at (λ r. row-fits r ≡ true) (p .vars) (w .rows) v l no-var
 
-  assign-good : (v : ℕ) (x : ℤ) → v < length (p .vars) → Runs R (Good p) (assign (var-row (p .vars) v) v x)
-  unfolding assign row-fits of-plan
-  assign-good v x l =
+  held-at : (v : ℕ) (x : ℤ) → v < length (p .vars) → within-row (var-row (p .vars) v) (held (var-row (p .vars) v) x) ≡ true
+  unfolding row-fits
+  held-at v x l =
       let r = var-row (p .vars) v in
-      let e = held-in-row r x (and-left (leZ (r .low) (r .first)) _ (row-at v l)) (and-right (leZ (r .low) (r .first)) _ (row-at v l)) in
-      then-runs R (Good p) _ _ (emit-good (changed v (held r x)) (l, e)) (change-good p R (set-value v (held r x)) (λ u. value-fit p v (held r x) u w l e))
+      held-in-row r x (and-left (leZ (r .low) (r .first)) _ (row-at v l)) (and-right (leZ (r .low) (r .first)) _ (row-at v l))
+
+  assign-good : (v : ℕ) (x : ℤ) → v < length (p .vars) → Runs Refusal (Good p) (assign (var-row (p .vars) v) v x)
+  unfolding assign of-plan
+  assign-good v x l =
+      let y = held (var-row (p .vars) v) x in
+      then-runs Refusal (Good p) _ _ (emit-good p (changed v y) (l, held-at v x l))
+      (change-good p (set-value v y) (λ u. value-fit p v y u w l (held-at v x l)))
 
   sent-fits : (e : ℕ) (x : ℤ) → 1 ≤ e → e ≤ p .events → inRange x ≡ true → event-fits (p .events) (pos e) x ≡ true
   unfolding event-fits
-  sent-fits e x l m r = and-both (leZ (pos 1) (pos e)) _ (le-leb 1 e l) (and-both (leZ (pos e) (pos (p .events))) _ (le-leb e (p .events) m) r)
+  sent-fits e x l m r =
+      and-both (leZ (pos 1) (pos e)) _ (le-leb 1 e l) (and-both (leZ (pos e) (pos (p .events))) _ (le-leb e (p .events) m) r)
 
-  act-good : (a : ℤ) (x : Act) → Act-named (length (p .vars)) (p .events) x → Runs R (Good p) (perform (p .vars) a x)
+  act-good : (a : ℤ) (x : Act) → Act-named (length (p .vars)) (p .events) x → Runs Refusal (Good p) (perform (p .vars) a x)
   unfolding perform act-on act-var of-plan
   act-good a (set-to v x) f = assign-good v x (f .0)
-  act-good a (add-to v x) f = look-runs R (Good p) _ (λ k g. assign-good v (value-of (k .state) v +ℤ x) (f .0))
+  act-good a (add-to v x) f = look-runs Refusal (Good p) _ (λ k g. assign-good v (value-of (k .state) v +ℤ x) (f .0))
   act-good a (take-to v) f = assign-good v a f
-  act-good a (send e x) f = let h = sent-fits e x (f .0) (f .1) (f .2) in then-runs R (Good p) _ _ (emit-good (sent e x) h) (enqueue-good p R full (pos e) x h)
-  act-good a (tell x) f = emit-good (told x) f
+  act-good a (send e x) f =
+      let h = sent-fits e x (f .0) (f .1) (f .2) in
+      then-runs Refusal (Good p) _ _ (emit-good p (sent e x) h) (enqueue-good p (pos e) x h)
+  act-good a (tell x) f = emit-good p (told x) f
 
   store-fit : (q : Slot) (s : ℕ) (u : State) → Slot-named (p .states) q → s < p .states → Fit p u → Fit p (store-in q s u)
   unfolding store-in
@@ -223,16 +201,22 @@ module _ (p : Plan) (w : Well p) (R : ℕ → Type 0) (full : R 9) (no-room : R 
 
   -- ---- one instruction
 
-  pub instr-good : (a : ℤ) (i : Instr) → Instr-named (p .states) (length (p .vars)) (p .events) i → (k : Ctx) → Good p k → Ends R (exec-now (p .vars) a i k) (λ m. Good p (m .ctx))
-  unfolding exec-now mark-entered mark-left of-plan
-  instr-good a (go-in s) h k g = gone-on R (Good p) (mark-entered s k) (then-runs R (Good p) _ _ (emit-good (entered s) h) (change-good p R (set-active s true) (λ u. mark-fit p s true u h)) k g)
-  instr-good a (go-out s q) h k g = gone-on R (Good p) (mark-left q s k)
-      (then-runs R (Good p) _ _ (emit-good (left s) (h .0)) (change-good p R (λ u. store-in q s (set-active s false u)) (λ u f. store-fit q s (set-active s false u) (h .1) (h .0) (mark-fit p s false u (h .0) f))) k g)
-  instr-good a (skip-out s n) h k g = either-way R (Good p) (is-active (k .state) s) n k g
-  instr-good a (skip-empty s n) h k g = either-way R (Good p) (is-filled (slot (k .state) s)) n k g
-  instr-good a (skip-full s n) h k g = either-way R (Good p) (is-empty (slot (k .state) s)) n k g
-  instr-good a (skip-not s d n) h k g = either-way R (Good p) (holds-it d (slot (k .state) s)) n k g
-  instr-good a (does x) h k g = gone-on R (Good p) (perform (p .vars) a x k) (act-good a x h k g)
+  -- OUT s q: the mark goes, and the slot of q, if there is one, takes s
+  out-fit : (s : ℕ) (q : Slot) → s < p .states → Slot-named (p .states) q → (u : State) → Fit p u → Fit p (store-in q s (set-active s false u))
+  out-fit s q l m u f = store-fit q s (set-active s false u) m l (mark-fit p s false u l f)
 
-  pub good-effects : R 12 → Effects p R (Instr-named (p .states) (length (p .vars)) (p .events)) (Good p)
-  good-effects h = record { unsettled = h; takes = λ x n. emit-good (taken (x .transition)) n; does = instr-good }
+  pub instr-good : (a : ℤ) (i : Instr) → Instr-named (p .states) (length (p .vars)) (p .events) i → (k : Ctx) → Good p k
+      → Ends Refusal (exec-now (p .vars) a i k) (λ m. Good p (m .ctx))
+  unfolding exec-now mark-entered mark-left of-plan
+  instr-good a (go-in s) h k g = gone-on Refusal (Good p) (mark-entered s k)
+      (then-runs Refusal (Good p) _ _ (emit-good p (entered s) h) (change-good p (set-active s true) (λ u. mark-fit p s true u h)) k g)
+  instr-good a (go-out s q) h k g = gone-on Refusal (Good p) (mark-left q s k)
+      (then-runs Refusal (Good p) _ _ (emit-good p (left s) (h .0)) (change-good p (λ u. store-in q s (set-active s false u)) (out-fit s q (h .0) (h .1))) k g)
+  instr-good a (skip-out s n) h k g = either-way Refusal (Good p) (is-active (k .state) s) n k g
+  instr-good a (skip-empty s n) h k g = either-way Refusal (Good p) (is-filled (slot (k .state) s)) n k g
+  instr-good a (skip-full s n) h k g = either-way Refusal (Good p) (is-empty (slot (k .state) s)) n k g
+  instr-good a (skip-not s d n) h k g = either-way Refusal (Good p) (holds-it d (slot (k .state) s)) n k g
+  instr-good a (does x) h k g = gone-on Refusal (Good p) (perform (p .vars) a x k) (act-good a x h k g)
+
+  pub good-effects : Effects p Refusal (Instr-named (p .states) (length (p .vars)) (p .events)) (Good p)
+  good-effects = record { unsettled = λ e. omega arith; takes = λ x n. emit-good p (taken (x .transition)) n; does = instr-good }

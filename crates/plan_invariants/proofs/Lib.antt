@@ -1,7 +1,10 @@
 pub mod Walk
 pub mod Well
+pub mod Naming
 pub mod Good
 pub mod Calls
+pub mod Marks
+pub mod Answering
 pub mod AnyNumbers
 pub mod Root
 pub mod Replay

@@ -1,7 +1,7 @@
 -- Replay with the tests made once is replay by the single calls, on every input: what of the test for 6 is not made again would pass,
 -- since a call that is done leaves a state that is fit, and a post leaves the root's mark. Assumes nothing.
-use mathlib.Core.Path.{_∙_, _≡_, ap, refl, subst, sym}
-use Prim.Native.Nat.{suc, zero, ℕ}
+use mathlib.Core.Path.{_∙_, _≡_, ap, refl, sym}
+use Prim.Native.Nat.{suc, ℕ}
 use mathlib.Core.Bool.{Bool, false, true}
 use mathlib.Core.List.{List, [], _∷_}
 use lib.IntN.{ℤ}

@@ -3,7 +3,7 @@
 -- Assumes nothing.
 use mathlib.Core.Path.{_≡_, refl}
 use Prim.Native.Nat.{suc, zero, ℕ}
-use mathlib.Core.Bool.{Bool, _||_, cond, false, true}
+use mathlib.Core.Bool.{Bool, false, true}
 use mathlib.Core.List.{List, [], _∷_}
 use lib.ListN.{drop, take}
 use lib.IntN.{pos, ℤ}
@@ -23,6 +23,10 @@ use Rattle.meaning.specs.declared.chart.VarRow.{VarRow}
 use Rattle.meaning.specs.declared.plan.Head.{Head}
 use Rattle.meaning.specs.declared.plan.Instr.{Instr}
 use Rattle.sizes.specs.Sizes.{NULL-STEPS}
+
+-- any refusal: 0 is none
+abbrev pub Refusal : ℕ → Type 0
+Refusal n = n ≡ 0 → ⊥
 
 -- P of what a step gives, or R of the number with which it refuses
 abbrev pub Ends : {A : Type 0} → (ℕ → Type 0) → Res A → (A → Type 0) → Type 0

@@ -1,17 +1,16 @@
 -- What a well-formed plan says (01, "The plan"), as plain facts of the plan that its numbers state: its sizes, its variable rows, its
 -- heads, and what each instruction names. From the test of the numbers. Assumes nothing.
 use mathlib.Core.Path.{_∙_, _≡_, ap, refl, subst, sym}
-use mathlib.Core.Logic.{⊎-elim}
 use Prim.Native.Nat.{_+_, _<_, _≤_, suc, zero, ℕ}
 use native.Mathlib.Omega.{arith}
-use mathlib.Core.Bool.{Bool, _&&_, _||_, cond, false, false≢true, true}
-use mathlib.Core.List.{List, [], _++_, _∷_, map}
+use mathlib.Core.Bool.{Bool, _&&_, _||_, false, false≢true, true}
+use mathlib.Core.List.{List, [], _∷_, map}
 use lib.ListN.{List·getD-eq-default, drop, getD, length, length-append, length-map, take}
 use lib.IntN.{negsuc, pos, ℤ}
 use lib.Signed.{leZ}
-use lib.Dec.{eqb, leb, ltb}
+use lib.Dec.{leb, ltb}
 use borrow.Author.Tests.{eqb-true, leb-true, ltb-true}
-use Rattle.laws.proofs.Lists.{Each, and-left, and-right, none-left, one-more, or-cases}
+use Rattle.laws.proofs.Lists.{Each, and-left, and-right, none-left, one-more}
 use Rattle.laws.proofs.Value.{length-chunks, size-by-most}
 use Rattle.meaning.specs.Lists.{chunks, concat-map, every}
 use Rattle.meaning.specs.Plan.{Plan}
@@ -19,16 +18,14 @@ use Rattle.meaning.specs.Rules.{row-fits}
 use Rattle.meaning.specs.Value.{VAR-ROW, count-fits, num, size-by, var-by, var-statable}
 use Rattle.meaning.specs.WellFormed.{FORMS, Field, INSTR-ROW, a-constant, a-parent, a-skip, a-state, a-variable, an-event, form, unused}
 use Rattle.meaning.specs.WellFormed.{all-blocks-fill, blocks-fill, code-at, code-fits, code-rows, counts-keep, counts-of, field-fits}
-use Rattle.meaning.specs.WellFormed.{form-fits, head-by, head-fits, head-rows, instr-act-by, instr-by, instr-fits, instr-of, is-whole, left-after-each}
+use Rattle.meaning.specs.WellFormed.{form-fits, head-fits, head-rows, instr-act-by, instr-by, instr-fits, instr-of, is-whole, left-after-each}
 use Rattle.meaning.specs.WellFormed.{left-in-blocks, no-form, plan-by, rows-well-formed, var-keeps, var-rows, well-formed}
 use Rattle.meaning.specs.declared.chart.Act.{Act}
 use Rattle.meaning.specs.declared.chart.Act.the-variants.{AddTo as add-to, Send as send, SetTo as set-to, TakeTo as take-to, Tell as tell}
-use Rattle.meaning.specs.declared.chart.VarRow.{VarRow}
 use Rattle.meaning.specs.declared.plan.Counts.{Counts}
 use Rattle.meaning.specs.declared.plan.Instr.{Instr}
 use Rattle.meaning.specs.declared.plan.Instr.the-variants.{Does as does, In as go-in, Out as go-out, SkipEmpty as skip-empty, SkipFull as skip-full}
 use Rattle.meaning.specs.declared.plan.Instr.the-variants.{SkipNot as skip-not, SkipOut as skip-out}
-use Rattle.numbers.proofs.Laws.{eqZ-true}
 use Rattle.numbers.specs.Equal.{eqZ}
 use Rattle.numbers.specs.Place.{placeOf as as-slot}
 use Rattle.numbers.specs.Range.{inRange}

@@ -38,3 +38,8 @@ may-give (to-start n) = START-ANSWERS
 may-give (to-run n) = RUN-ANSWERS
 may-give (to-post e a) = POST-ANSWERS
 may-give to-discard = DISCARD-ANSWERS
+
+-- the traces of a list of calls, each from the state that the one before left
+unfoldable pub machine-traces : List ℤ → List Call → State → List (List ℤ)
+machine-traces ns [] u = []
+machine-traces ns (x ∷ xs) u = machine-make ns x u .trace ∷ machine-traces ns xs (machine-make ns x u .after)

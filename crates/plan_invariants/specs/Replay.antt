@@ -1,7 +1,7 @@
 -- Replay over a plan: a list of events, each posted and run, up to the first refusal. First as a fold of the single calls of 01, then
 -- as a machine may do it, with the plan examined once and the tests for 7 and 6 made once. Assumes nothing.
-use Prim.Native.Nat.{ℕ, zero, suc}
-use mathlib.Core.Bool.{Bool, true, false}
+use Prim.Native.Nat.{ℕ, suc}
+use mathlib.Core.Bool.{true, false}
 use mathlib.Core.List.{List, [], _∷_}
 use lib.IntN.{ℤ}
 use lib.Dec.{eqb}

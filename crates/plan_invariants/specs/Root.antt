@@ -1,8 +1,7 @@
 -- What keeps the root's mark (01, answer 6: "the plan machine tests only: root active, .."): a well-formed plan need not, so these are
 -- tests of their own. Assumes nothing.
-use mathlib.Core.Bool.{Bool, true, false, not, _&&_}
+use mathlib.Core.Bool.{Bool, false, not}
 use mathlib.Core.List.{List, [], _∷_}
-use Prim.Native.Nat.{ℕ}
 use lib.ListN.{take}
 use lib.Dec.{eqb}
 use Rattle.meaning.specs.Lists.{every}
