@@ -54,7 +54,8 @@ unfolding outcome refused
 answer-of l u (ok k) z h = z
 answer-of l u (refuse n) z h = h
 
-tested-answer : (p : Plan) (l : List ℕ) (u : State) (F : Step Ctx) (k : Ctx) → has 7 l ≡ true → has 6 l ≡ true → Runs (One-of l) (On Whatever) F
+tested-answer : (p : Plan) (l : List ℕ) (u : State) (F : Step Ctx) (k : Ctx) → has 7 l ≡ true → has 6 l ≡ true
+    → Runs (One-of l) (On Whatever) F
     → Ends (One-of l) ((plan-tests p u then F) k) (On Whatever)
 unfolding plan-tests _then_ require bind
 tested-answer p l u F k r7 r6 f = go (u .started) (plan-own (p .states) (p .vars) (p .events) u)
@@ -82,11 +83,13 @@ module _ (p : Plan) (u : State) where
   unfolding plan-run has
   run-answer n = answer-of RUN-ANSWERS u ((plan-tests p u then plan-react p (removed (u .queue))) (begin u n)) refl
       (tested-answer p RUN-ANSWERS u (plan-react p (removed (u .queue))) (begin u n) refl refl
-      (react-marked p (One-of RUN-ANSWERS) Any-instr Whatever (marking RUN-ANSWERS refl refl refl) (each-any (p .code)) refl (removed (u .queue))))
+      (react-marked p (One-of RUN-ANSWERS) Any-instr Whatever (marking RUN-ANSWERS refl refl refl) (each-any (p .code)) refl
+      (removed (u .queue))))
 
   post-answer : (e a : ℤ) → has (plan-post p u e a .number) POST-ANSWERS ≡ true
   unfolding plan-post has
-  post-answer e a = answer-of POST-ANSWERS u ((plan-tests p u then require 10 (event-fits (p .events) e a) then enqueue e a) (begin u 0)) refl
+  post-answer e a = answer-of POST-ANSWERS u ((plan-tests p u then require 10 (event-fits (p .events) e a) then enqueue e a)
+      (begin u 0)) refl
       (tested-answer p POST-ANSWERS u (require 10 (event-fits (p .events) e a) then enqueue e a) (begin u 0) refl refl
       (append-marked (One-of POST-ANSWERS) Whatever refl refl (event-fits (p .events) e a) e a))
 
@@ -107,7 +110,13 @@ module _ (p : Plan) (u : State) where
 
 module _ (ns : List ℤ) where
   -- a call by whether the numbers are a well-formed plan
-  pub by-form : (x : Call) (u : State) → machine-make ns x u ≡ elim (well-formed ns) [ true ↦ plan-make (plan-by ns) x u | false ↦ refused 5 0 u ]
+  abbrev or-5 : Call → State → Bool → Outcome
+  or-5 x u b = elim b [
+    | true ↦ plan-make (plan-by ns) x u
+    | false ↦ refused 5 0 u
+  ]
+
+  by-form : (x : Call) (u : State) → machine-make ns x u ≡ or-5 x u (well-formed ns)
   unfolding machine-make plan-make machine-start machine-run machine-post machine-discard
   by-form (to-start n) u = refl
   by-form (to-run n) u = refl
@@ -116,11 +125,11 @@ module _ (ns : List ℤ) where
 
   -- well formed: as over the plan that the numbers state
   pub formed : well-formed ns ≡ true → (x : Call) (u : State) → machine-make ns x u ≡ plan-make (plan-by ns) x u
-  formed e x u = by-form x u ∙ ap (λ b. elim b [ true ↦ plan-make (plan-by ns) x u | false ↦ refused 5 0 u ]) e
+  formed e x u = by-form x u ∙ ap (or-5 x u) e
 
   -- not well formed: 5
   pub unformed : well-formed ns ≡ false → (x : Call) (u : State) → machine-make ns x u ≡ refused 5 0 u
-  unformed e x u = by-form x u ∙ ap (λ b. elim b [ true ↦ plan-make (plan-by ns) x u | false ↦ refused 5 0 u ]) e
+  unformed e x u = by-form x u ∙ ap (or-5 x u) e
 
   -- the numbers that a call may give, from any state whatsoever
   pub formed-answer : well-formed ns ≡ true → (x : Call) (u : State) → has (machine-make ns x u .number) (may-give x) ≡ true
@@ -130,11 +139,8 @@ module _ (ns : List ℤ) where
   unfolding has refused
   machine-answer x u = subst (λ o. has (o .number) (5 ∷ may-give x) ≡ true) (sym (by-form x u)) (go (well-formed ns))
     where
-      o : Outcome
-      o = plan-make (plan-by ns) x u
-
-      go : (b : Bool) → has ((elim b as (λ _. Outcome) [ true ↦ o | false ↦ refused 5 0 u ]) .number) (5 ∷ may-give x) ≡ true
-      go true = or-right (eqb (o .number) 5) _ (plan-answer (plan-by ns) u x)
+      go : (b : Bool) → has (or-5 x u b .number) (5 ∷ may-give x) ≡ true
+      go true = or-right (eqb (plan-make (plan-by ns) x u .number) 5) _ (plan-answer (plan-by ns) u x)
       go false = refl
 
   -- "it never gives 14"

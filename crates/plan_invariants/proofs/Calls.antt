@@ -94,14 +94,16 @@ every-taken p zero xs e = refl
 every-taken p (suc n) [] e = refl
 every-taken p (suc n) (x ∷ xs) e = and-both (p x) _ (and-left (p x) (every p xs) e) (every-taken p n xs (and-right (p x) (every p xs) e))
 
-first-fit : (vs : List VarRow) (m : ℕ) → Each (λ r. row-fits r ≡ true) vs → values-fit vs (map (λ r. r .first) vs ++ replicate m (pos 0)) ≡ true
+first-fit : (vs : List VarRow) (m : ℕ) → Each (λ r. row-fits r ≡ true) vs
+    → values-fit vs (map (λ r. r .first) vs ++ replicate m (pos 0)) ≡ true
 unfolding values-fit row-fits within-row
 first-fit [] m none-left = every-replicate (eqZ (pos 0)) m (pos 0) refl
 first-fit (r ∷ vs) m (one-more h hs) = and-both (leZ (r .low) (r .first) && leZ (r .first) (r .high)) _ h (first-fit vs m hs)
 
 padded-long : (xs : List ℤ) (n : ℕ) → length xs ≤ n → length (padded n (pos 0) xs) ≡ n
 unfolding padded
-padded-long xs n l = length-append xs (replicate (n - length xs) (pos 0)) ∙ ap (λ i. length xs + i) (length-replicate (n - length xs) (pos 0)) ∙ total
+padded-long xs n l = length-append xs (replicate (n - length xs) (pos 0))
+    ∙ ap (λ i. length xs + i) (length-replicate (n - length xs) (pos 0)) ∙ total
   where
     total : length xs + (n - length xs) ≡ n
     total = omega arith
@@ -119,7 +121,8 @@ fresh-fit p w = record {
   marks = every-dropped not (p .states) (replicate STATES false) (every-replicate not STATES false refl);
   values = first-fit (p .vars) (VARIABLES - length (map (λ r. r .first) (p .vars))) (w .rows);
   slots = and-both (every (plan-slot-fits (p .states)) (take (p .states) (replicate STATES (negsuc 0)))) _
-      (every-taken (plan-slot-fits (p .states)) (p .states) (replicate STATES (negsuc 0)) (every-replicate (plan-slot-fits (p .states)) STATES (negsuc 0) refl))
+      (every-taken (plan-slot-fits (p .states)) (p .states) (replicate STATES (negsuc 0))
+      (every-replicate (plan-slot-fits (p .states)) STATES (negsuc 0) refl))
       (every-dropped (eqZ (negsuc 0)) (p .states) (replicate STATES (negsuc 0)) (every-replicate (eqZ (negsuc 0)) STATES (negsuc 0) refl));
   queue = empty-fits (p .events);
 }
@@ -165,7 +168,8 @@ module _ (p : Plan) where
           (sym (ap (λ x. x .done) (removed-front (u .queue) (omega arith) (fits-len (p .events) (u .queue) (f .queue)))))
           (begin-good p (set-queue (r .queue) u) n (fits (omega arith)))
 
-  append-good : (u : State) (e a : ℤ) → Fit p u → Ends Refusal ((require 10 (event-fits (p .events) e a) then enqueue e a) (begin u 0)) (Good p)
+  append-good : (u : State) (e a : ℤ) → Fit p u
+      → Ends Refusal ((require 10 (event-fits (p .events) e a) then enqueue e a) (begin u 0)) (Good p)
   unfolding _then_ require bind
   append-good u e a f = go (event-fits (p .events) e a) refl
     where
@@ -206,7 +210,8 @@ module _ (p : Plan) (w : Well p) (u : State) where
   plan-start-facts n = outcome-facts p u (plan-start-steps p (begin (fresh-by (p .vars)) n)) (start-good p w n)
 
   module _ (z : Sized u) where
-    tested-facts : (F : Step Ctx) (n : ℕ) → (Fit p u → Ends Refusal (F (begin u n)) (Good p)) → Call-facts p u (outcome u ((plan-tests p u then F) (begin u n)))
+    tested-facts : (F : Step Ctx) (n : ℕ) → (Fit p u → Ends Refusal (F (begin u n)) (Good p))
+        → Call-facts p u (outcome u ((plan-tests p u then F) (begin u n)))
     tested-facts F n h = outcome-facts p u ((plan-tests p u then F) (begin u n)) (tested p u z (Good p) F (begin u n) h)
 
     pub plan-run-facts : (n : ℕ) → Call-facts p u (plan-run p u n)

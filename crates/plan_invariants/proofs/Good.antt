@@ -24,13 +24,15 @@ use Rattle.meaning.specs.Plan.{Plan}
 use Rattle.meaning.specs.Rules.{row-fits, within-row}
 use Rattle.meaning.specs.Steps.{_then_, bind, look, require}
 use Rattle.meaning.specs.Tree.{var-row}
-use Rattle.meaning.specs.Widget.{Ctx, ENTRY, Entry, change, changed, emit, entered, is-active, is-empty, is-filled, left, numbers, sent, set-active}
+use Rattle.meaning.specs.Widget.{Ctx, ENTRY, Entry, change, changed, emit, entered, is-active, is-empty, is-filled, left, numbers, sent}
+use Rattle.meaning.specs.Widget.{set-active}
 use Rattle.meaning.specs.Widget.{set-queue, set-slot, set-value, slot, taken, told, value-of, written}
 use Rattle.meaning.specs.declared.State.{State}
 use Rattle.meaning.specs.declared.chart.Act.{Act}
 use Rattle.meaning.specs.declared.chart.Act.the-variants.{AddTo as add-to, Send as send, SetTo as set-to, TakeTo as take-to, Tell as tell}
 use Rattle.meaning.specs.declared.plan.Instr.{Instr}
-use Rattle.meaning.specs.declared.plan.Instr.the-variants.{Does as does, In as go-in, Out as go-out, SkipEmpty as skip-empty, SkipFull as skip-full}
+use Rattle.meaning.specs.declared.plan.Instr.the-variants.{Does as does, In as go-in, Out as go-out, SkipEmpty as skip-empty}
+use Rattle.meaning.specs.declared.plan.Instr.the-variants.{SkipFull as skip-full}
 use Rattle.meaning.specs.declared.plan.Instr.the-variants.{SkipNot as skip-not, SkipOut as skip-out}
 use Rattle.numbers.specs.Equal.{eqZ}
 use Rattle.numbers.specs.Range.{inRange}
@@ -64,12 +66,14 @@ pub record Good (p : Plan) (k : Ctx) : Type 0 where
 
 -- ---- lists
 
-every-taken-set : {A : Type 0} (p : A → Bool) (n : ℕ) (xs : List A) (i : ℕ) (x : A) → p x ≡ true → every p (take n xs) ≡ true → every p (take n (set xs i x)) ≡ true
+every-taken-set : {A : Type 0} (p : A → Bool) (n : ℕ) (xs : List A) (i : ℕ) (x : A) → p x ≡ true → every p (take n xs) ≡ true
+    → every p (take n (set xs i x)) ≡ true
 unfolding every
 every-taken-set p zero xs i x h e = refl
 every-taken-set p (suc n) [] i x h e = e
 every-taken-set p (suc n) (y ∷ xs) zero x h e = and-both (p x) _ h (and-right (p y) _ e)
-every-taken-set p (suc n) (y ∷ xs) (suc i) x h e = and-both (p y) _ (and-left (p y) _ e) (every-taken-set p n xs i x h (and-right (p y) _ e))
+every-taken-set p (suc n) (y ∷ xs) (suc i) x h e = and-both (p y) _ (and-left (p y) _ e)
+    (every-taken-set p n xs i x h (and-right (p y) _ e))
 
 -- ---- the few changes of a state
 
@@ -78,7 +82,12 @@ module _ (p : Plan) where
   unfolding set-active marks-fit
   mark-fit s b u l f = record {
     started = f .started;
-    sized = record { active = length-set (u .active) s b ∙ f .sized .active; slots = f .sized .slots; vars = f .sized .vars; items = f .sized .items };
+    sized = record {
+      active = length-set (u .active) s b ∙ f .sized .active;
+      slots = f .sized .slots;
+      vars = f .sized .vars;
+      items = f .sized .items;
+    };
     marks = subst (λ x. every not x ≡ true) (sym (drop-set-lt (p .states) (u .active) s b l)) (f .marks);
     values = f .values;
     slots = f .slots;
@@ -89,24 +98,38 @@ module _ (p : Plan) where
   unfolding set-slot plan-slots-fit plan-slot-fits marks-fit
   slot-fit q s u l m f = record {
     started = f .started;
-    sized = record { active = f .sized .active; slots = length-set (u .slots) q (pos s) ∙ f .sized .slots; vars = f .sized .vars; items = f .sized .items };
+    sized = record {
+      active = f .sized .active;
+      slots = length-set (u .slots) q (pos s) ∙ f .sized .slots;
+      vars = f .sized .vars;
+      items = f .sized .items;
+    };
     marks = f .marks;
     values = f .values;
     slots = and-both (every (plan-slot-fits (p .states)) (take (p .states) (set (u .slots) q (pos s)))) _
-        (every-taken-set (plan-slot-fits (p .states)) (p .states) (u .slots) q (pos s) (lt-ltb s (p .states) m) (and-left (every (plan-slot-fits (p .states)) (take (p .states) (u .slots))) _ (f .slots)))
-        (subst (λ x. every (eqZ (negsuc 0)) x ≡ true) (sym (drop-set-lt (p .states) (u .slots) q (pos s) l)) (and-right (every (plan-slot-fits (p .states)) (take (p .states) (u .slots))) _ (f .slots)));
+        (every-taken-set (plan-slot-fits (p .states)) (p .states) (u .slots) q (pos s) (lt-ltb s (p .states) m)
+        (and-left (every (plan-slot-fits (p .states)) (take (p .states) (u .slots))) _ (f .slots)))
+        (subst (λ x. every (eqZ (negsuc 0)) x ≡ true) (sym (drop-set-lt (p .states) (u .slots) q (pos s) l))
+        (and-right (every (plan-slot-fits (p .states)) (take (p .states) (u .slots))) _ (f .slots)));
     queue = f .queue;
   }
 
-  pub value-fit : (v : ℕ) (x : ℤ) (u : State) → Well p → v < length (p .vars) → within-row (var-row (p .vars) v) x ≡ true → Fit p u → Fit p (set-value v x u)
+  pub value-fit : (v : ℕ) (x : ℤ) (u : State) → Well p → v < length (p .vars) → within-row (var-row (p .vars) v) x ≡ true → Fit p u
+      → Fit p (set-value v x u)
   unfolding set-value marks-fit
   value-fit v x u w l e f =
       let long : length (p .vars) ≤ length (u .vars) = omega (arith, f .sized .vars, w .vars) in
       record {
         started = f .started;
-        sized = record { active = f .sized .active; slots = f .sized .slots; vars = length-set (u .vars) v x ∙ f .sized .vars; items = f .sized .items };
+        sized = record {
+          active = f .sized .active;
+          slots = f .sized .slots;
+          vars = length-set (u .vars) v x ∙ f .sized .vars;
+          items = f .sized .items;
+        };
         marks = f .marks;
-        values = values-fit-of (p .vars) (set (u .vars) v x) (omega (arith, long, length-set (u .vars) v x)) (values-set (p .vars) (u .vars) v x l long e (values-of (p .vars) (u .vars) (f .values)));
+        values = values-fit-of (p .vars) (set (u .vars) v x) (omega (arith, long, length-set (u .vars) v x))
+            (values-set (p .vars) (u .vars) v x l long e (values-of (p .vars) (u .vars) (f .values)));
         slots = f .slots;
         queue = f .queue;
       }
@@ -202,7 +225,8 @@ module _ (p : Plan) (w : Well p) where
   -- ---- one instruction
 
   -- OUT s q: the mark goes, and the slot of q, if there is one, takes s
-  out-fit : (s : ℕ) (q : Slot) → s < p .states → Slot-named (p .states) q → (u : State) → Fit p u → Fit p (store-in q s (set-active s false u))
+  out-fit : (s : ℕ) (q : Slot) → s < p .states → Slot-named (p .states) q → (u : State) → Fit p u
+      → Fit p (store-in q s (set-active s false u))
   out-fit s q l m u f = store-fit q s (set-active s false u) m l (mark-fit p s false u l f)
 
   pub instr-good : (a : ℤ) (i : Instr) → Instr-named (p .states) (length (p .vars)) (p .events) i → (k : Ctx) → Good p k
@@ -211,7 +235,8 @@ module _ (p : Plan) (w : Well p) where
   instr-good a (go-in s) h k g = gone-on Refusal (Good p) (mark-entered s k)
       (then-runs Refusal (Good p) _ _ (emit-good p (entered s) h) (change-good p (set-active s true) (λ u. mark-fit p s true u h)) k g)
   instr-good a (go-out s q) h k g = gone-on Refusal (Good p) (mark-left q s k)
-      (then-runs Refusal (Good p) _ _ (emit-good p (left s) (h .0)) (change-good p (λ u. store-in q s (set-active s false u)) (out-fit s q (h .0) (h .1))) k g)
+      (then-runs Refusal (Good p) _ _ (emit-good p (left s) (h .0))
+      (change-good p (λ u. store-in q s (set-active s false u)) (out-fit s q (h .0) (h .1))) k g)
   instr-good a (skip-out s n) h k g = either-way Refusal (Good p) (is-active (k .state) s) n k g
   instr-good a (skip-empty s n) h k g = either-way Refusal (Good p) (is-filled (slot (k .state) s)) n k g
   instr-good a (skip-full s n) h k g = either-way Refusal (Good p) (is-empty (slot (k .state) s)) n k g

@@ -21,22 +21,26 @@ use Rattle.plan_invariants.proofs.Calls.{fit-own, own-fit, plan-post-fa
 use Rattle.plan_invariants.proofs.Good.{Fit}
 use Rattle.plan_invariants.proofs.Root.{root-after-post}
 use Rattle.plan_invariants.proofs.Well.{Well, well}
-use Rattle.plan_invariants.specs.Replay.{Replayed, post-on, posted, ran, replay, replay-by, replay-examined, replay-once, replayed, run-on}
+use Rattle.plan_invariants.specs.Replay.{Replayed, post-on, posted, ran, replay, replay-by, replay-examined, replay-once, replayed}
+use Rattle.plan_invariants.specs.Replay.{run-on}
 use Rattle.queue.specs.Queue.{removed}
 use Rattle.queue.specs.declared.Item.{Item}
 
 -- ---- the fold: equal outcomes, and equal ways on where they are done
 
-posted-same : (d : ℕ) (t : List ℤ) (o q : Outcome) (f g : State → Replayed) → o ≡ q → (o .number ≡ 0 → f (o .after) ≡ g (o .after)) → posted d t o f ≡ posted d t q g
+posted-same : (d : ℕ) (t : List ℤ) (o q : Outcome) (f g : State → Replayed) → o ≡ q → (o .number ≡ 0 → f (o .after) ≡ g (o .after))
+    → posted d t o f ≡ posted d t q g
 unfolding posted
 posted-same d t o q f g e h = go (eqb (o .number) 0) refl ∙ ap (λ x. posted d t x g) e
   where
     go : (b : Bool) → eqb (o .number) 0 ≡ b
-        → _≡_ {A = Replayed} (elim b [ true ↦ f (o .after) | false ↦ replayed d (o .number) (o .after) t ]) (elim b [ true ↦ g (o .after) | false ↦ replayed d (o .number) (o .after) t ])
+        → _≡_ {A = Replayed} (elim b [ true ↦ f (o .after) | false ↦ replayed d (o .number) (o .after) t ])
+        (elim b [ true ↦ g (o .after) | false ↦ replayed d (o .number) (o .after) t ])
     go true k = h (eqb-true (o .number) 0 k)
     go false k = refl
 
-ran-same : (d : ℕ) (o q : Outcome) (f g : State → List ℤ → Replayed) → o ≡ q → (o .number ≡ 0 → f (o .after) (o .trace) ≡ g (o .after) (o .trace)) → ran d o f ≡ ran d q g
+ran-same : (d : ℕ) (o q : Outcome) (f g : State → List ℤ → Replayed) → o ≡ q
+    → (o .number ≡ 0 → f (o .after) (o .trace) ≡ g (o .after) (o .trace)) → ran d o f ≡ ran d q g
 unfolding ran
 ran-same d o q f g e h = go (eqb (o .number) 0) refl ∙ ap (λ x. ran d x g) e
   where
@@ -58,11 +62,13 @@ module _ (p : Plan) (u : State) (f : Fit p u) where
 
   pub post-same : (x : Item) → plan-post p u (x .event) (x .arg) ≡ post-on p x u
   unfolding plan-post post-on
-  post-same x = ap (outcome u) (tests-root (require 10 (event-fits (p .events) (x .event) (x .arg)) then enqueue (x .event) (x .arg)) (begin u 0))
+  post-same x = ap (outcome u) (tests-root (require 10 (event-fits (p .events) (x .event) (x .arg)) then enqueue (x .event) (x .arg))
+      (begin u 0))
 
   pub run-same : is-active u 0 ≡ true → (n : ℕ) → plan-run p u n ≡ run-on p n u
   unfolding plan-run run-on _then_ require bind
-  run-same a n = ap (outcome u) (tests-root (plan-react p (removed (u .queue))) (begin u n) ∙ ap (λ b. bind (require 6 b (begin u n)) (plan-react p (removed (u .queue)))) a)
+  run-same a n = ap (outcome u) (tests-root (plan-react p (removed (u .queue))) (begin u n)
+      ∙ ap (λ b. bind (require 6 b (begin u n)) (plan-react p (removed (u .queue)))) a)
 
 -- ---- replay from a state that is fit
 
@@ -73,7 +79,8 @@ abbrev calls-run : Plan → ℕ → State → Outcome
 calls-run p n v = plan-run p v n
 
 module _ (p : Plan) (w : Well p) (n : ℕ) where
-  pub replay-same : (xs : List Item) (d : ℕ) (u : State) (t : List ℤ) → Fit p u → replay-by (calls-post p) (calls-run p n) d u t xs ≡ replay-by (post-on p) (run-on p n) d u t xs
+  pub replay-same : (xs : List Item) (d : ℕ) (u : State) (t : List ℤ) → Fit p u
+      → replay-by (calls-post p) (calls-run p n) d u t xs ≡ replay-by (post-on p) (run-on p n) d u t xs
   unfolding replay-by
   replay-same [] d u t f = refl
   replay-same (x ∷ xs) d u t f = posted-same d t (calls-post p x u) (post-on p x u)
@@ -82,7 +89,8 @@ module _ (p : Plan) (w : Well p) (n : ℕ) where
       (post-same p u f x)
       (λ e. let v = calls-post p x u .after in
       let g = plan-post-facts p w u (f .sized) (x .event) (x .arg) .done e in
-      ran-same d (calls-run p n v) (run-on p n v) (λ z s. replay-by (calls-post p) (calls-run p n) (suc d) z s xs) (λ z s. replay-by (post-on p) (run-on p n) (suc d) z s xs)
+      ran-same d (calls-run p n v) (run-on p n v) (λ z s. replay-by (calls-post p) (calls-run p n) (suc d) z s xs)
+      (λ z s. replay-by (post-on p) (run-on p n) (suc d) z s xs)
       (run-same p v g (root-after-post p u (x .event) (x .arg) e) n)
       (λ r. replay-same xs (suc d) (calls-run p n v .after) (calls-run p n v .trace) (plan-run-facts p w v (g .sized) n .done r)))
 
@@ -96,7 +104,8 @@ module _ (p : Plan) (u : State) where
 
   post-refused : (m : ℕ) → plan-tests p u (begin u 0) ≡ refuse m → (x : Item) → calls-post p x u ≡ refused m 0 u
   unfolding plan-post outcome
-  post-refused m e x = ap (outcome u) (tests-refuse (require 10 (event-fits (p .events) (x .event) (x .arg)) then enqueue (x .event) (x .arg)) (begin u 0) m e)
+  post-refused m e x = ap (outcome u) (tests-refuse
+      (require 10 (event-fits (p .events) (x .event) (x .arg)) then enqueue (x .event) (x .arg)) (begin u 0) m e)
 
   module _ (w : Well p) (n : ℕ) (x : Item) (xs : List Item) where
     abbrev by-calls : Replayed
@@ -105,23 +114,28 @@ module _ (p : Plan) (u : State) where
     refused-same : (m : ℕ) → eqb m 0 ≡ false → plan-tests p u (begin u 0) ≡ refuse m → by-calls ≡ replay-examined p u (x ∷ xs) n
     unfolding replay-examined replay-by posted outcome refused
     refused-same m z e =
-        ap (λ o. posted 0 [] o (λ v. ran 0 (calls-run p n v) (λ y s. replay-by (calls-post p) (calls-run p n) 1 y s xs))) (post-refused m e x)
+        ap (λ o. posted 0 [] o (λ v. ran 0 (calls-run p n v) (λ y s. replay-by (calls-post p) (calls-run p n) 1 y s xs)))
+        (post-refused m e x)
         ∙ stops (λ v. ran 0 (calls-run p n v) (λ y s. replay-by (calls-post p) (calls-run p n) 1 y s xs))
-        ∙ sym (ap (λ r. posted 0 [] (outcome u r) (λ v. replay-by (post-on p) (run-on p n) 0 v [] (x ∷ xs))) e ∙ stops (λ v. replay-by (post-on p) (run-on p n) 0 v [] (x ∷ xs)))
+        ∙ sym (ap (λ r. posted 0 [] (outcome u r) (λ v. replay-by (post-on p) (run-on p n) 0 v [] (x ∷ xs))) e
+        ∙ stops (λ v. replay-by (post-on p) (run-on p n) 0 v [] (x ∷ xs)))
       where
         stops : (f : State → Replayed) → posted 0 [] (refused m 0 u) f ≡ replayed 0 m u []
         stops f = ap (λ b. elim b [ true ↦ f u | false ↦ replayed 0 m u [] ]) z
 
     passed-same : Fit p u → plan-tests p u (begin u 0) ≡ ok (begin u 0) → by-calls ≡ replay-examined p u (x ∷ xs) n
     unfolding replay-examined posted outcome begin
-    passed-same f e = replay-same p w n (x ∷ xs) 0 u [] f ∙ sym (ap (λ r. posted 0 [] (outcome u r) (λ v. replay-by (post-on p) (run-on p n) 0 v [] (x ∷ xs))) e)
+    passed-same f e = replay-same p w n (x ∷ xs) 0 u [] f
+        ∙ sym (ap (λ r. posted 0 [] (outcome u r) (λ v. replay-by (post-on p) (run-on p n) 0 v [] (x ∷ xs))) e)
 
     pub replay-examined-same : Sized u → by-calls ≡ replay-examined p u (x ∷ xs) n
     unfolding plan-tests _then_ require bind
     replay-examined-same z = go (u .started) (plan-own (p .states) (p .vars) (p .events) u) refl refl
       where
-        tests-are : (a b : Bool) → u .started ≡ a → plan-own (p .states) (p .vars) (p .events) u ≡ b → plan-tests p u (begin u 0) ≡ (require 7 a then require 6 b) (begin u 0)
-        tests-are a b s e = ap (λ c. (require 7 c then require 6 (plan-own (p .states) (p .vars) (p .events) u)) (begin u 0)) s ∙ ap (λ c. (require 7 a then require 6 c) (begin u 0)) e
+        tests-are : (a b : Bool) → u .started ≡ a → plan-own (p .states) (p .vars) (p .events) u ≡ b
+            → plan-tests p u (begin u 0) ≡ (require 7 a then require 6 b) (begin u 0)
+        tests-are a b s e = ap (λ c. (require 7 c then require 6 (plan-own (p .states) (p .vars) (p .events) u)) (begin u 0)) s
+            ∙ ap (λ c. (require 7 a then require 6 c) (begin u 0)) e
 
         go : (a b : Bool) → u .started ≡ a → plan-own (p .states) (p .vars) (p .events) u ≡ b → by-calls ≡ replay-examined p u (x ∷ xs) n
         go false b s e = refused-same 7 refl (tests-are false b s e)
@@ -137,7 +151,8 @@ replay-tests-once ns u z [] n = refl
 replay-tests-once ns u z (x ∷ xs) n = go (well-formed ns) refl
   where
     by : Bool → Replayed
-    by b = replay-by (λ y v. elim b [ true ↦ plan-post (plan-by ns) v (y .event) (y .arg) | false ↦ refused 5 0 v ]) (λ v. elim b [ true ↦ plan-run (plan-by ns) v n | false ↦ refused 5 0 v ]) 0 u [] (x ∷ xs)
+    by b = replay-by (λ y v. elim b [ true ↦ plan-post (plan-by ns) v (y .event) (y .arg) | false ↦ refused 5 0 v ])
+        (λ v. elim b [ true ↦ plan-run (plan-by ns) v n | false ↦ refused 5 0 v ]) 0 u [] (x ∷ xs)
 
     once : Bool → Replayed
     once b = elim b [ true ↦ replay-examined (plan-by ns) u (x ∷ xs) n | false ↦ replayed 0 5 u [] ]

@@ -17,7 +17,8 @@ use Rattle.meaning.specs.Calls.{fresh-by, outcome, refused, take-front}
 use Rattle.meaning.specs.Effects.{enqueue, mark-entered}
 use Rattle.meaning.specs.Foreign.{event-fits, plan-own}
 use Rattle.meaning.specs.Lists.{every}
-use Rattle.meaning.specs.Machine.{exec, exec-at, exec-now, go-on, passing, plan-discard, plan-post, plan-react, plan-run, plan-settle, plan-start}
+use Rattle.meaning.specs.Machine.{exec, exec-at, exec-now, go-on, passing, plan-discard, plan-post, plan-react, plan-run, plan-settle}
+use Rattle.meaning.specs.Machine.{plan-start}
 use Rattle.meaning.specs.Machine.{plan-start-steps, plan-tests, run-block, run-code}
 use Rattle.meaning.specs.Plan.{Plan}
 use Rattle.meaning.specs.Steps.{Res, Step, _then_, bind, each, ok, refuse, require}
@@ -25,12 +26,14 @@ use Rattle.meaning.specs.WellFormed.{plan-by, well-formed}
 use Rattle.meaning.specs.Widget.{Ctx, begin, change, emit, entered, is-active, set-active}
 use Rattle.meaning.specs.declared.State.{State}
 use Rattle.meaning.specs.declared.plan.Instr.{Instr}
-use Rattle.meaning.specs.declared.plan.Instr.the-variants.{Does as does, In as go-in, Out as go-out, SkipEmpty as skip-empty, SkipFull as skip-full}
+use Rattle.meaning.specs.declared.plan.Instr.the-variants.{Does as does, In as go-in, Out as go-out, SkipEmpty as skip-empty}
+use Rattle.meaning.specs.declared.plan.Instr.the-variants.{SkipFull as skip-full}
 use Rattle.meaning.specs.declared.plan.Instr.the-variants.{SkipNot as skip-not, SkipOut as skip-out}
 use Rattle.plan_invariants.proofs.AnyNumbers.{formed-facts}
 use Rattle.plan_invariants.proofs.Answering.{formed, plan-make}
 use Rattle.plan_invariants.proofs.Calls.{fit-own, own-root}
-use Rattle.plan_invariants.proofs.Marks.{Marking, On, append-marked, emit-marked, front-marked, instr-marked, marked-effects, react-marked}
+use Rattle.plan_invariants.proofs.Marks.{Marking, On, append-marked, emit-marked, front-marked, instr-marked, marked-effects}
+use Rattle.plan_invariants.proofs.Marks.{react-marked}
 use Rattle.plan_invariants.proofs.Walk.{Ends, Refusal, Runs, code-ends, code-runs, each-taken, ends-bind, gone-on, settle-runs}
 use Rattle.plan_invariants.specs.Answers.{machine-make}
 use Rattle.plan_invariants.specs.Root.{begins-in-root, enters-root, leaves-root, never-leaves-root, starts-in-root}
@@ -70,7 +73,8 @@ root-marking = record {
 stay-each : (is : List Instr) → every (λ i. not (leaves-root i)) is ≡ true → Each Stays is
 unfolding every
 stay-each [] e = none-left
-stay-each (i ∷ is) e = one-more (is-not (leaves-root i) (and-left (not (leaves-root i)) _ e)) (stay-each is (and-right (not (leaves-root i)) _ e))
+stay-each (i ∷ is) e = one-more (is-not (leaves-root i) (and-left (not (leaves-root i)) _ e))
+    (stay-each is (and-right (not (leaves-root i)) _ e))
   where
     is-not : (b : Bool) → not b ≡ true → b ≡ false
     is-not true q = absurd (false≢true q)
@@ -87,9 +91,11 @@ module _ (p : Plan) (never : never-leaves-root p ≡ true) where
   -- IN 0, from any marks of 01's size
   first-rooted : (s : ℕ) → eqb s 0 ≡ true → (k : Ctx) → length (k .state .active) ≡ STATES → Ends Refusal (mark-entered s k) (On Marked)
   unfolding mark-entered _then_ set-active change
-  first-rooted s e k l = ends-bind Refusal (λ j. length (j .state .active) ≡ STATES) (On Marked) (emit (entered s) k) (change (set-active s true))
+  first-rooted s e k l = ends-bind Refusal (λ j. length (j .state .active) ≡ STATES) (On Marked) (emit (entered s) k)
+      (change (set-active s true))
       (emit-marked Refusal (λ x. length x ≡ STATES) (λ z. omega arith) (entered s) k l)
-      (λ j m. subst (λ i. Marked (set (j .state .active) i true)) (sym (eqb-true s 0 e)) (getD-set-same (j .state .active) 0 true false (omega (arith, m))))
+      (λ j m. subst (λ i. Marked (set (j .state .active) i true)) (sym (eqb-true s 0 e))
+      (getD-set-same (j .state .active) 0 true false (omega (arith, m))))
 
   -- a block that begins so
   block-rooted : (is : List Instr) → begins-in-root is ≡ true → Each Stays is → (k : Ctx) → length (k .state .active) ≡ STATES
@@ -114,7 +120,8 @@ module _ (p : Plan) (never : never-leaves-root p ≡ true) where
   start-rooted e n =
       let first = take (p .start-length) (p .code) in
       ends-bind Refusal (On Marked) (On Marked) (run-block (p .vars) (pos 0) first (begin (fresh-by (p .vars)) n)) (plan-settle p)
-      (block-rooted first e (each-taken Stays (p .start-length) (p .code) code-stays) (begin (fresh-by (p .vars)) n) (length-replicate STATES false))
+      (block-rooted first e (each-taken Stays (p .start-length) (p .code) code-stays) (begin (fresh-by (p .vars)) n)
+      (length-replicate STATES false))
       (settle-runs p Refusal Stays (On Marked) (marked-effects p Refusal Stays Marked root-marking) code-stays)
 
 -- ---- calls: one that is done leaves the root active
@@ -125,37 +132,45 @@ done-rooted u (ok k) h e = h
 done-rooted u (refuse m) h e = absurd (h e)
 
 -- past the tests the root is active
-tested-rooted : (p : Plan) (u : State) (F : Step Ctx) (k : Ctx) → k .state .active ≡ u .active → Runs Refusal (On Marked) F → Ends Refusal ((plan-tests p u then F) k) (On Marked)
+tested-rooted : (p : Plan) (u : State) (F : Step Ctx) (k : Ctx) → k .state .active ≡ u .active → Runs Refusal (On Marked) F
+    → Ends Refusal ((plan-tests p u then F) k) (On Marked)
 unfolding plan-tests _then_ require bind is-active
 tested-rooted p u F k q f = go (u .started) (plan-own (p .states) (p .vars) (p .events) u) refl
   where
-    go : (a b : Bool) → plan-own (p .states) (p .vars) (p .events) u ≡ b → Ends Refusal (bind (bind (require 7 a k) (require 6 b)) F) (On Marked)
+    go : (a b : Bool) → plan-own (p .states) (p .vars) (p .events) u ≡ b
+        → Ends Refusal (bind (bind (require 7 a k) (require 6 b)) F) (On Marked)
     go false b e = λ z. omega arith
     go true false e = λ z. omega arith
     go true true e = f k (subst Marked (sym q) (own-root p u e))
 
 module _ (p : Plan) (u : State) where
-  pub root-after-start : never-leaves-root p ≡ true → starts-in-root p ≡ true → (n : ℕ) → plan-start p u n .number ≡ 0 → is-active (plan-start p u n .after) 0 ≡ true
+  pub root-after-start : never-leaves-root p ≡ true → starts-in-root p ≡ true → (n : ℕ) → plan-start p u n .number ≡ 0
+      → is-active (plan-start p u n .after) 0 ≡ true
   unfolding plan-start
   root-after-start l s n = done-rooted u (plan-start-steps p (begin (fresh-by (p .vars)) n)) (start-rooted p l s n)
 
   pub root-after-run : never-leaves-root p ≡ true → (n : ℕ) → plan-run p u n .number ≡ 0 → is-active (plan-run p u n .after) 0 ≡ true
   unfolding plan-run begin
-  root-after-run l n = done-rooted u ((plan-tests p u then plan-react p (removed (u .queue))) (begin u n)) (tested-rooted p u (plan-react p (removed (u .queue))) (begin u n) refl (react-rooted p l (removed (u .queue))))
+  root-after-run l n = done-rooted u ((plan-tests p u then plan-react p (removed (u .queue))) (begin u n))
+      (tested-rooted p u (plan-react p (removed (u .queue))) (begin u n) refl (react-rooted p l (removed (u .queue))))
 
   -- post and discard touch no mark, whatever the plan
   pub root-after-post : (e a : ℤ) → plan-post p u e a .number ≡ 0 → is-active (plan-post p u e a .after) 0 ≡ true
   unfolding plan-post begin
   root-after-post e a = done-rooted u ((plan-tests p u then require 10 (event-fits (p .events) e a) then enqueue e a) (begin u 0))
-      (tested-rooted p u (require 10 (event-fits (p .events) e a) then enqueue e a) (begin u 0) refl (append-marked Refusal Marked (λ z. omega arith) (λ z. omega arith) (event-fits (p .events) e a) e a))
+      (tested-rooted p u (require 10 (event-fits (p .events) e a) then enqueue e a) (begin u 0) refl
+      (append-marked Refusal Marked (λ z. omega arith) (λ z. omega arith) (event-fits (p .events) e a) e a))
 
   pub root-after-discard : plan-discard p u .number ≡ 0 → is-active (plan-discard p u .after) 0 ≡ true
   unfolding plan-discard begin
-  root-after-discard = done-rooted u ((plan-tests p u then take-front (removed (u .queue))) (begin u 0)) (tested-rooted p u (take-front (removed (u .queue))) (begin u 0) refl (front-marked Refusal Marked (λ z. omega arith) (removed (u .queue))))
+  root-after-discard = done-rooted u ((plan-tests p u then take-front (removed (u .queue))) (begin u 0))
+      (tested-rooted p u (take-front (removed (u .queue))) (begin u 0) refl
+      (front-marked Refusal Marked (λ z. omega arith) (removed (u .queue))))
 
 -- ---- over any well-formed numbers: all of the machine's test
 
-module _ (ns : List ℤ) (w : well-formed ns ≡ true) (never : never-leaves-root (plan-by ns) ≡ true) (starts : starts-in-root (plan-by ns) ≡ true) where
+module _ (ns : List ℤ) (w : well-formed ns ≡ true) (never : never-leaves-root (plan-by ns) ≡ true)
+    (starts : starts-in-root (plan-by ns) ≡ true) where
   root-after : (x : Call) (u : State) → plan-make (plan-by ns) x u .number ≡ 0 → is-active (plan-make (plan-by ns) x u .after) 0 ≡ true
   unfolding plan-make
   root-after (to-start n) u e = root-after-start (plan-by ns) u never starts n e
@@ -167,8 +182,10 @@ module _ (ns : List ℤ) (w : well-formed ns ≡ true) (never : never-leaves-roo
   machine-root x u = subst (λ o. o .number ≡ 0 → is-active (o .after) 0 ≡ true) (sym (formed ns w x u)) (root-after x u)
 
   -- a call that is done leaves a started state that passes the machine's whole test for 6
-  pub machine-own : (x : Call) (u : State) → Sized u → machine-make ns x u .number ≡ 0
-      → (machine-make ns x u .after .started ≡ true) × (plan-own (plan-by ns .states) (plan-by ns .vars) (plan-by ns .events) (machine-make ns x u .after) ≡ true)
+  abbrev Owned : State → Type 0
+  Owned v = (v .started ≡ true) × (plan-own (plan-by ns .states) (plan-by ns .vars) (plan-by ns .events) v ≡ true)
+
+  pub machine-own : (x : Call) (u : State) → Sized u → machine-make ns x u .number ≡ 0 → Owned (machine-make ns x u .after)
   machine-own x u z e =
       let f = formed-facts ns w x u z .done e in
       (f .started, fit-own (plan-by ns) (machine-make ns x u .after) f ∙ machine-root x u e)

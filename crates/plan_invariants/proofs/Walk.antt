@@ -12,7 +12,8 @@ use borrow.Author.Tests.{eq-eqb}
 use Rattle.plan_invariants.specs.Names.{of-plan}
 use Rattle.laws.proofs.Lists.{Each, each-kept, each-weaker, none-left, one-more, or-left, or-right}
 use Rattle.meaning.specs.Lists.{exists, keep}
-use Rattle.meaning.specs.Machine.{Mach, chosen-heads, end-code, exec, exec-at, exec-now, fire-head, go-on, head-block, head-enabled, on-if, passing, plan-settle, plan-settle-in}
+use Rattle.meaning.specs.Machine.{Mach, chosen-heads, end-code, exec, exec-at, exec-now, fire-head, go-on, head-block, head-enabled}
+use Rattle.meaning.specs.Machine.{on-if, passing, plan-settle, plan-settle-in}
 use Rattle.meaning.specs.Machine.{plan-step, run-block, run-code, spans-meet, thin-heads}
 use Rattle.meaning.specs.Plan.{Plan}
 use Rattle.meaning.specs.Reaction.{if-any}
@@ -49,7 +50,8 @@ module _ (R : ℕ → Type 0) (P : Ctx → Type 0) where
   unfolding _then_
   then-runs F G f g k h = ends-bind R P P (F k) G (f k h) g
 
-  pub each-runs : {A : Type 0} (F : A → Step Ctx) (C : A → Type 0) → ((x : A) → C x → Runs R P (F x)) → (xs : List A) → Each C xs → Runs R P (each F xs)
+  pub each-runs : {A : Type 0} (F : A → Step Ctx) (C : A → Type 0) → ((x : A) → C x → Runs R P (F x)) → (xs : List A) → Each C xs
+      → Runs R P (each F xs)
   unfolding each
   each-runs F C f [] none-left k h = h
   each-runs F C f (x ∷ xs) (one-more c cs) k h = ends-bind R P P (F x k) (each F xs) (f x c k h) (each-runs F C f xs cs)
@@ -77,7 +79,8 @@ module _ (R : ℕ → Type 0) (P : Ctx → Type 0) where
 
   -- ---- blocks
 
-  module _ (vs : List VarRow) (a : ℤ) (C : Instr → Type 0) (f : (i : Instr) → C i → (k : Ctx) → P k → Ends R (exec-now vs a i k) (λ m. P (m .ctx))) where
+  module _ (vs : List VarRow) (a : ℤ) (C : Instr → Type 0)
+      (f : (i : Instr) → C i → (k : Ctx) → P k → Ends R (exec-now vs a i k) (λ m. P (m .ctx))) where
     pub exec-runs : (i : Instr) → C i → (m : Mach) → P (m .ctx) → Ends R (exec vs a i m) (λ j. P (j .ctx))
     unfolding exec exec-at passing
     exec-runs i c m h = at (m .over)
@@ -89,7 +92,8 @@ module _ (R : ℕ → Type 0) (P : Ctx → Type 0) where
     pub code-runs : (is : List Instr) → Each C is → (m : Mach) → P (m .ctx) → Ends R (run-code vs a is m) (λ j. P (j .ctx))
     unfolding run-code each
     code-runs [] none-left m h = h
-    code-runs (i ∷ is) (one-more c cs) m h = ends-bind R (λ j. P (j .ctx)) (λ j. P (j .ctx)) (exec vs a i m) (each (exec vs a) is) (exec-runs i c m h) (code-runs is cs)
+    code-runs (i ∷ is) (one-more c cs) m h = ends-bind R (λ j. P (j .ctx)) (λ j. P (j .ctx)) (exec vs a i m) (each (exec vs a) is)
+        (exec-runs i c m h) (code-runs is cs)
 
   pub code-ends : (r : Res Mach) → Ends R r (λ j. P (j .ctx)) → Ends R (end-code r) P
   unfolding end-code
@@ -115,7 +119,8 @@ unfolding thin-heads
 thinned H gone [] none-left = none-left
 thinned H gone (h ∷ hs) (one-more p ps) = go (exists (spans-meet h) gone) (thinned H gone hs ps) (thinned H (h ∷ gone) hs ps)
   where
-    go : (b : Bool) → Each H (thin-heads gone hs) → Each H (thin-heads (h ∷ gone) hs) → Each H (elim b [ true ↦ thin-heads gone hs | false ↦ h ∷ thin-heads (h ∷ gone) hs ])
+    go : (b : Bool) → Each H (thin-heads gone hs) → Each H (thin-heads (h ∷ gone) hs)
+        → Each H (elim b [ true ↦ thin-heads gone hs | false ↦ h ∷ thin-heads (h ∷ gone) hs ])
     go true less more = less
     go false less more = one-more p more
 
@@ -131,7 +136,8 @@ found-in : (hs : List Head) → Each (λ h. exists (λ g. eqb (g .transition) (h
 unfolding exists
 found-in [] = none-left
 found-in (h ∷ hs) = one-more (or-left _ _ (eq-eqb (h .transition) (h .transition) refl))
-    (each-weaker (λ x. exists (λ g. eqb (g .transition) (x .transition)) hs ≡ true) (λ x. exists (λ g. eqb (g .transition) (x .transition)) (h ∷ hs) ≡ true) hs
+    (each-weaker (λ x. exists (λ g. eqb (g .transition) (x .transition)) hs ≡ true)
+    (λ x. exists (λ g. eqb (g .transition) (x .transition)) (h ∷ hs) ≡ true) hs
     (λ x e. or-right (eqb (h .transition) (x .transition)) _ e) (found-in hs))
 
 pub heads-named : (p : Plan) → Each (Head-named p) (p .heads)
@@ -149,21 +155,25 @@ pub record Effects (p : Plan) (R : ℕ → Type 0) (C : Instr → Type 0) (P : C
 module _ (p : Plan) (R : ℕ → Type 0) (C : Instr → Type 0) (P : Ctx → Type 0) (w : Effects p R C P) where
   pub block-runs : (a : ℤ) (is : List Instr) → Each C is → Runs R P (run-block (p .vars) a is)
   unfolding run-block passing
-  block-runs a is c k h = code-ends R P (run-code (p .vars) a is (passing 0 k)) (code-runs R P (p .vars) a C (w .does a) is c (passing 0 k) h)
+  block-runs a is c k h = code-ends R P (run-code (p .vars) a is (passing 0 k))
+      (code-runs R P (p .vars) a C (w .does a) is c (passing 0 k) h)
 
   module _ (c : Each C (p .code)) where
     pub head-runs : (a : ℤ) (h : Head) → Head-named p h → Runs R P (fire-head p a h)
     unfolding fire-head head-block
-    head-runs a h n = then-runs R P _ _ (w .takes h n) (block-runs a (take (h .length) (drop (h .start) (p .code))) (each-taken C (h .length) _ (each-dropped C (h .start) (p .code) c)))
+    head-runs a h n = then-runs R P _ _ (w .takes h n)
+        (block-runs a (take (h .length) (drop (h .start) (p .code))) (each-taken C (h .length) _ (each-dropped C (h .start) (p .code) c)))
 
     pub step-runs : (e : ℕ) (a : ℤ) → Runs R P (plan-step p e a)
     unfolding plan-step
-    step-runs e a = look-runs R P _ (λ k h. each-runs R P (fire-head p a) (Head-named p) (head-runs a) (chosen-heads p e (k .state)) (chosen-each (Head-named p) p e (k .state) (heads-named p)))
+    step-runs e a = look-runs R P _ (λ k h. each-runs R P (fire-head p a) (Head-named p) (head-runs a) (chosen-heads p e (k .state))
+        (chosen-each (Head-named p) p e (k .state) (heads-named p)))
 
     settle-in-runs : (n : ℕ) → Runs R P (plan-settle-in p n)
     unfolding plan-settle-in
     settle-in-runs zero = look-runs R P _ (λ k h. if-any-runs R P (chosen-heads p 0 (k .state)) _ (λ j g. w .unsettled))
-    settle-in-runs (suc n) = look-runs R P _ (λ k h. if-any-runs R P (chosen-heads p 0 (k .state)) _ (then-runs R P _ _ (step-runs 0 (pos 0)) (settle-in-runs n)))
+    settle-in-runs (suc n) = look-runs R P _ (λ k h. if-any-runs R P (chosen-heads p 0 (k .state)) _
+        (then-runs R P _ _ (step-runs 0 (pos 0)) (settle-in-runs n)))
 
     pub settle-runs : Runs R P (plan-settle p)
     unfolding plan-settle

@@ -18,13 +18,15 @@ use Rattle.meaning.specs.Rules.{row-fits}
 use Rattle.meaning.specs.Value.{VAR-ROW, count-fits, num, size-by, var-by, var-statable}
 use Rattle.meaning.specs.WellFormed.{FORMS, Field, INSTR-ROW, a-constant, a-parent, a-skip, a-state, a-variable, an-event, form, unused}
 use Rattle.meaning.specs.WellFormed.{all-blocks-fill, blocks-fill, code-at, code-fits, code-rows, counts-keep, counts-of, field-fits}
-use Rattle.meaning.specs.WellFormed.{form-fits, head-fits, head-rows, instr-act-by, instr-by, instr-fits, instr-of, is-whole, left-after-each}
+use Rattle.meaning.specs.WellFormed.{form-fits, head-fits, head-rows, instr-act-by, instr-by, instr-fits, instr-of, is-whole}
+use Rattle.meaning.specs.WellFormed.{left-after-each}
 use Rattle.meaning.specs.WellFormed.{left-in-blocks, no-form, plan-by, rows-well-formed, var-keeps, var-rows, well-formed}
 use Rattle.meaning.specs.declared.chart.Act.{Act}
 use Rattle.meaning.specs.declared.chart.Act.the-variants.{AddTo as add-to, Send as send, SetTo as set-to, TakeTo as take-to, Tell as tell}
 use Rattle.meaning.specs.declared.plan.Counts.{Counts}
 use Rattle.meaning.specs.declared.plan.Instr.{Instr}
-use Rattle.meaning.specs.declared.plan.Instr.the-variants.{Does as does, In as go-in, Out as go-out, SkipEmpty as skip-empty, SkipFull as skip-full}
+use Rattle.meaning.specs.declared.plan.Instr.the-variants.{Does as does, In as go-in, Out as go-out, SkipEmpty as skip-empty}
+use Rattle.meaning.specs.declared.plan.Instr.the-variants.{SkipFull as skip-full}
 use Rattle.meaning.specs.declared.plan.Instr.the-variants.{SkipNot as skip-not, SkipOut as skip-out}
 use Rattle.numbers.specs.Equal.{eqZ}
 use Rattle.numbers.specs.Place.{placeOf as as-slot}
@@ -96,13 +98,29 @@ module _ (k : Counts) (left : ℕ) (row : List ℤ) where
   unfolding form-fits field-fits instr-of instr-act-by
   code-named zero e = absurd (false≢true e)
   code-named (suc zero) e = below-of (k .states) (num row 1) (and-left _ _ e)
-  code-named (suc (suc zero)) e = (below-of (k .states) (num row 1) (and-left _ _ e), slot-of (k .states) (num row 2) (second a-state a-parent unused e))
+  code-named (suc (suc zero)) e = (
+    below-of (k .states) (num row 1) (and-left _ _ e),
+    slot-of (k .states) (num row 2)
+        (second a-state a-parent unused e),
+  )
   code-named (suc (suc (suc zero))) e = below-of (k .states) (num row 1) (and-left _ _ e)
   code-named (suc (suc (suc (suc zero)))) e = below-of (k .states) (num row 1) (and-left _ _ e)
   code-named (suc (suc (suc (suc (suc zero))))) e = below-of (k .states) (num row 1) (and-left _ _ e)
-  code-named (suc (suc (suc (suc (suc (suc zero)))))) e = (below-of (k .states) (num row 1) (and-left _ _ e), below-of (k .states) (num row 2) (second a-state a-state a-skip e))
-  code-named (suc (suc (suc (suc (suc (suc (suc zero))))))) e = (below-of (k .vars) (num row 1) (and-left _ _ e), second a-variable a-constant unused e)
-  code-named (suc (suc (suc (suc (suc (suc (suc (suc zero)))))))) e = (below-of (k .vars) (num row 1) (and-left _ _ e), second a-variable a-constant unused e)
+  code-named (suc (suc (suc (suc (suc (suc zero)))))) e = (
+    below-of (k .states) (num row 1) (and-left _ _ e),
+    below-of (k .states)
+        (num row 2) (second a-state a-state a-skip e),
+  )
+  code-named (suc (suc (suc (suc (suc (suc (suc zero))))))) e = (
+    below-of (k .vars) (num row 1)
+        (and-left _ _ e),
+    second a-variable a-constant unused e,
+  )
+  code-named (suc (suc (suc (suc (suc (suc (suc (suc zero)))))))) e = (
+    below-of (k .vars) (num row 1)
+        (and-left _ _ e),
+    second a-variable a-constant unused e,
+  )
   code-named (suc (suc (suc (suc (suc (suc (suc (suc (suc zero))))))))) e = below-of (k .vars) (num row 1) (and-left _ _ e)
   code-named (suc (suc (suc (suc (suc (suc (suc (suc (suc (suc zero)))))))))) e =
       let f = event-of (k .events) (num row 1) (and-left _ _ e) in
@@ -125,10 +143,17 @@ in-row (suc n) i [] h = refl
 in-row (suc n) zero (x ∷ l) h = refl
 in-row (suc n) (suc i) (x ∷ l) h = in-row n i l (omega arith)
 
-row-named : (k : Counts) (left : ℕ) (l : List ℤ) → instr-fits k left l ≡ true → Instr-named (k .states) (k .vars) (k .events) (instr-by (take INSTR-ROW l))
+row-named : (k : Counts) (left : ℕ) (l : List ℤ) → instr-fits k left l ≡ true
+    → Instr-named (k .states) (k .vars) (k .events) (instr-by (take INSTR-ROW l))
 unfolding instr-fits instr-by
 row-named k left l e =
-    rw (in-row INSTR-ROW 0 l (omega arith), in-row INSTR-ROW 1 l (omega arith), in-row INSTR-ROW 2 l (omega arith), in-row INSTR-ROW 3 l (omega arith))
+    rw (
+      in-row INSTR-ROW 0 l (omega arith),
+      in-row INSTR-ROW 1 l (omega arith),
+      in-row INSTR-ROW 2 l (omega arith),
+      in-row INSTR-ROW 3 l
+          (omega arith),
+    )
     (any-code-named k left l (num l 0) e)
 
 passed : (b x : Bool) → elim b [ true ↦ x | false ↦ false ] ≡ true → (b ≡ true) × (x ≡ true)
@@ -150,13 +175,20 @@ unfolding left-after-each
 block-long zero = refl
 block-long (suc n) = ap suc (block-long n)
 
-blocks-long : (n at : ℕ) (rows : List (List ℤ)) → blocks-fill n at rows ≡ true → at + length (concat-map left-after-each (map (λ row. ref (num row 9)) rows)) ≡ n
+blocks-long : (n at : ℕ) (rows : List (List ℤ)) → blocks-fill n at rows ≡ true
+    → at + length (concat-map left-after-each (map (λ row. ref (num row 9)) rows)) ≡ n
 unfolding blocks-fill concat-map
 blocks-long n at [] e = omega (arith, eqb-true at n e)
 blocks-long n at (row ∷ rows) e =
     let f = and-right (leZ (pos 0) (num row 9)) _ (and-right (eqZ (num row 8) (pos at)) _ e) in
     let h = blocks-long n (at + ref (num row 9)) rows f in
-    omega (arith, h, length-append (left-after-each (ref (num row 9))) (concat-map left-after-each (map (λ r. ref (num r 9)) rows)), block-long (ref (num row 9)))
+    omega (
+      arith,
+      h,
+      length-append (left-after-each (ref (num row 9)))
+          (concat-map left-after-each (map (λ r. ref (num r 9)) rows)),
+      block-long (ref (num row 9)),
+    )
 
 -- ---- variables
 
@@ -182,7 +214,8 @@ unfolding well-formed rows-well-formed counts-keep all-blocks-fill
 all-passed ns e =
     let k = counts-of ns in
     let a = passed (counts-keep ns && is-whole ns k) (rows-well-formed ns k) e in
-    let b = passed (every var-keeps (var-rows ns k) && (every (head-fits k) (head-rows ns k) && all-blocks-fill ns k)) (code-fits k (left-in-blocks ns k) (drop (code-at k) ns)) (a .1) in
+    let b = passed (every var-keeps (var-rows ns k) && (every (head-fits k) (head-rows ns k) && all-blocks-fill ns k))
+    (code-fits k (left-in-blocks ns k) (drop (code-at k) ns)) (a .1) in
     let c = and-right (every var-keeps (var-rows ns k)) (every (head-fits k) (head-rows ns k) && all-blocks-fill ns k) (b .0) in
     record {
       states = and-left (count-fits 2 STATES (num ns 0)) _ (and-left (counts-keep ns) (is-whole ns k) (a .0));
@@ -220,4 +253,6 @@ well ns e = record {
     long = length-map (var-rows ns k) var-by ∙ length-chunks (k .vars) VAR-ROW _
 
     lefts : length (left-in-blocks ns k) ≡ k .instructions
-    lefts = length-append (left-after-each (k .start)) (concat-map left-after-each (map (λ row. ref (num row 9)) (head-rows ns k))) ∙ ap (λ i. i + length (concat-map left-after-each (map (λ row. ref (num row 9)) (head-rows ns k)))) (block-long (k .start)) ∙ blocks-long (k .instructions) (k .start) (head-rows ns k) (h .blocks)
+    lefts = length-append (left-after-each (k .start)) (concat-map left-after-each (map (λ row. ref (num row 9)) (head-rows ns k)))
+        ∙ ap (λ i. i + length (concat-map left-after-each (map (λ row. ref (num row 9)) (head-rows ns k)))) (block-long (k .start))
+        ∙ blocks-long (k .instructions) (k .start) (head-rows ns k) (h .blocks)

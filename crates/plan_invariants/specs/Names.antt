@@ -27,11 +27,21 @@ pub record Names : Type 0 where
 
 -- a plan has the transitions that its heads name
 unfoldable pub of-plan : Plan → Names
-of-plan p = record { states = p .states; vars = p .vars; events = p .events; transition = λ t. exists (λ h. eqb (h .transition) t) (p .heads) }
+of-plan p = record {
+  states = p .states;
+  vars = p .vars;
+  events = p .events;
+  transition = λ t. exists (λ h. eqb (h .transition) t) (p .heads);
+}
 
 -- a chart's are numbered 0, 1, 2 in turn
 unfoldable pub of-chart : Chart → Names
-of-chart c = record { states = length (c .states); vars = c .vars; events = c .events; transition = λ t. ltb t (length (c .transitions)) }
+of-chart c = record {
+  states = length (c .states);
+  vars = c .vars;
+  events = c .events;
+  transition = λ t. ltb t (length (c .transitions));
+}
 
 -- one of n things that are numbered 0, 1, 2 in turn
 unfoldable pub one-of : ℕ → ℤ → Bool

@@ -56,7 +56,9 @@ replay ns u xs n = replay-by (λ x v. machine-post ns v (x .event) (x .arg)) (λ
 
 -- a post that tests of 7 and 6 only the root's mark; then 10, then 9
 unfoldable pub post-on : Plan → Item → State → Outcome
-post-on p x u = outcome u ((require 6 (is-active u 0) then require 10 (event-fits (p .events) (x .event) (x .arg)) then enqueue (x .event) (x .arg)) (begin u 0))
+post-on p x u =
+    outcome u
+    ((require 6 (is-active u 0) then require 10 (event-fits (p .events) (x .event) (x .arg)) then enqueue (x .event) (x .arg)) (begin u 0))
 
 -- a run right after such a post tests none of them: a post leaves the marks
 unfoldable pub run-on : Plan → ℕ → State → Outcome
