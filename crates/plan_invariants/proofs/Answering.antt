@@ -35,26 +35,27 @@ plan-make p to-discard u = plan-discard p u
 
 -- ---- over any plan, from any state
 
-abbrev Whatever : List Bool → Type 0
+abbrev pub Whatever : List Bool → Type 0
 Whatever l = Unit {0}
 
-abbrev Any-instr : Instr → Type 0
+abbrev pub Any-instr : Instr → Type 0
 Any-instr i = Unit {0}
 
 -- one of these numbers
-abbrev One-of : List ℕ → ℕ → Type 0
+abbrev pub One-of : List ℕ → ℕ → Type 0
 One-of l n = has n l ≡ true
 
-each-any : (is : List Instr) → Each Any-instr is
+pub each-any : (is : List Instr) → Each Any-instr is
 each-any [] = none-left
 each-any (i ∷ is) = one-more tt (each-any is)
 
-answer-of : (l : List ℕ) (u : State) (r : Res Ctx) → has 0 l ≡ true → Ends (One-of l) r (On Whatever) → has (outcome u r .number) l ≡ true
+pub answer-of : (l : List ℕ) (u : State) (r : Res Ctx) → has 0 l ≡ true → Ends (One-of l) r (On Whatever)
+    → has (outcome u r .number) l ≡ true
 unfolding outcome refused
 answer-of l u (ok k) z h = z
 answer-of l u (refuse n) z h = h
 
-tested-answer : (p : Plan) (l : List ℕ) (u : State) (F : Step Ctx) (k : Ctx) → has 7 l ≡ true → has 6 l ≡ true
+pub tested-answer : (p : Plan) (l : List ℕ) (u : State) (F : Step Ctx) (k : Ctx) → has 7 l ≡ true → has 6 l ≡ true
     → Runs (One-of l) (On Whatever) F
     → Ends (One-of l) ((plan-tests p u then F) k) (On Whatever)
 unfolding plan-tests _then_ require bind
@@ -65,7 +66,7 @@ tested-answer p l u F k r7 r6 f = go (u .started) (plan-own (p .states) (p .vars
     go true false = r6
     go true true = f k tt
 
-marking : (l : List ℕ) → has 9 l ≡ true → has 11 l ≡ true → has 12 l ≡ true → Marking (One-of l) Any-instr Whatever
+pub marking : (l : List ℕ) → has 9 l ≡ true → has 11 l ≡ true → has 12 l ≡ true → Marking (One-of l) Any-instr Whatever
 marking l r9 r11 r12 = record { full = r9; no-room = r11; unsettled = r12; enters = λ s c m h. tt; leaves = λ s q c m h. tt }
 
 module _ (p : Plan) (u : State) where
@@ -83,8 +84,8 @@ module _ (p : Plan) (u : State) where
   unfolding plan-run has
   run-answer n = answer-of RUN-ANSWERS u ((plan-tests p u then plan-react p (removed (u .queue))) (begin u n)) refl
       (tested-answer p RUN-ANSWERS u (plan-react p (removed (u .queue))) (begin u n) refl refl
-      (react-marked p (One-of RUN-ANSWERS) Any-instr Whatever (marking RUN-ANSWERS refl refl refl) (each-any (p .code)) refl
-      (removed (u .queue))))
+      (react-marked p (One-of RUN-ANSWERS) Any-instr Whatever (marking RUN-ANSWERS refl refl refl) (each-any (p .code)) (removed (u .queue))
+      (front-marked (One-of RUN-ANSWERS) Whatever refl (removed (u .queue)))))
 
   post-answer : (e a : ℤ) → has (plan-post p u e a .number) POST-ANSWERS ≡ true
   unfolding plan-post has

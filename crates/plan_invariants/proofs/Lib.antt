@@ -7,5 +7,7 @@ pub mod Marks
 pub mod Answering
 pub mod AnyNumbers
 pub mod Root
+pub mod Living
 pub mod Replay
+pub mod ReplayFacts
 pub mod Examples

@@ -112,8 +112,8 @@ module _ (p : Plan) (R : ℕ → Type 0) (C : Instr → Type 0) (M : List Bool �
 
   -- ---- what follows the tests of a run
 
-  pub react-marked : Each C (p .code) → R 8 → (r : Removed) → Runs R (On M) (plan-react p r)
+  pub react-marked : Each C (p .code) → (r : Removed) → Runs R (On M) (take-front r) → Runs R (On M) (plan-react p r)
   unfolding plan-react
-  react-marked c none r = then-runs R (On M) _ _ (front-marked R M none r)
+  react-marked c r f = then-runs R (On M) _ _ f
       (then-runs R (On M) (plan-step p (ref (r .front .event)) (r .front .arg)) (plan-settle p)
       (step-runs p R C (On M) marked-effects c (ref (r .front .event)) (r .front .arg)) (settle-runs p R C (On M) marked-effects c))

@@ -86,7 +86,7 @@ module _ (p : Plan) (never : never-leaves-root p ≡ true) where
   code-stays = stay-each (p .code) never
 
   react-rooted : (r : Removed) → Runs Refusal (On Marked) (plan-react p r)
-  react-rooted r = react-marked p Refusal Stays Marked root-marking code-stays (λ e. omega arith) r
+  react-rooted r = react-marked p Refusal Stays Marked root-marking code-stays r (front-marked Refusal Marked (λ e. omega arith) r)
 
   -- IN 0, from any marks of 01's size
   first-rooted : (s : ℕ) → eqb s 0 ≡ true → (k : Ctx) → length (k .state .active) ≡ STATES → Ends Refusal (mark-entered s k) (On Marked)
@@ -169,6 +169,10 @@ module _ (p : Plan) (u : State) where
 
 -- ---- over any well-formed numbers: all of the machine's test
 
+-- a started state that passes the machine's test for 6
+abbrev pub Owned : Plan → State → Type 0
+Owned p v = (v .started ≡ true) × (plan-own (p .states) (p .vars) (p .events) v ≡ true)
+
 module _ (ns : List ℤ) (w : well-formed ns ≡ true) (never : never-leaves-root (plan-by ns) ≡ true)
     (starts : starts-in-root (plan-by ns) ≡ true) where
   root-after : (x : Call) (u : State) → plan-make (plan-by ns) x u .number ≡ 0 → is-active (plan-make (plan-by ns) x u .after) 0 ≡ true
@@ -182,10 +186,7 @@ module _ (ns : List ℤ) (w : well-formed ns ≡ true) (never : never-leaves-roo
   machine-root x u = subst (λ o. o .number ≡ 0 → is-active (o .after) 0 ≡ true) (sym (formed ns w x u)) (root-after x u)
 
   -- a call that is done leaves a started state that passes the machine's whole test for 6
-  abbrev Owned : State → Type 0
-  Owned v = (v .started ≡ true) × (plan-own (plan-by ns .states) (plan-by ns .vars) (plan-by ns .events) v ≡ true)
-
-  pub machine-own : (x : Call) (u : State) → Sized u → machine-make ns x u .number ≡ 0 → Owned (machine-make ns x u .after)
+  pub machine-own : (x : Call) (u : State) → Sized u → machine-make ns x u .number ≡ 0 → Owned (plan-by ns) (machine-make ns x u .after)
   machine-own x u z e =
       let f = formed-facts ns w x u z .done e in
       (f .started, fit-own (plan-by ns) (machine-make ns x u .after) f ∙ machine-root x u e)

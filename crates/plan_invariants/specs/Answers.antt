@@ -24,6 +24,10 @@ POST-ANSWERS = 0 ∷ 6 ∷ 7 ∷ 9 ∷ 10 ∷ []
 abbrev pub DISCARD-ANSWERS : List ℕ
 DISCARD-ANSWERS = 0 ∷ 6 ∷ 7 ∷ 8 ∷ []
 
+-- of a replay: those of a post, and of a run that finds something waiting
+abbrev pub REPLAY-ANSWERS : List ℕ
+REPLAY-ANSWERS = 0 ∷ 6 ∷ 7 ∷ 9 ∷ 10 ∷ 11 ∷ 12 ∷ []
+
 -- ---- a call with its arguments and the room lent for the trace
 
 unfoldable pub machine-make : List ℤ → Call → State → Outcome
