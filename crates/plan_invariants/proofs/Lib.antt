@@ -1,5 +1,6 @@
 pub mod Walk
 pub mod Well
+pub mod Heads
 pub mod Naming
 pub mod Good
 pub mod Calls

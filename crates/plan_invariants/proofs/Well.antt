@@ -71,7 +71,7 @@ pub record Well (p : Plan) : Type 0 where
 
 -- ---- instructions
 
-below-of : (n : ℕ) (z : ℤ) → ltb (ref z) n ≡ true → ref z < n
+pub below-of : (n : ℕ) (z : ℤ) → ltb (ref z) n ≡ true → ref z < n
 below-of n z e = ltb-true (ref z) n e
 
 slot-of : (n : ℕ) (z : ℤ) → (eqZ z (negsuc 0) || ltb (ref z) n) ≡ true → Slot-named n (as-slot z)
@@ -175,7 +175,7 @@ unfolding left-after-each
 block-long zero = refl
 block-long (suc n) = ap suc (block-long n)
 
-blocks-long : (n at : ℕ) (rows : List (List ℤ)) → blocks-fill n at rows ≡ true
+pub blocks-long : (n at : ℕ) (rows : List (List ℤ)) → blocks-fill n at rows ≡ true
     → at + length (concat-map left-after-each (map (λ row. ref (num row 9)) rows)) ≡ n
 unfolding blocks-fill concat-map
 blocks-long n at [] e = omega (arith, eqb-true at n e)
@@ -202,14 +202,14 @@ rows-fit (row ∷ rows) e =
 -- ---- the plan
 
 -- what the test of the numbers consists of
-record Passed (ns : List ℤ) (k : Counts) : Type 0 where
-  states : count-fits 2 STATES (num ns 0) ≡ true
-  vars : every var-keeps (var-rows ns k) ≡ true
-  heads : every (head-fits k) (head-rows ns k) ≡ true
-  blocks : blocks-fill (k .instructions) (k .start) (head-rows ns k) ≡ true
-  code : code-fits k (left-in-blocks ns k) (drop (code-at k) ns) ≡ true
+pub record Passed (ns : List ℤ) (k : Counts) : Type 0 where
+  pub states : count-fits 2 STATES (num ns 0) ≡ true
+  pub vars : every var-keeps (var-rows ns k) ≡ true
+  pub heads : every (head-fits k) (head-rows ns k) ≡ true
+  pub blocks : blocks-fill (k .instructions) (k .start) (head-rows ns k) ≡ true
+  pub code : code-fits k (left-in-blocks ns k) (drop (code-at k) ns) ≡ true
 
-all-passed : (ns : List ℤ) → well-formed ns ≡ true → Passed ns (counts-of ns)
+pub all-passed : (ns : List ℤ) → well-formed ns ≡ true → Passed ns (counts-of ns)
 unfolding well-formed rows-well-formed counts-keep all-blocks-fill
 all-passed ns e =
     let k = counts-of ns in
