@@ -99,7 +99,7 @@ module _ (c : Chart) (r : Sound-chart c) (z : Sized-chart c) where
         let w = own-whole c r z u n h in
         (standing-outside c .queue (begin u n .state) q (w .0), set-queue-good c q f l (begin u n) (w .1))
 
-    front-stands : (n : ℕ) → Gives (take-front (removed (u .queue)) (begin u n)) (Whole c)
+    pub front-stands : (n : ℕ) → Gives (take-front (removed (u .queue)) (begin u n)) (Whole c)
     unfolding take-front _then_ require bind
     front-stands n = ⊎-elim none some (same-or (u .queue .len) 0)
       where

@@ -30,7 +30,7 @@ kept-pass q (x ∷ xs) = go (q x) refl (kept-pass q xs)
     go true e ih = one-more e ih
     go false e ih = ih
 
-ordered-each : (P : ℕ → Type 0) (c : Chart) (ts : List ℕ) → Each P ts → Each P (choosing-order c ts)
+pub ordered-each : (P : ℕ → Type 0) (c : Chart) (ts : List ℕ) → Each P ts → Each P (choosing-order c ts)
 unfolding choosing-order
 ordered-each P c ts h = each-concat P (λ s. keep (λ t. eqb (trans-row c t .source) s) ts) (reverse (all-states c)) (λ s. each-kept P (λ t. eqb (trans-row c t .source) s) ts h)
 

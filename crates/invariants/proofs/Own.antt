@@ -29,6 +29,7 @@ use Rattle.laws.proofs.Rules.{not-o-of-a}
 use Rattle.laws.proofs.Scope.{root-above}
 use Rattle.laws.proofs.Sound.{Sound-chart}
 use Rattle.laws.proofs.Stays.{each-stays}
+use Rattle.laws.proofs.Steps.{bind-assoc}
 use Rattle.laws.proofs.Tree.{under-has}
 use Rattle.laws.proofs.Value.{Sized-chart, getD-map}
 use Rattle.laws.proofs.Ways.{defaults-sound}
@@ -40,7 +41,7 @@ use Rattle.meaning.specs.Foreign.{legal, marks-fit, own, queue-fits, slots-fit,
 use Rattle.meaning.specs.Lists.{concat-map, has, padded}
 use Rattle.meaning.specs.Reaction.{settle}
 use Rattle.meaning.specs.Rules.{within-row}
-use Rattle.meaning.specs.Steps.{_then_, each}
+use Rattle.meaning.specs.Steps.{_then_, bind, each}
 use Rattle.meaning.specs.Tree.{ancestors, climb, kind-of, var-row}
 use Rattle.meaning.specs.Widget.{Ctx, begin, is-active}
 use Rattle.meaning.specs.declared.State.{State}
@@ -191,19 +192,16 @@ module _ (c : Chart) (r : Sound-chart c) (z : Sized-chart c) where
   start-marks : (y : ℕ) → with-all (map state-of (all-below c by-defaults 0)) (with-state 0 (λ x. false)) y ≡ fired c (λ x. eqb x 0) reach-0 0 y
   start-marks y = ap (λ t. has y (map state-of (all-below c by-defaults 0)) || t) (root-left c r y) ∙ entered-fired c r by-defaults (defaults-sound c r) 0 inside-0 (λ x. eqb x 0) y
 
-  -- start ends in a state that is the chart's own
-  pub start-stands : (n : ℕ) → Gives (start-steps c (begin (fresh c) n)) (Whole c)
-  unfolding start-steps _then_
-  start-stands n =
-      gives-bind At-root (Whole c) (enter c (pos 0) 0 k) (each (visit c (pos 0)) vs then settle c)
+  -- the root and its defaults entered: a state that is the chart's own
+  pub start-enters : (n : ℕ) → Gives (bind (enter c (pos 0) 0 (begin (fresh c) n)) (each (visit c (pos 0)) (all-below c by-defaults 0))) (Whole c)
+  start-enters n =
+      gives-bind At-root (Whole c) (enter c (pos 0) 0 k) (each (visit c (pos 0)) vs)
       (gives-holds (λ j. Marks c sl (with-state 0 (λ y. false)) (j .state)) (Good c) (enter c (pos 0) 0 k)
       (enter-marks c sl (pos 0) 0 inside-0 (λ y. false) k (fresh-marks c r z n)) (enter-good c r z (pos 0) 0 inside-0 k (fresh-good c r z n)))
-      (λ j p. gives-bind (Whole c) (Whole c) (each (visit c (pos 0)) vs j) (settle c)
-      (gives-map {A = Ctx} (λ i. Marks c sl (with-all (map state-of vs) (with-state 0 (λ y. false))) (i .state) × Good c i) (Whole c) (each (visit c (pos 0)) vs j)
+      (λ j p. gives-map {A = Ctx} (λ i. Marks c sl (with-all (map state-of vs) (with-state 0 (λ y. false))) (i .state) × Good c i) (Whole c) (each (visit c (pos 0)) vs j)
       (gives-holds (λ i. Marks c sl (with-all (map state-of vs) (with-state 0 (λ y. false))) (i .state)) (Good c) (each (visit c (pos 0)) vs j)
       (visits-mark c sl (pos 0) vs inside (with-state 0 (λ y. false)) j (p .0)) (each-stays (Good c) (visit c (pos 0)) (λ v. state-of v < length (c .states)) (visit-good c r z (pos 0)) vs inside j (p .1)))
       (λ i q. (stands c sl (with-all (map state-of vs) (with-state 0 (λ y. false))) (fired c (λ y. eqb y 0) reach-0 0) (fresh-lead c r z) start-legal start-marks (i .state) (q .0), q .1)))
-      (settle-stands c r z))
     where
       k : Ctx
       k = begin (fresh c) n
@@ -219,3 +217,11 @@ module _ (c : Chart) (r : Sound-chart c) (z : Sized-chart c) where
 
       inside : Each (λ v. state-of v < length (c .states)) vs
       inside = below-inside c r by-defaults (defaults-sound c r) 0 inside-0
+
+  -- start ends in a state that is the chart's own
+  pub start-stands : (n : ℕ) → Gives (start-steps c (begin (fresh c) n)) (Whole c)
+  unfolding start-steps _then_
+  start-stands n = subst (λ x. Gives x (Whole c))
+      (bind-assoc (enter c (pos 0) 0 (begin (fresh c) n)) (each (visit c (pos 0)) (all-below c by-defaults 0)) (settle c))
+      (gives-bind (Whole c) (Whole c) (bind (enter c (pos 0) 0 (begin (fresh c) n)) (each (visit c (pos 0)) (all-below c by-defaults 0))) (settle c)
+      (start-enters n) (settle-stands c r z))

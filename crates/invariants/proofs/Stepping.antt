@@ -84,7 +84,7 @@ module _ (c : Chart) (r : Sound-chart c) where
   armed-by u g s (history b) f e = active-above c (is-active u) no-hole g (scope c s b) s (scope-facts c r s b (f .3) (f .1) .above-source) e
   armed-by u g s in-place f e = tt
 
-  chosen-armed : (e : ℕ) (u : State) → Config c (is-active u) no-hole → Each (Armed c u) (chosen c e u)
+  pub chosen-armed : (e : ℕ) (u : State) → Config c (is-active u) no-hole → Each (Armed c u) (chosen c e u)
   chosen-armed e u g = each-weaker _ _ _ (λ t q. (q .0, armed-by u g (trans-row c t .source) (trans-row c t .target) (r .transitions t (q .0) .target) (enabled-source e u t (q .1)))) (chosen-enabled c e u)
 
 -- ---- firing them one after the other
@@ -109,7 +109,7 @@ module _ (c : Chart) (r : Sound-chart c) (z : Sized-chart c) where
       x : Target
       x = trans-row c t .target
 
-  rest-armed : (u v : State) (t : ℕ) (ts : List ℕ) → Moved-by c u v (trans-row c t .source) (trans-row c t .target) → Each (λ y. meets (span c y) (span c t) ≡ false) ts → Each (Armed c u) ts → Each (Armed c v) ts
+  pub rest-armed : (u v : State) (t : ℕ) (ts : List ℕ) → Moved-by c u v (trans-row c t .source) (trans-row c t .target) → Each (λ y. meets (span c y) (span c t) ≡ false) ts → Each (Armed c u) ts → Each (Armed c v) ts
   unfolding span
   rest-armed u v t [] m none-left none-left = none-left
   rest-armed u v t (y ∷ ts) m (one-more p ps) (one-more q qs) =

@@ -1,0 +1,16 @@
+pub mod Rows
+pub mod ReadBack
+pub mod Fits
+pub mod Accepted
+pub mod Below
+pub mod Pieces
+pub mod Spans
+pub mod Heads
+pub mod Totals
+pub mod Owned
+pub mod Order
+pub mod Lines
+pub mod Entered
+pub mod Counted
+pub mod Compiled
+pub mod Room
