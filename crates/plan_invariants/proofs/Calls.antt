@@ -28,7 +28,7 @@ use Rattle.numbers.specs.Equal.{eqZ}
 use Rattle.numbers.specs.Reference.{ref}
 use Rattle.plan_invariants.proofs.Good.{Fit, Good, enqueue-good, good-effects, queue-fit}
 use Rattle.plan_invariants.proofs.Walk.{Ends, Refusal, Runs, block-runs, each-taken, ends-bind, settle-runs, step-runs, then-runs}
-use Rattle.plan_invariants.proofs.Well.{Well}
+use Rattle.plan_invariants.proofs.Well.{Well, well-code, well-rows}
 use Rattle.plan_invariants.specs.Names.{all-named, of-plan}
 use Rattle.queue.proofs.Tidy.{removed-long}
 use Rattle.queue.proofs.Waiting.{removed-front, removed-none}
@@ -115,11 +115,11 @@ fresh-fit p w = record {
   sized = record {
     active = length-replicate STATES false;
     slots = length-replicate STATES (negsuc 0);
-    vars = padded-long (map (λ r. r .first) (p .vars)) VARIABLES (omega (arith, w .vars, length-map (p .vars) (λ r. r .first)));
+    vars = padded-long (map (λ r. r .first) (p .vars)) VARIABLES (omega (arith, w .sayable .vars, length-map (p .vars) (λ r. r .first)));
     items = length-replicate QUEUE none-item;
   };
   marks = every-dropped not (p .states) (replicate STATES false) (every-replicate not STATES false refl);
-  values = first-fit (p .vars) (VARIABLES - length (map (λ r. r .first) (p .vars))) (w .rows);
+  values = first-fit (p .vars) (VARIABLES - length (map (λ r. r .first) (p .vars))) (well-rows p w);
   slots = and-both (every (plan-slot-fits (p .states)) (take (p .states) (replicate STATES (negsuc 0)))) _
       (every-taken (plan-slot-fits (p .states)) (p .states) (replicate STATES (negsuc 0))
       (every-replicate (plan-slot-fits (p .states)) STATES (negsuc 0) refl))
@@ -179,14 +179,15 @@ module _ (p : Plan) where
 
   module _ (w : Well p) where
     settle-good : Runs Refusal (Good p) (plan-settle p)
-    settle-good = settle-runs p Refusal _ (Good p) (good-effects p w) (w .code)
+    settle-good = settle-runs p Refusal _ (Good p) (good-effects p w) (well-code p w)
 
     start-good : (n : ℕ) → Ends Refusal (plan-start-steps p (begin (fresh-by (p .vars)) n)) (Good p)
     unfolding plan-start-steps
     start-good n =
         let first = take (p .start-length) (p .code) in
         then-runs Refusal (Good p) (run-block (p .vars) (pos 0) first) (plan-settle p)
-        (block-runs p Refusal _ (Good p) (good-effects p w) (pos 0) first (each-taken _ (p .start-length) (p .code) (w .code))) settle-good
+        (block-runs p Refusal _ (Good p) (good-effects p w) (pos 0) first
+        (each-taken _ (p .start-length) (p .code) (well-code p w))) settle-good
         (begin (fresh-by (p .vars)) n) (begin-good p (fresh-by (p .vars)) n (fresh-fit p w))
 
     react-good : (u : State) (n : ℕ) → Fit p u → Ends Refusal (plan-react p (removed (u .queue)) (begin u n)) (Good p)
@@ -195,7 +196,7 @@ module _ (p : Plan) where
         let r = removed (u .queue) in
         ends-bind Refusal (Good p) (Good p) (take-front r (begin u n)) _ (front-good u n f)
         (then-runs Refusal (Good p) (plan-step p (ref (r .front .event)) (r .front .arg)) (plan-settle p)
-        (step-runs p Refusal _ (Good p) (good-effects p w) (w .code) (ref (r .front .event)) (r .front .arg)) settle-good)
+        (step-runs p Refusal _ (Good p) (good-effects p w) (well-code p w) (ref (r .front .event)) (r .front .arg)) settle-good)
 
 -- ---- over a plan that is well formed
 

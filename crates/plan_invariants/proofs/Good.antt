@@ -40,8 +40,10 @@ use Rattle.numbers.specs.declared.Place.{Place as Slot}
 use Rattle.numbers.specs.declared.Place.the-variants.{At as holds, Empty as empty}
 use Rattle.plan_invariants.proofs.Naming.{Entry-named, named-more, numbers-named}
 use Rattle.plan_invariants.proofs.Walk.{Effects, Ends, Refusal, Runs, either-way, gone-on, look-runs, then-runs}
-use Rattle.plan_invariants.proofs.Well.{Act-named, Instr-named, Slot-named, Well}
+use Rattle.plan_invariants.proofs.Well.{Instr-named, Well, well-rows}
 use Rattle.plan_invariants.specs.Names.{all-named, of-plan}
+use Rattle.plan_laws.proofs.Fits.{Act-fits, Slot-fits}
+use Rattle.plan_laws.proofs.ReadBack.{counts}
 use Rattle.queue.proofs.Tidy.{appended-long}
 use Rattle.queue.proofs.Waiting.{appended-full}
 use Rattle.queue.specs.Queue.{appended}
@@ -118,7 +120,7 @@ module _ (p : Plan) where
       → Fit p (set-value v x u)
   unfolding set-value marks-fit
   value-fit v x u w l e f =
-      let long : length (p .vars) ≤ length (u .vars) = omega (arith, f .sized .vars, w .vars) in
+      let long : length (p .vars) ≤ length (u .vars) = omega (arith, f .sized .vars, w .sayable .vars) in
       record {
         started = f .started;
         sized = record {
@@ -187,7 +189,7 @@ module _ (p : Plan) where
 module _ (p : Plan) (w : Well p) where
   row-at : (v : ℕ) → v < length (p .vars) → row-fits (var-row (p .vars) v) ≡ true
   unfolding var-row
-  row-at v l = each-at (λ r. row-fits r ≡ true) (p .vars) (w .rows) v l no-var
+  row-at v l = each-at (λ r. row-fits r ≡ true) (p .vars) (well-rows p w) v l no-var
 
   held-at : (v : ℕ) (x : ℤ) → v < length (p .vars) → within-row (var-row (p .vars) v) (held (var-row (p .vars) v) x) ≡ true
   unfolding row-fits
@@ -207,8 +209,8 @@ module _ (p : Plan) (w : Well p) where
   sent-fits e x l m r =
       and-both (leZ (pos 1) (pos e)) _ (le-leb 1 e l) (and-both (leZ (pos e) (pos (p .events))) _ (le-leb e (p .events) m) r)
 
-  act-good : (a : ℤ) (x : Act) → Act-named (length (p .vars)) (p .events) x → Runs Refusal (Good p) (perform (p .vars) a x)
-  unfolding perform act-on act-var of-plan
+  act-good : (a : ℤ) (x : Act) → Act-fits (counts p) x → Runs Refusal (Good p) (perform (p .vars) a x)
+  unfolding perform act-on act-var of-plan counts
   act-good a (set-to v x) f = assign-good v x (f .0)
   act-good a (add-to v x) f = look-runs Refusal (Good p) _ (λ k g. assign-good v (value-of (k .state) v +ℤ x) (f .0))
   act-good a (take-to v) f = assign-good v a f
@@ -217,31 +219,32 @@ module _ (p : Plan) (w : Well p) where
       then-runs Refusal (Good p) _ _ (emit-good p (sent e x) h) (enqueue-good p (pos e) x h)
   act-good a (tell x) f = emit-good p (told x) f
 
-  store-fit : (q : Slot) (s : ℕ) (u : State) → Slot-named (p .states) q → s < p .states → Fit p u → Fit p (store-in q s u)
-  unfolding store-in
+  store-fit : (q : Slot) (s : ℕ) (u : State) → Slot-fits (counts p) q → s < p .states → Fit p u → Fit p (store-in q s u)
+  unfolding store-in counts
   store-fit empty s u h l f = f
   store-fit (holds q) s u h l f = slot-fit p q s u h l f
 
   -- ---- one instruction
 
   -- OUT s q: the mark goes, and the slot of q, if there is one, takes s
-  out-fit : (s : ℕ) (q : Slot) → s < p .states → Slot-named (p .states) q → (u : State) → Fit p u
+  out-fit : (s : ℕ) (q : Slot) → s < p .states → Slot-fits (counts p) q → (u : State) → Fit p u
       → Fit p (store-in q s (set-active s false u))
   out-fit s q l m u f = store-fit q s (set-active s false u) m l (mark-fit p s false u l f)
 
-  pub instr-good : (a : ℤ) (i : Instr) → Instr-named (p .states) (length (p .vars)) (p .events) i → (k : Ctx) → Good p k
+  pub instr-good : (a : ℤ) (i : Instr) → Instr-named p i → (k : Ctx) → Good p k
       → Ends Refusal (exec-now (p .vars) a i k) (λ m. Good p (m .ctx))
-  unfolding exec-now mark-entered mark-left of-plan
+  unfolding exec-now mark-entered mark-left of-plan counts
   instr-good a (go-in s) h k g = gone-on Refusal (Good p) (mark-entered s k)
-      (then-runs Refusal (Good p) _ _ (emit-good p (entered s) h) (change-good p (set-active s true) (λ u. mark-fit p s true u h)) k g)
+      (then-runs Refusal (Good p) _ _ (emit-good p (entered s) (h .1))
+      (change-good p (set-active s true) (λ u. mark-fit p s true u (h .1))) k g)
   instr-good a (go-out s q) h k g = gone-on Refusal (Good p) (mark-left q s k)
-      (then-runs Refusal (Good p) _ _ (emit-good p (left s) (h .0))
-      (change-good p (λ u. store-in q s (set-active s false u)) (out-fit s q (h .0) (h .1))) k g)
+      (then-runs Refusal (Good p) _ _ (emit-good p (left s) (h .1 .0))
+      (change-good p (λ u. store-in q s (set-active s false u)) (out-fit s q (h .1 .0) (h .1 .1))) k g)
   instr-good a (skip-out s n) h k g = either-way Refusal (Good p) (is-active (k .state) s) n k g
   instr-good a (skip-empty s n) h k g = either-way Refusal (Good p) (is-filled (slot (k .state) s)) n k g
   instr-good a (skip-full s n) h k g = either-way Refusal (Good p) (is-empty (slot (k .state) s)) n k g
   instr-good a (skip-not s d n) h k g = either-way Refusal (Good p) (holds-it d (slot (k .state) s)) n k g
-  instr-good a (does x) h k g = gone-on Refusal (Good p) (perform (p .vars) a x k) (act-good a x h k g)
+  instr-good a (does x) h k g = gone-on Refusal (Good p) (perform (p .vars) a x k) (act-good a x (h .1) k g)
 
-  pub good-effects : Effects p Refusal (Instr-named (p .states) (length (p .vars)) (p .events)) (Good p)
+  pub good-effects : Effects p Refusal (Instr-named p) (Good p)
   good-effects = record { unsettled = λ e. omega arith; takes = λ x n. emit-good p (taken (x .transition)) n; does = instr-good }
