@@ -21,32 +21,21 @@ use Rattle.plan_invariants.proofs.Calls.{fit-own, own-fit, plan-post-fa
 use Rattle.plan_invariants.proofs.Good.{Fit}
 use Rattle.plan_invariants.proofs.Root.{root-after-post}
 use Rattle.plan_invariants.proofs.Well.{Well, well}
-use Rattle.plan_invariants.specs.Replay.{Replayed, post-on, posted, ran, replay, replay-by, replay-examined, replay-once, replayed}
+use Rattle.plan_invariants.specs.Replay.{Replayed, or-stop, post-on, replay, replay-by, replay-examined, replay-once, replayed}
 use Rattle.plan_invariants.specs.Replay.{run-on}
 use Rattle.queue.specs.Queue.{removed}
 use Rattle.queue.specs.declared.Item.{Item}
 
--- ---- the fold: equal outcomes, and equal ways on where they are done
+-- ---- the fold: equal ways on where a call is done
 
-posted-same : (d : ℕ) (t : List ℤ) (o q : Outcome) (f g : State → Replayed) → o ≡ q → (o .number ≡ 0 → f (o .after) ≡ g (o .after))
-    → posted d t o f ≡ posted d t q g
-unfolding posted
-posted-same d t o q f g e h = go (eqb (o .number) 0) refl ∙ ap (λ x. posted d t x g) e
+or-stop-same : (d : ℕ) (t : List ℤ) (o : Outcome) (f g : State → Replayed) → (o .number ≡ 0 → f (o .after) ≡ g (o .after))
+    → or-stop d t o f ≡ or-stop d t o g
+unfolding or-stop
+or-stop-same d t o f g h = go (eqb (o .number) 0) refl
   where
     go : (b : Bool) → eqb (o .number) 0 ≡ b
         → _≡_ {A = Replayed} (elim b [ true ↦ f (o .after) | false ↦ replayed d (o .number) (o .after) t ])
         (elim b [ true ↦ g (o .after) | false ↦ replayed d (o .number) (o .after) t ])
-    go true k = h (eqb-true (o .number) 0 k)
-    go false k = refl
-
-ran-same : (d : ℕ) (o q : Outcome) (f g : State → List ℤ → Replayed) → o ≡ q
-    → (o .number ≡ 0 → f (o .after) (o .trace) ≡ g (o .after) (o .trace)) → ran d o f ≡ ran d q g
-unfolding ran
-ran-same d o q f g e h = go (eqb (o .number) 0) refl ∙ ap (λ x. ran d x g) e
-  where
-    go : (b : Bool) → eqb (o .number) 0 ≡ b
-        → _≡_ {A = Replayed} (elim b [ true ↦ f (o .after) (o .trace) | false ↦ replayed d (o .number) (o .after) (o .trace) ])
-        (elim b [ true ↦ g (o .after) (o .trace) | false ↦ replayed d (o .number) (o .after) (o .trace) ])
     go true k = h (eqb-true (o .number) 0 k)
     go false k = refl
 
@@ -78,21 +67,27 @@ calls-post p x v = plan-post p v (x .event) (x .arg)
 abbrev calls-run : Plan → ℕ → State → Outcome
 calls-run p n v = plan-run p v n
 
+-- a run, and then the events that are left
+abbrev run-and : (Item → State → Outcome) → (State → Outcome) → ℕ → List Item → Outcome → Replayed
+run-and post run d xs o = or-stop d (o .trace) o (λ z. replay-by post run (suc d) z (o .trace) xs)
+
 module _ (p : Plan) (w : Well p) (n : ℕ) where
   pub replay-same : (xs : List Item) (d : ℕ) (u : State) (t : List ℤ) → Fit p u
       → replay-by (calls-post p) (calls-run p n) d u t xs ≡ replay-by (post-on p) (run-on p n) d u t xs
   unfolding replay-by
   replay-same [] d u t f = refl
-  replay-same (x ∷ xs) d u t f = posted-same d t (calls-post p x u) (post-on p x u)
-      (λ v. ran d (calls-run p n v) (λ z s. replay-by (calls-post p) (calls-run p n) (suc d) z s xs))
-      (λ v. ran d (run-on p n v) (λ z s. replay-by (post-on p) (run-on p n) (suc d) z s xs))
-      (post-same p u f x)
+  replay-same (x ∷ xs) d u t f =
+      let by-calls = run-and (calls-post p) (calls-run p n) d xs in
+      let on = run-and (post-on p) (run-on p n) d xs in
+      or-stop-same d t (calls-post p x u) (λ v. by-calls (calls-run p n v)) (λ v. on (run-on p n v))
       (λ e. let v = calls-post p x u .after in
+      let o = calls-run p n v in
       let g = plan-post-facts p w u (f .sized) (x .event) (x .arg) .done e in
-      ran-same d (calls-run p n v) (run-on p n v) (λ z s. replay-by (calls-post p) (calls-run p n) (suc d) z s xs)
-      (λ z s. replay-by (post-on p) (run-on p n) (suc d) z s xs)
-      (run-same p v g (root-after-post p u (x .event) (x .arg) e) n)
-      (λ r. replay-same xs (suc d) (calls-run p n v .after) (calls-run p n v .trace) (plan-run-facts p w v (g .sized) n .done r)))
+      or-stop-same d (o .trace) o (λ z. replay-by (calls-post p) (calls-run p n) (suc d) z (o .trace) xs)
+      (λ z. replay-by (post-on p) (run-on p n) (suc d) z (o .trace) xs)
+      (λ r. replay-same xs (suc d) (o .after) (o .trace) (plan-run-facts p w v (g .sized) n .done r))
+      ∙ ap on (run-same p v g (root-after-post p u (x .event) (x .arg) e) n))
+      ∙ ap (λ o. or-stop d t o (λ v. on (run-on p n v))) (post-same p u f x)
 
 -- ---- from any state: the tests for 7 and 6 are those of the first post
 
@@ -112,21 +107,20 @@ module _ (p : Plan) (u : State) where
     by-calls = replay-by (calls-post p) (calls-run p n) 0 u [] (x ∷ xs)
 
     refused-same : (m : ℕ) → eqb m 0 ≡ false → plan-tests p u (begin u 0) ≡ refuse m → by-calls ≡ replay-examined p u (x ∷ xs) n
-    unfolding replay-examined replay-by posted outcome refused
+    unfolding replay-examined replay-by or-stop outcome refused
     refused-same m z e =
-        ap (λ o. posted 0 [] o (λ v. ran 0 (calls-run p n v) (λ y s. replay-by (calls-post p) (calls-run p n) 1 y s xs)))
-        (post-refused m e x)
-        ∙ stops (λ v. ran 0 (calls-run p n v) (λ y s. replay-by (calls-post p) (calls-run p n) 1 y s xs))
-        ∙ sym (ap (λ r. posted 0 [] (outcome u r) (λ v. replay-by (post-on p) (run-on p n) 0 v [] (x ∷ xs))) e
+        ap (λ o. or-stop 0 [] o (λ v. run-and (calls-post p) (calls-run p n) 0 xs (calls-run p n v))) (post-refused m e x)
+        ∙ stops (λ v. run-and (calls-post p) (calls-run p n) 0 xs (calls-run p n v))
+        ∙ sym (ap (λ r. or-stop 0 [] (outcome u r) (λ v. replay-by (post-on p) (run-on p n) 0 v [] (x ∷ xs))) e
         ∙ stops (λ v. replay-by (post-on p) (run-on p n) 0 v [] (x ∷ xs)))
       where
-        stops : (f : State → Replayed) → posted 0 [] (refused m 0 u) f ≡ replayed 0 m u []
+        stops : (f : State → Replayed) → or-stop 0 [] (refused m 0 u) f ≡ replayed 0 m u []
         stops f = ap (λ b. elim b [ true ↦ f u | false ↦ replayed 0 m u [] ]) z
 
     passed-same : Fit p u → plan-tests p u (begin u 0) ≡ ok (begin u 0) → by-calls ≡ replay-examined p u (x ∷ xs) n
-    unfolding replay-examined posted outcome begin
+    unfolding replay-examined or-stop outcome begin
     passed-same f e = replay-same p w n (x ∷ xs) 0 u [] f
-        ∙ sym (ap (λ r. posted 0 [] (outcome u r) (λ v. replay-by (post-on p) (run-on p n) 0 v [] (x ∷ xs))) e)
+        ∙ sym (ap (λ r. or-stop 0 [] (outcome u r) (λ v. replay-by (post-on p) (run-on p n) 0 v [] (x ∷ xs))) e)
 
     pub replay-examined-same : Sized u → by-calls ≡ replay-examined p u (x ∷ xs) n
     unfolding plan-tests _then_ require bind
@@ -146,7 +140,7 @@ module _ (p : Plan) (u : State) where
 
 -- replay with the plan examined once, and 7 and the whole test for 6 made once, is the fold of the single calls
 pub replay-tests-once : (ns : List ℤ) (u : State) → Sized u → (xs : List Item) (n : ℕ) → replay ns u xs n ≡ replay-once ns u xs n
-unfolding replay replay-once machine-post machine-run replay-by posted refused
+unfolding replay replay-once machine-post machine-run replay-by or-stop refused
 replay-tests-once ns u z [] n = refl
 replay-tests-once ns u z (x ∷ xs) n = go (well-formed ns) refl
   where

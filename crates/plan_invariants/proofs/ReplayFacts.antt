@@ -29,7 +29,7 @@ use Rattle.plan_invariants.proofs.Marks.{On, append-marked, react-marke
 use Rattle.plan_invariants.proofs.Walk.{Ends, Refusal, Runs}
 use Rattle.plan_invariants.specs.Answers.{REPLAY-ANSWERS, machine-make}
 use Rattle.plan_invariants.specs.Names.{Names, all-named, of-plan}
-use Rattle.plan_invariants.specs.Replay.{Replayed, posted, ran, replay, replay-by, replayed}
+use Rattle.plan_invariants.specs.Replay.{Replayed, or-stop, replay, replay-by, replayed}
 use Rattle.queue.proofs.Waiting.{appended-full, appended-room, removed-front}
 use Rattle.queue.specs.Queue.{appended, removed}
 use Rattle.queue.specs.declared.Item.{Item}
@@ -116,7 +116,7 @@ module _ (post : Item → State → Outcome) (run : State → Outcome) (Q : List
         → ran-on x u .number ≡ 0 → Q xs (suc d) (ran-on x u .after) (ran-on x u .trace) r → Q (x ∷ xs) d u t r
 
   pub replay-cases : Cases → (xs : List Item) (d : ℕ) (u : State) (t : List ℤ) → Q xs d u t (replay-by post run d u t xs)
-  unfolding replay-by posted ran
+  unfolding replay-by or-stop
   replay-cases c [] d u t = c .no-more d u t
   replay-cases c (x ∷ xs) d u t = posts (eqb (post x u .number) 0) refl (replay-cases c xs (suc d) (ran-on x u .after) (ran-on x u .trace))
     where
@@ -133,7 +133,7 @@ module _ (post : Item → State → Outcome) (run : State → Outcome) (Q : List
 
       posts : (b : Bool) → eqb (post x u .number) 0 ≡ b → Q xs (suc d) (ran-on x u .after) (ran-on x u .trace) rest
           → Q (x ∷ xs) d u t (elim b [
-            | true ↦ ran d (ran-on x u) (λ y s. replay-by post run (suc d) y s xs)
+            | true ↦ or-stop d (ran-on x u .trace) (ran-on x u) (λ y. replay-by post run (suc d) y (ran-on x u .trace) xs)
             | false ↦ replayed d (post x u .number) (post x u .after) t
           ])
       posts true e h = runs (eqb-true (post x u .number) 0 e) (eqb (ran-on x u .number) 0) refl h

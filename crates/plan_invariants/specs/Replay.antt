@@ -29,23 +29,18 @@ replayed d n u t = record { done = d; number = n; after = u; trace = t }
 
 -- ---- a fold of any post and run; d events are done, and t is the trace of the last run made
 
--- a refused post stops it: the trace stays that of the last run
-unfoldable pub posted : ℕ → List ℤ → Outcome → (State → Replayed) → Replayed
-posted d t o next = elim (eqb (o .number) 0) [
+-- after a call: on where it is done, else stopped by its number, with the trace t
+unfoldable pub or-stop : ℕ → List ℤ → Outcome → (State → Replayed) → Replayed
+or-stop d t o next = elim (eqb (o .number) 0) [
   | true ↦ next (o .after)
   | false ↦ replayed d (o .number) (o .after) t
 ]
 
--- a refused run stops it, with the trace of a refusal
-unfoldable pub ran : ℕ → Outcome → (State → List ℤ → Replayed) → Replayed
-ran d o next = elim (eqb (o .number) 0) [
-  | true ↦ next (o .after) (o .trace)
-  | false ↦ replayed d (o .number) (o .after) (o .trace)
-]
-
+-- an event is posted and run; a refused post leaves the trace of the last run, a refused run has its own
 unfoldable pub replay-by : (Item → State → Outcome) → (State → Outcome) → ℕ → State → List ℤ → List Item → Replayed
 replay-by post run d u t [] = replayed d 0 u t
-replay-by post run d u t (x ∷ xs) = posted d t (post x u) (λ v. ran d (run v) (λ w s. replay-by post run (suc d) w s xs))
+replay-by post run d u t (x ∷ xs) =
+    or-stop d t (post x u) (λ v. or-stop d (run v .trace) (run v) (λ w. replay-by post run (suc d) w (run v .trace) xs))
 
 -- ---- replay: each event is posted and run by the single calls, with n trace numbers lent
 
@@ -66,7 +61,7 @@ run-on p n u = outcome u (plan-react p (removed (u .queue)) (begin u n))
 
 -- over a plan that was examined: "then 7, 6" once, and then event by event
 unfoldable pub replay-examined : Plan → State → List Item → ℕ → Replayed
-replay-examined p u xs n = posted 0 [] (outcome u (plan-tests p u (begin u 0))) (λ v. replay-by (post-on p) (run-on p n) 0 v [] xs)
+replay-examined p u xs n = or-stop 0 [] (outcome u (plan-tests p u (begin u 0))) (λ v. replay-by (post-on p) (run-on p n) 0 v [] xs)
 
 -- over any numbers: without an event no call is made; else "plan 5 first"
 unfoldable pub replay-once : List ℤ → State → List Item → ℕ → Replayed
@@ -78,5 +73,5 @@ replay-once ns u (x ∷ xs) n = elim (well-formed ns) [
 
 -- everything above, opened: for statements that compute
 unfoldable pub replay-open : ℕ
-unfolding posted ran replay-by replay post-on run-on replay-examined replay-once
+unfolding or-stop replay-by replay post-on run-on replay-examined replay-once
 replay-open = 0
