@@ -7,6 +7,9 @@ use mathlib.Core.List.{List, [], _∷_}
 use lib.ListN.{take}
 use lib.IntN.{pos, ℤ}
 use lib.Dec.{eqb}
+use Rattle.agreement.proofs.Calling.{plan-make}
+use Rattle.agreement.proofs.CompiledCalls.{machine-makes}
+use Rattle.agreement.proofs.PlanCalls.{machine-make}
 use Rattle.invariants.proofs.CallLists.{Call, to-discard, to-post, to-run, to-start}
 use Rattle.laws.proofs.Lists.{Each, none-left, one-more, or-right}
 use Rattle.meaning.specs.Calls.{Outcome, fresh-by, outcome, refused, take-front}
@@ -23,15 +26,8 @@ use Rattle.meaning.specs.declared.State.{State}
 use Rattle.meaning.specs.declared.plan.Instr.{Instr}
 use Rattle.plan_invariants.proofs.Marks.{Marking, On, append-marked, front-marked, marked-effects, react-marked}
 use Rattle.plan_invariants.proofs.Walk.{Ends, Runs, block-runs, settle-runs, then-runs}
-use Rattle.plan_invariants.specs.Answers.{DISCARD-ANSWERS, POST-ANSWERS, RUN-ANSWERS, START-ANSWERS, machine-make, may-give}
+use Rattle.plan_invariants.specs.Answers.{DISCARD-ANSWERS, POST-ANSWERS, RUN-ANSWERS, START-ANSWERS, may-give}
 use Rattle.queue.specs.Queue.{removed}
-
--- a call over a plan that is well formed
-unfoldable pub plan-make : Plan → Call → State → Outcome
-plan-make p (to-start n) u = plan-start p u n
-plan-make p (to-run n) u = plan-run p u n
-plan-make p (to-post e a) u = plan-post p u e a
-plan-make p to-discard u = plan-discard p u
 
 -- ---- over any plan, from any state
 
@@ -126,7 +122,7 @@ module _ (ns : List ℤ) where
 
   -- well formed: as over the plan that the numbers state
   pub formed : well-formed ns ≡ true → (x : Call) (u : State) → machine-make ns x u ≡ plan-make (plan-by ns) x u
-  formed e x u = by-form x u ∙ ap (or-5 x u) e
+  formed e x u = machine-makes ns (plan-by ns) e refl x u
 
   -- not well formed: 5
   pub unformed : well-formed ns ≡ false → (x : Call) (u : State) → machine-make ns x u ≡ refused 5 0 u

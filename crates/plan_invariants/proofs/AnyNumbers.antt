@@ -7,6 +7,8 @@ use native.Mathlib.Omega.{arith}
 use mathlib.Core.Bool.{Bool, false, true}
 use mathlib.Core.List.{List, [], _∷_}
 use lib.IntN.{ℤ}
+use Rattle.agreement.proofs.Calling.{plan-make}
+use Rattle.agreement.proofs.PlanCalls.{machine-make, outcomes}
 use Rattle.invariants.proofs.CallLists.{Call, to-discard, to-post, to-run, to-start}
 use Rattle.invariants.proofs.Good.{Sized}
 use Rattle.laws.proofs.Lists.{and-both, same-or}
@@ -15,10 +17,9 @@ use Rattle.meaning.specs.Lists.{every}
 use Rattle.meaning.specs.Plan.{Plan}
 use Rattle.meaning.specs.WellFormed.{plan-by, well-formed}
 use Rattle.meaning.specs.declared.State.{State}
-use Rattle.plan_invariants.proofs.Answering.{formed, plan-make, unformed}
+use Rattle.plan_invariants.proofs.Answering.{formed, unformed}
 use Rattle.plan_invariants.proofs.Calls.{Call-facts, plan-discard-facts, plan-post-facts, plan-run-facts, plan-start-facts}
 use Rattle.plan_invariants.proofs.Well.{Well, well}
-use Rattle.plan_invariants.specs.Answers.{machine-make, machine-traces}
 use Rattle.plan_invariants.specs.Names.{all-named, of-plan}
 
 pub plan-facts : (p : Plan) → Well p → (x : Call) (u : State) → Sized u → Call-facts p u (plan-make p x u)
@@ -52,8 +53,9 @@ module _ (ns : List ℤ) where
       let f = machine-facts x u z in
       ⊎-elim (λ e. f .done e .sized) (λ e. subst Sized (sym (f .rolled-back e .0)) z) (same-or (machine-make ns x u .number) 0)
 
-  pub every-trace-named : (xs : List Call) (u : State) → Sized u → every (all-named (of-plan (plan-by ns))) (machine-traces ns xs u) ≡ true
-  unfolding every machine-traces
+  pub every-trace-named : (xs : List Call) (u : State) → Sized u
+      → every (λ o. all-named (of-plan (plan-by ns)) (o .trace)) (outcomes (machine-make ns) xs u) ≡ true
+  unfolding every outcomes
   every-trace-named [] u z = refl
   every-trace-named (x ∷ xs) u z =
       and-both _ _ (machine-facts x u z .named) (every-trace-named xs (machine-make ns x u .after) (stays-sized x u z))

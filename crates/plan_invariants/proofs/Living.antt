@@ -7,6 +7,8 @@ use native.Mathlib.Omega.{arith}
 use mathlib.Core.Bool.{false, true, true≢false}
 use mathlib.Core.List.{List, [], _∷_}
 use lib.IntN.{ℤ}
+use Rattle.agreement.proofs.Calling.{plan-make}
+use Rattle.agreement.proofs.PlanCalls.{machine-make}
 use Rattle.invariants.proofs.CallLists.{Call, answers, to-discard, to-post, to-run, to-start}
 use Rattle.invariants.proofs.Good.{Sized}
 use Rattle.laws.proofs.Lists.{Each, none-left, one-more, same-or}
@@ -21,12 +23,11 @@ use Rattle.meaning.specs.WellFormed.{plan-by, well-formed}
 use Rattle.meaning.specs.Widget.{Ctx, begin}
 use Rattle.meaning.specs.declared.State.{State}
 use Rattle.plan_invariants.proofs.Answering.{Any-instr, One-of, Whatever, answer-of, each-any, formed, marking, plan-answer}
-use Rattle.plan_invariants.proofs.Answering.{plan-make}
 use Rattle.plan_invariants.proofs.AnyNumbers.{machine-facts, stays-sized}
 use Rattle.plan_invariants.proofs.Marks.{On, append-marked, front-marked, react-marked}
 use Rattle.plan_invariants.proofs.Root.{Owned, machine-own}
 use Rattle.plan_invariants.proofs.Walk.{Runs}
-use Rattle.plan_invariants.specs.Answers.{machine-make, may-give}
+use Rattle.plan_invariants.specs.Answers.{may-give}
 use Rattle.plan_invariants.specs.Root.{never-leaves-root, starts-in-root}
 use Rattle.queue.specs.Queue.{removed}
 

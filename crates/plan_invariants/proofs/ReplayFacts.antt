@@ -10,6 +10,7 @@ use lib.ListN.{length}
 use lib.IntN.{ℤ}
 use lib.Dec.{eqb}
 use borrow.Author.Tests.{eqb-false, eqb-true}
+use Rattle.agreement.proofs.PlanCalls.{machine-make}
 use Rattle.invariants.proofs.CallLists.{to-post, to-run}
 use Rattle.invariants.proofs.Good.{Sized}
 use Rattle.laws.proofs.Lists.{le-or-lt, or-right}
@@ -27,7 +28,7 @@ use Rattle.plan_invariants.proofs.Answering.{Any-instr, One-of, Whateve
 use Rattle.plan_invariants.proofs.AnyNumbers.{machine-facts, stays-sized}
 use Rattle.plan_invariants.proofs.Marks.{On, append-marked, react-marked}
 use Rattle.plan_invariants.proofs.Walk.{Ends, Refusal, Runs}
-use Rattle.plan_invariants.specs.Answers.{REPLAY-ANSWERS, machine-make}
+use Rattle.plan_invariants.specs.Answers.{REPLAY-ANSWERS}
 use Rattle.plan_invariants.specs.Names.{Names, all-named, of-plan}
 use Rattle.plan_invariants.specs.Replay.{Replayed, or-stop, replay, replay-by, replayed}
 use Rattle.queue.proofs.Waiting.{appended-full, appended-room, removed-front}

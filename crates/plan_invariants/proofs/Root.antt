@@ -10,6 +10,8 @@ use lib.Seq.{getD-set-same}
 use lib.IntN.{pos, ℤ}
 use lib.Dec.{eqb}
 use borrow.Author.Tests.{eqb-true}
+use Rattle.agreement.proofs.Calling.{plan-make}
+use Rattle.agreement.proofs.PlanCalls.{machine-make}
 use Rattle.invariants.proofs.CallLists.{Call, to-discard, to-post, to-run, to-start}
 use Rattle.invariants.proofs.Good.{Sized}
 use Rattle.laws.proofs.Lists.{Each, and-left, and-right, none-left, one-more}
@@ -30,12 +32,11 @@ use Rattle.meaning.specs.declared.plan.Instr.the-variants.{Does as does, In as 
 use Rattle.meaning.specs.declared.plan.Instr.the-variants.{SkipFull as skip-full}
 use Rattle.meaning.specs.declared.plan.Instr.the-variants.{SkipNot as skip-not, SkipOut as skip-out}
 use Rattle.plan_invariants.proofs.AnyNumbers.{formed-facts}
-use Rattle.plan_invariants.proofs.Answering.{formed, plan-make}
+use Rattle.plan_invariants.proofs.Answering.{formed}
 use Rattle.plan_invariants.proofs.Calls.{fit-own, own-root}
 use Rattle.plan_invariants.proofs.Marks.{Marking, On, append-marked, emit-marked, front-marked, instr-marked, marked-effects}
 use Rattle.plan_invariants.proofs.Marks.{react-marked}
 use Rattle.plan_invariants.proofs.Walk.{Ends, Refusal, Runs, code-ends, code-runs, each-taken, ends-bind, gone-on, settle-runs}
-use Rattle.plan_invariants.specs.Answers.{machine-make}
 use Rattle.plan_invariants.specs.Root.{begins-in-root, enters-root, leaves-root, never-leaves-root, starts-in-root}
 use Rattle.queue.specs.Queue.{removed}
 use Rattle.queue.specs.declared.Removed.{Removed}
