@@ -16,8 +16,8 @@ use Rattle.meaning.specs.Calls.{Outcome, fresh-by, outcome, refused, take-front
 use Rattle.meaning.specs.Effects.{enqueue}
 use Rattle.meaning.specs.Foreign.{event-fits, marks-fit, plan-own, plan-slot-fits, plan-slots-fit, queue-fits, values-fit}
 use Rattle.meaning.specs.Lists.{every, padded}
-use Rattle.meaning.specs.Machine.{plan-discard, plan-post, plan-react, plan-run, plan-settle}
-use Rattle.meaning.specs.Machine.{plan-start, plan-start-steps, plan-step, plan-tests, run-block}
+use Rattle.meaning.specs.Machine.{plan-discard, plan-post, plan-react, plan-run, plan-settle, plan-start, plan-start-steps, plan-step}
+use Rattle.meaning.specs.Machine.{plan-tests, run-block}
 use Rattle.meaning.specs.Plan.{Plan}
 use Rattle.meaning.specs.Rules.{row-fits, within-row}
 use Rattle.meaning.specs.Steps.{Res, Step, _then_, bind, ok, refuse, require}

@@ -17,8 +17,7 @@ use Rattle.meaning.specs.Rules.{row-fits}
 use Rattle.meaning.specs.Value.{count-fits, num, var-by, var-statable}
 use Rattle.meaning.specs.WellFormed.{FORMS, Field, INSTR-ROW, a-constant, a-parent, a-skip, a-state, a-variable, an-event, field-fits, form}
 use Rattle.meaning.specs.WellFormed.{form-fits, head-by, head-fits, head-guard-by, head-guard-fits, instr-act-by, instr-by, instr-fits}
-use Rattle.meaning.specs.WellFormed.{instr-of}
-use Rattle.meaning.specs.WellFormed.{no-form, one-of, span-fits, unused, var-keeps}
+use Rattle.meaning.specs.WellFormed.{instr-of, no-form, one-of, span-fits, unused, var-keeps}
 use Rattle.meaning.specs.declared.chart.Guard.the-variants.{Always as always, Compares as compares}
 use Rattle.meaning.specs.declared.chart.Sign.the-variants.{Equal as equal, Less as less, More as more}
 use Rattle.meaning.specs.declared.plan.Counts.{Counts}

@@ -20,8 +20,7 @@ use Rattle.meaning.specs.Effects.{enqueue, mark-entered}
 use Rattle.meaning.specs.Foreign.{event-fits, plan-own}
 use Rattle.meaning.specs.Lists.{every}
 use Rattle.meaning.specs.Machine.{exec, exec-at, exec-now, go-on, passing, plan-discard, plan-post, plan-react, plan-run, plan-settle}
-use Rattle.meaning.specs.Machine.{plan-start}
-use Rattle.meaning.specs.Machine.{plan-start-steps, plan-tests, run-block, run-code}
+use Rattle.meaning.specs.Machine.{plan-start, plan-start-steps, plan-tests, run-block, run-code}
 use Rattle.meaning.specs.Plan.{Plan}
 use Rattle.meaning.specs.Steps.{Res, Step, _then_, bind, each, ok, refuse, require}
 use Rattle.meaning.specs.WellFormed.{plan-by, well-formed}
@@ -29,8 +28,7 @@ use Rattle.meaning.specs.Widget.{Ctx, begin, change, emit, entered, is-active, 
 use Rattle.meaning.specs.declared.State.{State}
 use Rattle.meaning.specs.declared.plan.Instr.{Instr}
 use Rattle.meaning.specs.declared.plan.Instr.the-variants.{Does as does, In as go-in, Out as go-out, SkipEmpty as skip-empty}
-use Rattle.meaning.specs.declared.plan.Instr.the-variants.{SkipFull as skip-full}
-use Rattle.meaning.specs.declared.plan.Instr.the-variants.{SkipNot as skip-not, SkipOut as skip-out}
+use Rattle.meaning.specs.declared.plan.Instr.the-variants.{SkipFull as skip-full, SkipNot as skip-not, SkipOut as skip-out}
 use Rattle.plan_invariants.proofs.AnyNumbers.{formed-facts}
 use Rattle.plan_invariants.proofs.Answering.{formed}
 use Rattle.plan_invariants.proofs.Calls.{fit-own, own-root}

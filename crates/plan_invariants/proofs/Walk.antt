@@ -12,9 +12,8 @@ use borrow.Author.Tests.{eq-eqb}
 use Rattle.plan_invariants.specs.Names.{of-plan}
 use Rattle.laws.proofs.Lists.{Each, each-kept, each-weaker, none-left, one-more, or-left, or-right}
 use Rattle.meaning.specs.Lists.{exists, keep}
-use Rattle.meaning.specs.Machine.{Mach, chosen-heads, end-code, exec, exec-at, exec-now, fire-head, go-on, head-block, head-enabled}
-use Rattle.meaning.specs.Machine.{on-if, passing, plan-settle, plan-settle-in}
-use Rattle.meaning.specs.Machine.{plan-step, run-block, run-code, spans-meet, thin-heads}
+use Rattle.meaning.specs.Machine.{Mach, chosen-heads, end-code, exec, exec-at, exec-now, fire-head, go-on, head-block, head-enabled, on-if}
+use Rattle.meaning.specs.Machine.{passing, plan-settle, plan-settle-in, plan-step, run-block, run-code, spans-meet, thin-heads}
 use Rattle.meaning.specs.Plan.{Plan}
 use Rattle.meaning.specs.Reaction.{if-any}
 use Rattle.meaning.specs.Steps.{Res, Step, _then_, bind, each, look, ok, refuse, skip}

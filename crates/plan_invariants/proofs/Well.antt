@@ -18,10 +18,8 @@ use Rattle.meaning.specs.Plan.{Plan}
 use Rattle.meaning.specs.Rules.{row-fits}
 use Rattle.meaning.specs.Value.{VAR-ROW, count-fits, num, size-by, var-by}
 use Rattle.meaning.specs.WellFormed.{HEAD-ROW, INSTR-ROW, all-blocks-fill, blocks-fill, code-at, code-fits, code-rows, counts-keep}
-use Rattle.meaning.specs.WellFormed.{counts-of, head-by}
-use Rattle.meaning.specs.WellFormed.{head-fits, head-rows, instr-by, instr-fits, is-whole, left-after-each, left-in-blocks, plan-by}
-use Rattle.meaning.specs.WellFormed.{rows-well-formed}
-use Rattle.meaning.specs.WellFormed.{var-keeps, var-rows, well-formed}
+use Rattle.meaning.specs.WellFormed.{counts-of, head-by, head-fits, head-rows, instr-by, instr-fits, is-whole, left-after-each}
+use Rattle.meaning.specs.WellFormed.{left-in-blocks, plan-by, rows-well-formed, var-keeps, var-rows, well-formed}
 use Rattle.meaning.specs.declared.plan.Counts.{Counts}
 use Rattle.meaning.specs.declared.plan.Instr.{Instr}
 use Rattle.numbers.proofs.Laws.{eqZ-true}

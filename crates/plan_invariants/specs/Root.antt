@@ -8,8 +8,7 @@ use Rattle.meaning.specs.Lists.{every}
 use Rattle.meaning.specs.Plan.{Plan}
 use Rattle.meaning.specs.declared.plan.Instr.{Instr}
 use Rattle.meaning.specs.declared.plan.Instr.the-variants.{Does as does, In as go-in, Out as go-out, SkipEmpty as skip-empty}
-use Rattle.meaning.specs.declared.plan.Instr.the-variants.{SkipFull as skip-full}
-use Rattle.meaning.specs.declared.plan.Instr.the-variants.{SkipNot as skip-not, SkipOut as skip-out}
+use Rattle.meaning.specs.declared.plan.Instr.the-variants.{SkipFull as skip-full, SkipNot as skip-not, SkipOut as skip-out}
 
 -- OUT 0
 unfoldable pub leaves-root : Instr → Bool
