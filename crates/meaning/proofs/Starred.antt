@@ -70,7 +70,8 @@ pub record Starred : Type 0 where
   -- "Chart K": the text, the value read from it, the chart that it states
   pub text-states-K : read text-K VALUE ≡ done value-K
   pub value-states-K : chart-of value-K ≡ chart-K
-  -- each call from the state that the one before left: "Start and event 1 .. Event 2 .. Event 1 .. Event 1 .. Event 1: as the fourth with 4 0 100"
+  -- each call from the state that the one before left:
+  -- "Start and event 1 .. Event 2 .. Event 1 .. Event 1 .. Event 1: as the fourth with 4 0 100"
   pub start-K : start-of value-K unstarted 3000 ≡ gives state-started start-entries
   pub event-1 : react-of value-K 3000 1 state-started ≡ gives state-1 entries-1
   pub event-2 : react-of value-K 3000 2 state-1 ≡ gives state-2 entries-2

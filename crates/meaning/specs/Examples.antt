@@ -5,13 +5,14 @@ use Prim.Native.String.{[] as end, _∷_ as _then_}
 use Prim.Native.String.{String}
 use Prim.Native.Char.{code}
 use mathlib.Core.Bool.{Bool, true, false}
-use mathlib.Core.List.{List, [], _∷_, _++_, map}
+use mathlib.Core.List.{List, [], _∷_, map}
 use lib.IntN.{ℤ, pos, negsuc}
 use Rattle.sizes.specs.Sizes.{STATES, VARIABLES}
 use Rattle.queue.specs.Queue.{item, queue-of}
 use Rattle.meaning.specs.declared.State.{State}
 use Rattle.meaning.specs.Lists.{concat-map, from, has, padded}
-use Rattle.meaning.specs.Chart.{Kind, kind-o, kind-a, kind-b, Guard, always, compares, equal, Target, to, history, in-place, set-to, add-to, tell, entry-of, exit-of, default-of, transition-of}
+use Rattle.meaning.specs.Chart.{Kind, kind-o, kind-a, kind-b, Guard, always, compares, equal, Target, to, history, set-to}
+use Rattle.meaning.specs.Chart.{add-to, tell, entry-of, exit-of, default-of, transition-of}
 use Rattle.meaning.specs.Chart.{StateRow, VarRow, TransRow, ActRow, Act, Owner, Chart}
 use Rattle.meaning.specs.Value.{ABSENT}
 use Rattle.meaning.specs.Text.{value-of}
@@ -35,9 +36,22 @@ bytes (c then s) = code c ∷ bytes s
 
 -- chart K as its text: fields parted by one tab, each line ended by LF
 unfoldable pub text-K : List ℕ
-text-K =
-    bytes "S\t0\t-\to\t1\nS\t1\t0\tb\t-\nS\t2\t0\to\t3\nS\t3\t2\tb\t-\nS\t4\t2\tb\t-\nV\t0\t-100\t100\t0\nE\t2\n"
-    ++ bytes "T\t0\t1\t1\t-\t-\t-\th2\nT\t1\t3\t2\t-\t-\t-\t4\nT\t2\t2\t1\t-\t-\t-\t1\nA\te\t4\to\t7\t-\nA\tx\t2\ta\t0\t60\nA\td\t2\to\t9\t-\n"
+text-K = concat-map bytes (
+    "S\t0\t-\to\t1\n"
+    ∷ "S\t1\t0\tb\t-\n"
+    ∷ "S\t2\t0\to\t3\n"
+    ∷ "S\t3\t2\tb\t-\n"
+    ∷ "S\t4\t2\tb\t-\n"
+    ∷ "V\t0\t-100\t100\t0\n"
+    ∷ "E\t2\n"
+    ∷ "T\t0\t1\t1\t-\t-\t-\th2\n"
+    ∷ "T\t1\t3\t2\t-\t-\t-\t4\n"
+    ∷ "T\t2\t2\t1\t-\t-\t-\t1\n"
+    ∷ "A\te\t4\to\t7\t-\n"
+    ∷ "A\tx\t2\ta\t0\t60\n"
+    ∷ "A\td\t2\to\t9\t-\n"
+    ∷ []
+    )
 
 -- chart K as a chart
 unfoldable pub chart-K : Chart
@@ -129,5 +143,6 @@ unfoldable pub machine-to : List ℤ → ℕ → ℕ → State → Outcome
 machine-to ns n e u = machine-run ns (machine-post ns u (pos e) (pos 0) .after) n
 
 unfoldable pub examples-open : ℕ
-unfolding st tr ac bytes text-K chart-K value-K plan-K chart-two chart-self chart-inside queue-of standing gives react-of react-to machine-to
+unfolding st tr ac bytes text-K chart-K value-K plan-K chart-two chart-self chart-inside queue-of standing gives react-of react-to
+    machine-to
 examples-open = 0
