@@ -78,7 +78,7 @@ facts-live c u o l f = record {
 }
 
 -- not started: 7
-unstarted-7 : (c : Chart) (u : State) (F : Step Ctx) (k : Ctx) → u .started ≡ false → outcome u ((tests c u then F) k) ≡ refused 7 0 u
+pub unstarted-7 : (c : Chart) (u : State) (F : Step Ctx) (k : Ctx) → u .started ≡ false → outcome u ((tests c u then F) k) ≡ refused 7 0 u
 unfolding tests _then_ require bind outcome
 unstarted-7 c u F k e = ap (λ b. outcome u (bind (bind (require 7 b k) (require 6 (own c u))) F)) e
 

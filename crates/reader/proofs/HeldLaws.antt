@@ -15,7 +15,8 @@ use Rattle.meaning.specs.declared.Turns.{Turns}
 use Rattle.reader.specs.Order.{place-of, turns-after, Within, with-counts}
 use Rattle.reader.specs.Scanned.{zeros, Wide, Fit}
 use Rattle.reader.proofs.RowLaws.{RowFits}
-use Rattle.reader.proofs.LayLaws.{laid, laid-none, store, length-area, length-flat, wide-more, length-more}
+use Rattle.reader.specs.Onward.{laid}
+use Rattle.reader.proofs.LayLaws.{laid-none, store, length-area, length-flat, wide-more, length-more}
 
 -- ---- a row stored behind those of its kind
 five : ℤ → List ℤ → List ℤ

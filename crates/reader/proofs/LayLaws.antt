@@ -12,6 +12,7 @@ use Rattle.meaning.specs.Lists.{padded}
 use Rattle.meaning.specs.Value.{Rows, VALUE, STATES-AT, STATE-ROW, VARS-AT, VAR-ROW, TRANSITIONS-AT, TRANS-ROW, ACTIONS-AT, ACT-ROW}
 use Rattle.meaning.specs.Text.{flat, area, no-rows}
 use Rattle.reader.specs.Scanned.{zeros, Wide, Fit}
+use Rattle.reader.specs.Onward.{laid}
 
 -- ---- lists of rows
 pub flat-more : (rs : List (List ℤ)) (y : List ℤ) → flat (rs ++ (y ∷ [])) ≡ flat rs ++ y
@@ -82,12 +83,6 @@ store p q n k at rs y w e h f =
     let g = length-flat k rs w in
     let i : at ≡ length p + length (flat rs) = omega arith in
     rw i (fill-area p q n rs y (omega arith))
-
--- ---- a chart's numbers while its text is read: the counts still 0, but that of events; z is what lies past them
-unfoldable pub laid : Rows → List ℤ → List ℤ
-laid r z =
-    pos 0 ∷ pos 0 ∷ r .events ∷ pos 0 ∷ pos 0 ∷ (area (STATES * STATE-ROW) (r .states) ++ (area (VARIABLES * VAR-ROW) (r .vars)
-    ++ (area (TRANSITIONS * TRANS-ROW) (r .transitions) ++ (area (ACTIONS * ACT-ROW) (r .actions) ++ z))))
 
 five-zeros : (n : ℕ) → zeros (suc (suc (suc (suc (suc n))))) ≡ pos 0 ∷ pos 0 ∷ pos 0 ∷ pos 0 ∷ pos 0 ∷ zeros n
 unfolding zeros

@@ -1,6 +1,6 @@
 // A text's rows read into lent numbers (01, "Chart text", "Answer numbers"): any text, any number of lent numbers. A refused read
 // leaves all of them 0.
-use crate::scan::walk;
+use crate::walk;
 use chart::layout::VALUE;
 use meaning::Answer;
 use sizes::TEXT;
