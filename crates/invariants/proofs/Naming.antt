@@ -2,22 +2,23 @@
 -- over a chart handed over as a value. Assumes nothing.
 use mathlib.Core.Path.{_∙_, _≡_, ap, refl, subst, sym}
 use mathlib.Core.Logic.{⊎-elim}
-use Prim.Native.Nat.{_<_, _≤_, ℕ}
+use Prim.Native.Nat.{_<_, ℕ}
 use native.Mathlib.Omega.{arith}
-use mathlib.Core.Bool.{Bool, _&&_, _||_, false, true}
+use mathlib.Core.Bool.{Bool, false, false≢true, true}
 use mathlib.Core.List.{List, [], _++_, _∷_}
 use mathlib.Core.Option.{Option, none, some}
 use lib.ListN.{length}
 use lib.IntN.{pos, ℤ}
-use lib.Dec.{leb, ltb}
+use lib.Signed.{leZ}
+use lib.Dec.{leb}
 use borrow.Author.Tests.{le-leb, lt-ltb}
-use Rattle.invariants.specs.Named.{all-named, entry-named, one-of}
-use Rattle.invariants.proofs.CallLists.{Call, make, make-of, to-discard, to-post, to-run, to-start}
+use Rattle.invariants.specs.Named.{Names, all-named, entry-named, of-chart, one-of}
+use Rattle.invariants.specs.CallLists.{Call, make, make-of, to-discard, to-post, to-run, to-start}
 use Rattle.invariants.proofs.CallLists.{unstarted-7, value-sized, value-sound}
 use Rattle.invariants.proofs.Calls.{Call-facts, discard-facts, post-facts, run-facts, start-facts}
 use Rattle.invariants.proofs.Good.{Entry-ok, Sized, Traced}
-use Rattle.invariants.proofs.Own.{Own-state, nothing-traced}
-use Rattle.laws.proofs.Lists.{Each, and-both, none-left, one-more, or-left, same-or}
+use Rattle.invariants.proofs.Own.{Own-state}
+use Rattle.laws.proofs.Lists.{Each, and-both, and-left, and-right, none-left, one-more, or-left, same-or}
 use Rattle.laws.proofs.Sound.{Sound-chart}
 use Rattle.laws.proofs.Value.{Sized-chart}
 use Rattle.meaning.specs.Calls.{Outcome, discard, discard-of, outcome, post, post-of, react, refused, run, run-of, start, start-of}
@@ -26,38 +27,69 @@ use Rattle.meaning.specs.Chart.{Chart}
 use Rattle.meaning.specs.Effects.{enqueue}
 use Rattle.meaning.specs.Foreign.{event-fits, own}
 use Rattle.meaning.specs.Lists.{concat-map}
-use Rattle.meaning.specs.Rules.{failing-rule-of}
+use Rattle.meaning.specs.Rules.{failing-rule-of, within-row}
 use Rattle.meaning.specs.Steps.{Step, _then_, bind, require}
+use Rattle.meaning.specs.Tree.{var-row}
 use Rattle.meaning.specs.Value.{chart-of}
 use Rattle.meaning.specs.Widget.{Ctx, Entry, begin, changed, entered, left, numbers, sent, taken, told}
 use Rattle.meaning.specs.declared.State.{State}
-use Rattle.numbers.specs.Equal.{eqZ}
+use Rattle.numbers.specs.Range.{inRange}
 use Rattle.queue.specs.Queue.{removed}
 
 -- ---- the numbers of sound entries
 
-module _ (c : Chart) where
+-- an entry that names only what there is
+abbrev pub Entry-named : Names → Entry → Type 0
+Entry-named w (taken t) = w .transition t ≡ true
+Entry-named w (left s) = s < w .states
+Entry-named w (entered s) = s < w .states
+Entry-named w (changed v x) = (v < length (w .vars)) × (within-row (var-row (w .vars) v) x ≡ true)
+Entry-named w (sent e x) = event-fits (w .events) (pos e) x ≡ true
+Entry-named w (told x) = inRange x ≡ true
+
+module _ (w : Names) where
   one-of-below : (n k : ℕ) → k < n → one-of n (pos k) ≡ true
   unfolding one-of
   one-of-below n k l = and-both (leb 0 k) _ (le-leb 0 k (omega arith)) (lt-ltb k n l)
 
-  sound-named : (e : Entry) → Entry-ok c e → (rest : List ℤ) → all-named c rest ≡ true → all-named c (numbers e ++ rest) ≡ true
-  unfolding all-named entry-named numbers event-fits
-  sound-named (taken t) h rest f = and-both _ _ (or-left _ _ (and-both _ true (one-of-below (length (c .transitions)) t h) refl)) f
-  sound-named (left s) h rest f = and-both _ _ (or-left _ _ (and-both _ true (one-of-below (length (c .states)) s h) refl)) f
-  sound-named (entered s) h rest f = and-both _ _ (or-left _ _ (and-both _ true (one-of-below (length (c .states)) s h) refl)) f
-  sound-named (changed v x) h rest f = and-both _ _ (or-left _ _ (and-both _ _ (one-of-below (length (c .vars)) v (h .0)) (h .1))) f
-  sound-named (sent e x) h rest f =
-      and-both _ _ (or-left _ _ (and-both _ _ (le-leb 1 e (h .0)) (and-both _ _ (le-leb e (c .events) (h .1)) (h .2)))) f
-  sound-named (told x) h rest f = and-both _ _ (and-both _ true h refl) f
+  pub numbers-named : (e : Entry) → Entry-named w e → all-named w (numbers e) ≡ true
+  unfolding all-named entry-named numbers
+  numbers-named (taken t) h = and-both _ true (or-left _ _ (and-both _ true (and-both _ _ (le-leb 0 t (omega arith)) h) refl)) refl
+  numbers-named (left s) h = and-both _ true (or-left _ _ (and-both _ true (one-of-below (w .states) s h) refl)) refl
+  numbers-named (entered s) h = and-both _ true (or-left _ _ (and-both _ true (one-of-below (w .states) s h) refl)) refl
+  numbers-named (changed v x) h = and-both _ true (or-left _ _ (and-both _ _ (one-of-below (length (w .vars)) v (h .0)) (h .1))) refl
+  numbers-named (sent e x) h = and-both _ true (or-left _ _ h) refl
+  numbers-named (told x) h = and-both _ true (and-both _ true h refl) refl
 
-  pub entries-named : (es : List Entry) → Each (Entry-ok c) es → all-named c (concat-map numbers es) ≡ true
-  unfolding all-named concat-map
-  entries-named [] none-left = refl
-  entries-named (e ∷ es) (one-more h hs) = sound-named e h (concat-map numbers es) (entries-named es hs)
+  pub named-more : (out more : List ℤ) → all-named w out ≡ true → all-named w more ≡ true → all-named w (out ++ more) ≡ true
+  unfolding all-named
+  named-more [] more h g = g
+  named-more (kind ∷ []) more h g = absurd (false≢true h)
+  named-more (kind ∷ x ∷ []) more h g = absurd (false≢true h)
+  named-more (kind ∷ x ∷ y ∷ rest) more h g =
+      let e = entry-named w kind x y in
+      and-both e _ (and-left e _ h) (named-more rest more (and-right e _ h) g)
 
-  pub traced-named : (out : List ℤ) → Traced c out → all-named c out ≡ true
-  traced-named out t = subst (λ l. all-named c l ≡ true) (sym (t .1)) (entries-named (t .0) (t .2))
+-- ---- over a chart
+
+entry-chart : (c : Chart) (e : Entry) → Entry-ok c e → Entry-named (of-chart c) e
+unfolding of-chart event-fits
+entry-chart c (taken t) h = lt-ltb t (length (c .transitions)) h
+entry-chart c (left s) h = h
+entry-chart c (entered s) h = h
+entry-chart c (changed v x) h = h
+entry-chart c (sent e x) h =
+    and-both (leZ (pos 1) (pos e)) _ (le-leb 1 e (h .0)) (and-both (leZ (pos e) (pos (c .events))) _ (le-leb e (c .events) (h .1)) (h .2))
+entry-chart c (told x) h = h
+
+entries-chart : (c : Chart) (es : List Entry) → Each (Entry-ok c) es → all-named (of-chart c) (concat-map numbers es) ≡ true
+unfolding all-named concat-map
+entries-chart c [] none-left = refl
+entries-chart c (e ∷ es) (one-more h hs) =
+    named-more (of-chart c) (numbers e) (concat-map numbers es) (numbers-named (of-chart c) e (entry-chart c e h)) (entries-chart c es hs)
+
+pub traced-named : (c : Chart) (out : List ℤ) → Traced c out → all-named (of-chart c) out ≡ true
+traced-named c out t = subst (λ l. all-named (of-chart c) l ≡ true) (sym (t .1)) (entries-chart c (t .0) (t .2))
 
 -- ---- a call from any state whatsoever
 
@@ -65,7 +97,7 @@ module _ (c : Chart) where
 pub record Answered (c : Chart) (o : Outcome) : Type 0 where
   pub done : o .number ≡ 0 → Own-state c (o .after)
   pub sized : Sized (o .after)
-  pub named : all-named c (o .trace) ≡ true
+  pub named : all-named (of-chart c) (o .trace) ≡ true
 
 facts-answered : (c : Chart) (u : State) (o : Outcome) → Sized u → Call-facts c u o → Answered c o
 facts-answered c u o l f = record {

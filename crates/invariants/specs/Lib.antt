@@ -1,1 +1,2 @@
+pub mod CallLists
 pub mod Named

@@ -9,8 +9,8 @@ use lib.IntN.{pos, ℤ}
 use lib.Dec.{eqb}
 use Rattle.agreement.proofs.Calling.{plan-make}
 use Rattle.agreement.proofs.CompiledCalls.{machine-makes}
-use Rattle.agreement.proofs.PlanCalls.{machine-make}
-use Rattle.invariants.proofs.CallLists.{Call, to-discard, to-post, to-run, to-start}
+use Rattle.agreement.specs.PlanCalls.{machine-make}
+use Rattle.invariants.specs.CallLists.{Call, to-discard, to-post, to-run, to-start}
 use Rattle.laws.proofs.Lists.{Each, none-left, one-more, or-right}
 use Rattle.meaning.specs.Calls.{Outcome, fresh-by, outcome, refused, take-front}
 use Rattle.meaning.specs.Effects.{enqueue}

@@ -8,8 +8,8 @@ use mathlib.Core.Bool.{Bool, false, true}
 use mathlib.Core.List.{List, [], _∷_}
 use lib.IntN.{ℤ}
 use Rattle.agreement.proofs.Calling.{plan-make}
-use Rattle.agreement.proofs.PlanCalls.{machine-make, outcomes}
-use Rattle.invariants.proofs.CallLists.{Call, to-discard, to-post, to-run, to-start}
+use Rattle.agreement.specs.PlanCalls.{machine-make, outcomes}
+use Rattle.invariants.specs.CallLists.{Call, to-discard, to-post, to-run, to-start}
 use Rattle.invariants.proofs.Good.{Sized}
 use Rattle.laws.proofs.Lists.{and-both, same-or}
 use Rattle.meaning.specs.Calls.{refused}
@@ -20,7 +20,8 @@ use Rattle.meaning.specs.declared.State.{State}
 use Rattle.plan_invariants.proofs.Answering.{formed, unformed}
 use Rattle.plan_invariants.proofs.Calls.{Call-facts, plan-discard-facts, plan-post-facts, plan-run-facts, plan-start-facts}
 use Rattle.plan_invariants.proofs.Well.{Well, well}
-use Rattle.plan_invariants.specs.Names.{all-named, of-plan}
+use Rattle.invariants.specs.Named.{all-named}
+use Rattle.plan_invariants.specs.Names.{of-plan}
 
 pub plan-facts : (p : Plan) → Well p → (x : Call) (u : State) → Sized u → Call-facts p u (plan-make p x u)
 unfolding plan-make

@@ -29,7 +29,8 @@ use Rattle.numbers.specs.Reference.{ref}
 use Rattle.plan_invariants.proofs.Good.{Fit, Good, enqueue-good, good-effects, queue-fit}
 use Rattle.plan_invariants.proofs.Walk.{Ends, Refusal, Runs, block-runs, each-taken, ends-bind, settle-runs, step-runs, then-runs}
 use Rattle.plan_invariants.proofs.Well.{Well, well-code, well-rows}
-use Rattle.plan_invariants.specs.Names.{all-named, of-plan}
+use Rattle.invariants.specs.Named.{all-named}
+use Rattle.plan_invariants.specs.Names.{of-plan}
 use Rattle.queue.proofs.Tidy.{removed-long}
 use Rattle.queue.proofs.Waiting.{removed-front, removed-none}
 use Rattle.queue.specs.Queue.{empty-queue, none as none-item, removed}

@@ -6,7 +6,7 @@ use Prim.Native.Nat.{ℕ}
 use mathlib.Core.Bool.{false, true}
 use mathlib.Core.List.{List, [], _∷_}
 use lib.IntN.{negsuc, pos, ℤ}
-use Rattle.meaning.proofs.Starred.{m-1, m-2, m-3, m-started}
+use Rattle.meaning.proofs.Computed.{m-1, m-2, m-3, m-started}
 use Rattle.meaning.specs.Calls.{unstarted}
 use Rattle.meaning.specs.Examples.{plan-K}
 use Rattle.meaning.specs.Machine.{machine-start}

@@ -36,10 +36,11 @@ use Rattle.numbers.specs.Equal.{eqZ}
 use Rattle.numbers.specs.Range.{inRange}
 use Rattle.numbers.specs.declared.Place.{Place as Slot}
 use Rattle.numbers.specs.declared.Place.the-variants.{At as holds, Empty as empty}
-use Rattle.plan_invariants.proofs.Naming.{Entry-named, named-more, numbers-named}
+use Rattle.invariants.proofs.Naming.{Entry-named, named-more, numbers-named}
 use Rattle.plan_invariants.proofs.Walk.{Effects, Ends, Refusal, Runs, either-way, gone-on, look-runs, then-runs}
 use Rattle.plan_invariants.proofs.Well.{Instr-named, Well, well-rows}
-use Rattle.plan_invariants.specs.Names.{all-named, of-plan}
+use Rattle.invariants.specs.Named.{all-named}
+use Rattle.plan_invariants.specs.Names.{of-plan}
 use Rattle.plan_laws.proofs.Fits.{Act-fits, Slot-fits}
 use Rattle.plan_laws.proofs.ReadBack.{counts}
 use Rattle.queue.proofs.Tidy.{appended-long}

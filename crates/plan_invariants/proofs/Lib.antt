@@ -1,7 +1,6 @@
 pub mod Walk
 pub mod FittingRows
 pub mod Well
-pub mod Naming
 pub mod Good
 pub mod Calls
 pub mod Marks

@@ -8,8 +8,8 @@ use mathlib.Core.Bool.{false, true, true≢false}
 use mathlib.Core.List.{List, [], _∷_}
 use lib.IntN.{ℤ}
 use Rattle.agreement.proofs.Calling.{plan-make}
-use Rattle.agreement.proofs.PlanCalls.{machine-make}
-use Rattle.invariants.proofs.CallLists.{Call, answers, to-discard, to-post, to-run, to-start}
+use Rattle.agreement.specs.PlanCalls.{machine-make}
+use Rattle.invariants.specs.CallLists.{Call, answers, to-discard, to-post, to-run, to-start}
 use Rattle.invariants.proofs.Good.{Sized}
 use Rattle.laws.proofs.Lists.{Each, none-left, one-more, same-or}
 use Rattle.meaning.specs.Calls.{outcome, refused, take-front}

@@ -10,8 +10,8 @@ use lib.ListN.{length}
 use lib.IntN.{ℤ}
 use lib.Dec.{eqb}
 use borrow.Author.Tests.{eqb-false, eqb-true}
-use Rattle.agreement.proofs.PlanCalls.{machine-make}
-use Rattle.invariants.proofs.CallLists.{to-post, to-run}
+use Rattle.agreement.specs.PlanCalls.{machine-make}
+use Rattle.invariants.specs.CallLists.{to-post, to-run}
 use Rattle.invariants.proofs.Good.{Sized}
 use Rattle.laws.proofs.Lists.{le-or-lt, or-right}
 use Rattle.meaning.specs.Calls.{Outcome, outcome, refused, take-front}
@@ -29,7 +29,8 @@ use Rattle.plan_invariants.proofs.AnyNumbers.{machine-facts, stays-size
 use Rattle.plan_invariants.proofs.Marks.{On, append-marked, react-marked}
 use Rattle.plan_invariants.proofs.Walk.{Ends, Refusal, Runs}
 use Rattle.plan_invariants.specs.Answers.{REPLAY-ANSWERS}
-use Rattle.plan_invariants.specs.Names.{Names, all-named, of-plan}
+use Rattle.invariants.specs.Named.{Names, all-named}
+use Rattle.plan_invariants.specs.Names.{of-plan}
 use Rattle.plan_invariants.specs.Replay.{Replayed, or-stop, replay, replay-by, replayed}
 use Rattle.queue.proofs.Waiting.{appended-full, appended-room, removed-front}
 use Rattle.queue.specs.Queue.{appended, removed}

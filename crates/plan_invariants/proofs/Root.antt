@@ -11,8 +11,8 @@ use lib.IntN.{pos, ℤ}
 use lib.Dec.{eqb}
 use borrow.Author.Tests.{eqb-true}
 use Rattle.agreement.proofs.Calling.{plan-make}
-use Rattle.agreement.proofs.PlanCalls.{machine-make}
-use Rattle.invariants.proofs.CallLists.{Call, to-discard, to-post, to-run, to-start}
+use Rattle.agreement.specs.PlanCalls.{machine-make}
+use Rattle.invariants.specs.CallLists.{Call, to-discard, to-post, to-run, to-start}
 use Rattle.invariants.proofs.Good.{Sized}
 use Rattle.laws.proofs.Lists.{Each, and-left, and-right, none-left, one-more}
 use Rattle.meaning.specs.Calls.{fresh-by, outcome, refused, take-front}

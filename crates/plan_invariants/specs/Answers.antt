@@ -2,7 +2,7 @@
 -- plan is not well formed. None has 14. Assumes nothing.
 use Prim.Native.Nat.{ℕ}
 use mathlib.Core.List.{List, [], _∷_}
-use Rattle.invariants.proofs.CallLists.{Call, to-discard, to-post, to-run, to-start}
+use Rattle.invariants.specs.CallLists.{Call, to-discard, to-post, to-run, to-start}
 
 -- "It tests neither 7 nor 6"; a send to a full queue, no room, a 33rd null step
 abbrev pub START-ANSWERS : List ℕ

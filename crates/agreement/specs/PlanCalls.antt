@@ -1,7 +1,7 @@
 -- What demand 3 compares: a call over numbers handed over as a plan, and all that a list of calls gives. Assumes nothing.
 use mathlib.Core.List.{List, [], _∷_}
 use lib.IntN.{ℤ}
-use Rattle.invariants.proofs.CallLists.{Call, make-of, to-discard, to-post, to-run, to-start}
+use Rattle.invariants.specs.CallLists.{Call, make-of, to-discard, to-post, to-run, to-start}
 use Rattle.meaning.specs.Calls.{Outcome}
 use Rattle.meaning.specs.Machine.{machine-discard, machine-post, machine-run, machine-start}
 use Rattle.meaning.specs.declared.State.{State}
