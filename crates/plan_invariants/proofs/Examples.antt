@@ -6,12 +6,14 @@ use Prim.Native.Nat.{ℕ}
 use mathlib.Core.Bool.{false, true}
 use mathlib.Core.List.{List, [], _∷_}
 use lib.IntN.{negsuc, pos, ℤ}
-use Rattle.meaning.proofs.Computed.{m-1, m-2, m-3, m-started}
+use Rattle.meaning.proofs.Starred.{entries-1, entries-3, state-3, state-started}
 use Rattle.meaning.specs.Calls.{unstarted}
 use Rattle.meaning.specs.Examples.{plan-K}
+use Rattle.meaning.specs.Lists.{concat-map}
 use Rattle.meaning.specs.Machine.{machine-start}
 use Rattle.meaning.specs.Open.{all-open}
 use Rattle.meaning.specs.WellFormed.{plan-by, well-formed}
+use Rattle.meaning.specs.Widget.{numbers}
 use Rattle.plan_invariants.specs.Replay.{Replayed, replay, replay-open, replayed}
 use Rattle.plan_invariants.specs.Root.{begins-in-root, enters-root, leaves-root, never-leaves-root, starts-in-root}
 use Rattle.queue.specs.Queue.{item}
@@ -20,15 +22,16 @@ use Rattle.queue.specs.declared.Item.{Item}
 abbrev with-0 : ℕ → Item
 with-0 e = item (pos e) (pos 0)
 
-pub replay-K : replay plan-K (m-started .after) (with-0 1 ∷ with-0 2 ∷ with-0 1 ∷ []) 3000 ≡ replayed 3 0 (m-3 .after) (m-3 .trace)
-unfolding all-open replay-open m-started m-1 m-2 m-3
+-- the states and entries are those of the starred cases
+pub replay-K : replay plan-K state-started (with-0 1 ∷ with-0 2 ∷ with-0 1 ∷ []) 3000 ≡ replayed 3 0 state-3 (concat-map numbers entries-3)
+unfolding all-open replay-open
 replay-K = refl
 
 abbrev stopped-K : Replayed
-stopped-K = replay plan-K (m-started .after) (with-0 1 ∷ with-0 3 ∷ with-0 1 ∷ []) 3000
+stopped-K = replay plan-K state-started (with-0 1 ∷ with-0 3 ∷ with-0 1 ∷ []) 3000
 
-pub replay-K-stopped : (stopped-K .done ≡ 1) × (stopped-K .number ≡ 10) × (stopped-K .trace ≡ m-1 .trace)
-unfolding all-open replay-open m-started m-1
+pub replay-K-stopped : (stopped-K .done ≡ 1) × (stopped-K .number ≡ 10) × (stopped-K .trace ≡ concat-map numbers entries-1)
+unfolding all-open replay-open
 replay-K-stopped = (refl, refl, refl)
 
 pub K-keeps-root : (well-formed plan-K ≡ true) × (never-leaves-root (plan-by plan-K) ≡ true) × (starts-in-root (plan-by plan-K) ≡ true)
