@@ -1,5 +1,5 @@
 -- Cases that 01 does not star, computed like the starred ones: the starred calls by the plan machine, which gives the same answers,
--- states and traces; and two cases that "Easy errors here" and the readings turn on, over the chart and by its plan. Assumes nothing.
+-- states and traces; and three cases that "Easy errors here", the readings and a full queue turn on, over the chart and by its plan. Assumes nothing.
 use mathlib.Core.Path.{_≡_, refl}
 use mathlib.Core.List.{List, [], _∷_}
 use mathlib.Core.Option.{none}
@@ -11,7 +11,7 @@ use Rattle.meaning.specs.Rules.{failing-rule}
 use Rattle.meaning.specs.Calls.{Outcome, refused, unstarted, start}
 use Rattle.meaning.specs.Compile.{compile}
 use Rattle.meaning.specs.Machine.{machine-start}
-use Rattle.meaning.specs.Examples.{plan-K, chart-two, chart-self, chart-inside, standing, gives, react-to, machine-to}
+use Rattle.meaning.specs.Examples.{plan-K, chart-two, chart-self, chart-inside, chart-filling, standing, gives, react-to, machine-to}
 use Rattle.meaning.proofs.Starred.{start-entries, entries-1, entries-2, entries-3, entries-4, entries-5, both-entries}
 use Rattle.meaning.proofs.Starred.{state-started, state-posted, state-1, state-2, state-3, state-4, state-5, state-both}
 
@@ -29,6 +29,10 @@ inside-entries = taken 1 ∷ left 3 ∷ left 1 ∷ entered 1 ∷ entered 3 ∷ [
 
 abbrev pub state-inside : State
 state-inside = standing (0 ∷ 1 ∷ 3 ∷ []) (pos 1 ∷ pos 3 ∷ []) [] []
+
+-- event 1 waits in front
+abbrev pub state-filling : State
+state-filling = standing (0 ∷ 1 ∷ []) [] [] ((pos 1, pos 0) ∷ [])
 
 pub record Computed : Type 0 where
   pub start-K-by-plan : machine-start plan-K unstarted 3000 ≡ gives state-started start-entries
@@ -52,6 +56,12 @@ pub record Computed : Type 0 where
       (machine-to (compile chart-inside) 3000 1 (machine-start (compile chart-inside) unstarted 3000 .after) .after)
       ≡ gives state-inside inside-entries
 
+  -- a queue that fills in the middle of a reaction: 9, and the widget stays as it was, the event in front
+  pub filling-pass : failing-rule chart-filling ≡ none
+  pub filling : react-to chart-filling 3000 1 (start chart-filling unstarted 3000 .after) ≡ refused 9 0 state-filling
+  pub filling-by-plan : machine-to (compile chart-filling) 3000 1 (machine-start (compile chart-filling) unstarted 3000 .after)
+      ≡ refused 9 0 state-filling
+
 pub computed : Computed
 unfolding all-open
 computed = record {
@@ -70,4 +80,7 @@ computed = record {
   inside-pass = refl;
   inside = refl;
   inside-by-plan = refl;
+  filling-pass = refl;
+  filling = refl;
+  filling-by-plan = refl;
 }

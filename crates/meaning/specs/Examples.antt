@@ -6,13 +6,14 @@ use Prim.Native.String.{String}
 use Prim.Native.Char.{code}
 use mathlib.Core.Bool.{Bool, true, false}
 use mathlib.Core.List.{List, [], _∷_, map}
+use lib.ListN.{replicate}
 use lib.IntN.{ℤ, pos, negsuc}
-use Rattle.sizes.specs.Sizes.{STATES, VARIABLES}
+use Rattle.sizes.specs.Sizes.{QUEUE, STATES, VARIABLES}
 use Rattle.queue.specs.Queue.{item, queue-of}
 use Rattle.meaning.specs.declared.State.{State}
 use Rattle.meaning.specs.Lists.{concat-map, from, has, padded}
 use Rattle.meaning.specs.Chart.{Kind, kind-o, kind-a, kind-b, Guard, always, compares, equal, Target, to, history, set-to}
-use Rattle.meaning.specs.Chart.{add-to, tell, entry-of, exit-of, default-of, transition-of}
+use Rattle.meaning.specs.Chart.{add-to, send, tell, entry-of, exit-of, default-of, transition-of}
 use Rattle.meaning.specs.Chart.{StateRow, VarRow, TransRow, ActRow, Act, Owner, Chart}
 use Rattle.meaning.specs.Value.{ABSENT}
 use Rattle.meaning.specs.Text.{value-of}
@@ -115,6 +116,16 @@ chart-inside = record {
   actions = ac (default-of 1) (tell (pos 9)) ∷ [];
 }
 
+-- a queue that fills in the middle of a reaction: state 1 is left, and its exit actions send one event more than there are places
+unfoldable pub chart-filling : Chart
+chart-filling = record {
+  states = st 0 kind-o 1 ∷ st 0 kind-b 0 ∷ st 0 kind-b 0 ∷ [];
+  vars = [];
+  events = 1;
+  transitions = tr 1 1 always (to 2) ∷ [];
+  actions = replicate (suc QUEUE) (ac (exit-of 1) (send 1 (pos 0)));
+}
+
 -- a started state: the active states; the slots, the variables and what waits, from their first place on. "Places not in use hold: not
 -- active, -1, 0, and 0 with 0"
 unfoldable pub standing : List ℕ → List ℤ → List ℤ → List (ℤ × ℤ) → State
@@ -143,6 +154,6 @@ unfoldable pub machine-to : List ℤ → ℕ → ℕ → State → Outcome
 machine-to ns n e u = machine-run ns (machine-post ns u (pos e) (pos 0) .after) n
 
 unfoldable pub examples-open : ℕ
-unfolding st tr ac bytes text-K chart-K value-K plan-K chart-two chart-self chart-inside queue-of standing gives react-of react-to
+unfolding st tr ac bytes text-K chart-K value-K plan-K chart-two chart-self chart-inside chart-filling queue-of standing gives react-of react-to
     machine-to
 examples-open = 0
