@@ -12,7 +12,7 @@ use Rattle.meaning.specs.Calls.{start, unstarted}
 use Rattle.meaning.specs.Text.{Outcome, done, refused}
 use Rattle.meaning.specs.Program.{ROOM, Turn, report, reported}
 use Rattle.walks.specs.Walks.{Ruled}
-use Rattle.pen.specs.Pen.{pen, writes}
+use Rattle.pen.specs.Pen.{pen, put-all}
 use Rattle.console.specs.Session.{Passed}
 use Rattle.console.specs.Session.{Under as Seen}
 use Rattle.session.specs.declared.Opened.{Opened}
@@ -26,7 +26,7 @@ LARGEST = 36048
 -- t is what the definition says of it
 pub record Went (t : Turn) (before : List ℕ) (at : ℕ) (after : List ℕ) (r : Turned) : Type 0 where
   pub widget : r .state ≡ t .state
-  pub bytes : pen after (r .at) ≡ writes (t .printed) (pen before at)
+  pub bytes : pen after (r .at) ≡ put-all (t .printed) (pen before at)
   pub whole : at + LARGEST ≤ length before → r .at ≤ at + LARGEST
 
 -- R, number, 0, and the widget as it was
@@ -55,7 +55,7 @@ Opens (done v) chart before at after r = Starts v chart before at after r
 pub record Passes (p : Passed) (before : List ℕ) (at : ℕ) (after : List ℕ) (r : Under) : Type 0 where
   pub widget : r .state ≡ p .under .state
   pub line : r .scan ≡ p .under .scan
-  pub bytes : pen after (r .at) ≡ writes (p .printed) (pen before at)
+  pub bytes : pen after (r .at) ≡ put-all (p .printed) (pen before at)
   pub whole : at + LARGEST ≤ length before → r .at ≤ at + LARGEST
 
 -- the widget and the line under way, without the place

@@ -17,7 +17,8 @@ use Rattle.meaning.specs.Rules.{failing-rule-of, verdict}
 use Rattle.meaning.specs.Text.{answer, answer-of, count-of, lent, text-of, written-by, write, written, lent-bytes}
 use Rattle.meaning.specs.declared.Answer.{Answer}
 use Rattle.meaning.specs.declared.Written.{Written}
-use Rattle.writer.specs.Pen.{Pen, pen, put-if, put-byte, put-all, zeros}
+use Rattle.pen.specs.Pen.{Pen, pen, put-if, put-byte, put-all}
+use Rattle.writer.specs.Letters.{zeros}
 
 -- ---- a slice set to 0, from its start on
 

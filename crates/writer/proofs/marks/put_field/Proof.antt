@@ -1,9 +1,9 @@
 -- `put_field`: a tab, then the number. Assumes nothing.
-use Rattle.writer.proofs.PenLaws.{field-numeral}
+use Rattle.writer.proofs.MarkLaws.{field-numeral}
 use mir.Facts.{toZ-ofZ}
 use borrow.Author.Needs.{needs}
-use Rattle.writer.proofs.pen.put_field.Statement.{statement}
-use Rattle.writer.proofs.pen.put_field.Tie as tie
+use Rattle.writer.proofs.marks.put_field.Statement.{statement}
+use Rattle.writer.proofs.marks.put_field.Tie as tie
 
 put-requires : tie.Need-put-requires
 put-requires c κs = search needs

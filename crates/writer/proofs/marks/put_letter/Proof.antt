@@ -1,11 +1,11 @@
 -- `put_letter`: a tab, then "-" or the letter, which is a byte. Assumes nothing.
 use native.Mathlib.Omega.{arith}
-use Rattle.writer.proofs.PenLaws.{field-letter, field-no-letter}
+use Rattle.writer.proofs.MarkLaws.{field-letter, field-no-letter}
 use mathlib.Core.Path.{sym, _∙_}
 use mir.Facts.{toZ-ofZ}
 use borrow.Author.Needs.{needs}
-use Rattle.writer.proofs.pen.put_letter.Statement.{statement}
-use Rattle.writer.proofs.pen.put_letter.Tie as tie
+use Rattle.writer.proofs.marks.put_letter.Statement.{statement}
+use Rattle.writer.proofs.marks.put_letter.Tie as tie
 
 put-requires : tie.Need-put-requires
 put-requires c κs = search needs

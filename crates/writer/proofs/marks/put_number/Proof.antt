@@ -1,10 +1,10 @@
 -- `put_number`: a tab, then "-" or the number. Assumes nothing.
-use Rattle.writer.proofs.PenLaws.{field-number, field-no-number}
+use Rattle.writer.proofs.MarkLaws.{field-number, field-no-number}
 use mathlib.Core.Path.{sym, _∙_}
 use mir.Facts.{toZ-ofZ}
 use borrow.Author.Needs.{needs}
-use Rattle.writer.proofs.pen.put_number.Statement.{statement}
-use Rattle.writer.proofs.pen.put_number.Tie as tie
+use Rattle.writer.proofs.marks.put_number.Statement.{statement}
+use Rattle.writer.proofs.marks.put_number.Tie as tie
 
 put-requires : tie.Need-put-requires
 put-requires c κs = search needs

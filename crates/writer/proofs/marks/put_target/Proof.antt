@@ -1,10 +1,10 @@
 -- `put_target`: a tab, then "-", h and a number, or a number. Assumes nothing.
-use Rattle.writer.proofs.PenLaws.{field-in-place, field-history, field-state}
+use Rattle.writer.proofs.MarkLaws.{field-in-place, field-history, field-state}
 use mathlib.Core.Path.{sym, _∙_}
 use mir.Facts.{toZ-ofZ}
 use borrow.Author.Needs.{needs}
-use Rattle.writer.proofs.pen.put_target.Statement.{statement}
-use Rattle.writer.proofs.pen.put_target.Tie as tie
+use Rattle.writer.proofs.marks.put_target.Statement.{statement}
+use Rattle.writer.proofs.marks.put_target.Tie as tie
 
 put-requires : tie.Need-put-requires
 put-requires c κs = search needs
