@@ -3,6 +3,9 @@
 mod printed;
 mod scan;
 
+pub use printed::ENTRY;
+pub use printed::HEAD;
+pub use printed::LINE;
 pub use printed::report;
 pub use scan::Part;
 pub use scan::Scan;

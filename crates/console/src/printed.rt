@@ -1,4 +1,5 @@
 // What is printed of a call (01: "R, answer, entry count, then the entries, one a line, single spaces"), written into a lent slice.
+use fields::LF;
 use pen::put;
 use pen::put_digits;
 use pen::put_numeral;
@@ -8,20 +9,23 @@ ghost use lib.ListN.{length, take};
 ghost use Rattle.pen.specs.Pen.{pen, put-all};
 ghost use Rattle.meaning.specs.Widget.{ENTRY as Entry};
 ghost use Rattle.meaning.specs.Program.{entry-lines, report as printed};
-ghost use Rattle.console.specs.Shown.{entry-line, shown, LINE, largest};
+ghost use Rattle.console.specs.Shown.{entry-line, shown, LINE as Line, largest};
 
 // "three signed 32-bit numbers an entry"
-const ENTRY: usize = 3;
+pub const ENTRY: usize = 3;
+
+// Room that is enough for the head of a report, and for the line of an entry.
+pub const HEAD: usize = 48;
+
+pub const LINE: usize = 36;
 
 const R: u8 = 82;
 
 const SPACE: u8 = 32;
 
-const LF: u8 = 10;
-
 // One entry, one line.
 fn put_entry(out: &mut [u8], at: usize, first: i32, second: i32, third: i32) -> usize
-    ensures { λ r. ⌜ (pen (now (out .exit)) r ≡ put-all (entry-line first second third) (pen (now (out .entry)) at)) × (at + LINE ≤ length (now (out .entry)) → r ≤ at + LINE) ⌝ }
+    ensures { λ r. ⌜ (pen (now (out .exit)) r ≡ put-all (entry-line first second third) (pen (now (out .entry)) at)) × (at + Line ≤ length (now (out .entry)) → r ≤ at + Line) ⌝ }
 {
     let a = put_numeral(out, at, first);
     let b = put(out, a, SPACE);
@@ -34,7 +38,7 @@ fn put_entry(out: &mut [u8], at: usize, first: i32, second: i32, third: i32) -> 
 // The first n entries.
 fn put_entries(out: &mut [u8], at: usize, trace: &[i32], n: usize) -> usize
     requires { ⌜ Entry * n ≤ length (now trace) ⌝ }
-    ensures { λ r. ⌜ (pen (now (out .exit)) r ≡ put-all (entry-lines (take (Entry * n) (now (trace .entry)))) (pen (now (out .entry)) at)) × (at + LINE * n ≤ length (now (out .entry)) → r ≤ at + LINE * n) ⌝ }
+    ensures { λ r. ⌜ (pen (now (out .exit)) r ≡ put-all (entry-lines (take (Entry * n) (now (trace .entry)))) (pen (now (out .entry)) at)) × (at + Line * n ≤ length (now (out .entry)) → r ≤ at + Line * n) ⌝ }
 {
     let mut p = at;
     let mut k: usize = 0;

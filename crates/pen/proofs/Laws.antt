@@ -4,7 +4,7 @@ use mathlib.Core.Bool.{Bool, true, false, true≢false}
 use mathlib.Core.List.{List, [], _∷_, _++_, append-assoc, append-nil}
 use Prim.Native.Nat.{ℕ, _+_, _/_, _%_, _<_, _≤_}
 use native.Mathlib.Omega.{arith}
-use borrow.Author.Tests.{lt-ltb, le-ltb, ltb-true}
+use borrow.Author.Tests.{lt-ltb, le-ltb, ltb-true, ltb-false}
 use native.Mathlib.Numerals.{add-one}
 use lib.Dec.{ltb}
 use lib.ListN.{length, set, take, length-set}
@@ -106,3 +106,28 @@ all-stands (b ∷ bs) l n h =
       long = r .long ∙ length-set l n b;
       bytes = r .bytes ∙ rw (one-more l n b (omega arith), append-assoc);
     }
+
+-- where there is none, the place lies past the slice
+pub all-over : (bs l : List ℕ) (n : ℕ) → length l < n + length bs → length l < put-all bs (pen l n) .at
+unfolding put-all put-byte
+all-over [] l n h = omega arith
+all-over (b ∷ bs) l n h = go (ltb n (length l)) refl (λ m k. all-over bs m (n + 1) k) (λ k. all-over bs l (length l + 1) k)
+  where
+    go : (t : Bool) → ltb n (length l) ≡ t → ((m : List ℕ) → length m < n + 1 + length bs → length m < put-all bs (pen m (n + 1)) .at)
+        → (length l < length l + 1 + length bs → length l < put-all bs (pen l (length l + 1)) .at) → length l < put-all bs (put-if t b (pen l n)) .at
+    go true e f g =
+        let s : length (set l n b) ≡ length l = length-set l n b in
+        let k = f (set l n b) (rw s (omega arith)) in
+        rw s at k
+    go false e f g = g (omega arith)
+
+-- so a place within the slice says that all of the bytes stand there
+pub all-stood : (bs l : List ℕ) (n : ℕ) (q : Pen) → q ≡ put-all bs (pen l n) → q .at ≤ length l → take (q .at) (q .bytes) ≡ take n l ++ bs
+all-stood bs l n q e h = rw e (all-stands bs l n (go (ltb (length l) (n + length bs)) refl) .bytes)
+  where
+    go : (t : Bool) → ltb (length l) (n + length bs) ≡ t → n + length bs ≤ length l
+    go true k =
+        let past = all-over bs l n (ltb-true (length l) (n + length bs) k) in
+        let z : q .at ≡ put-all bs (pen l n) .at = ap (λ p. p .at) e in
+        absurd (omega arith)
+    go false k = ltb-false (length l) (n + length bs) k

@@ -1,6 +1,6 @@
 -- What a step of the session gives: the widget, what was printed behind the place in the lent bytes, and that all of it is there where
 -- they had enough room. Assumes nothing.
-use Prim.Native.Nat.{ℕ, _+_, _≤_}
+use Prim.Native.Nat.{ℕ, _+_, _*_, _≤_}
 use mathlib.Core.Path.{_≡_}
 use mathlib.Core.Bool.{true, false}
 use mathlib.Core.List.{List, []}
@@ -10,18 +10,19 @@ use Rattle.meaning.specs.declared.State.{State}
 use Rattle.meaning.specs.Value.{chart-of}
 use Rattle.meaning.specs.Calls.{start, unstarted}
 use Rattle.meaning.specs.Text.{Outcome, done, refused}
-use Rattle.meaning.specs.Program.{ROOM, Turn, report, reported}
+use Rattle.meaning.specs.Program.{ENTRIES, ROOM, Turn, report, reported}
 use Rattle.walks.specs.Walks.{Ruled}
 use Rattle.pen.specs.Pen.{pen, put-all}
+use Rattle.console.specs.Shown.{HEAD, LINE}
 use Rattle.console.specs.Session.{Passed}
 use Rattle.console.specs.Session.{Under as Seen}
 use Rattle.session.specs.declared.Opened.{Opened}
 use Rattle.session.specs.declared.Turned.{Turned}
 use Rattle.session.specs.declared.Under.{Under}
 
--- free room that is enough for the report of any call: 48 bytes for its head and 36 for each of 1,000 entries
+-- free room that is enough for the report of any call: for its head, and for each of 1,000 entries
 abbrev pub LARGEST : ℕ
-LARGEST = 36048
+LARGEST = HEAD + LINE * ENTRIES
 
 -- t is what the definition says of it
 pub record Went (t : Turn) (before : List ℕ) (at : ℕ) (after : List ℕ) (r : Turned) : Type 0 where

@@ -1,7 +1,11 @@
 // The trace program's session over a chart that passes the rules (01, the end of "Checked by example"): it starts, then posts and runs
 // each line. The widget and the line under way go by value, what is printed is written into a lent slice, and each byte of the input is
 // one step. What the engine writes of a call goes into numbers of its own, with room for 1,000 entries.
+use console::ENTRY;
+use console::HEAD;
+use console::LINE;
 use console::Scan;
+use fields::LF;
 use meaning::Line;
 use meaning::State;
 use queue::Queue;
@@ -15,14 +19,17 @@ ghost use Rattle.meaning.specs.Calls.{start as starts, run as runs, unstarted a
 ghost use Rattle.meaning.specs.Text.{read};
 ghost use Rattle.meaning.specs.Program.{ROOM as Room, reported, turn as turn-of};
 ghost use Rattle.console.specs.Session.{passed, finished};
+ghost use Rattle.pen.specs.Pen.{pen};
 ghost use Rattle.session.specs.Turned.{Went, Passes, Opens, quiet, seen};
+ghost use Rattle.session.specs.Walked.{Walks, roomy};
 
 // "With room for 1,000 entries", three numbers each.
-const ROOM: usize = 3000;
+const ENTRIES: usize = 1000;
 
-const LF: u8 = 10;
+const ROOM: usize = ENTRY * ENTRIES;
+
 // Free room in a slice of bytes that is enough for the report of any call.
-pub const LARGEST: usize = 36048;
+pub const LARGEST: usize = HEAD + LINE * ENTRIES;
 
 // The widget afterwards, and the place behind what was printed.
 pub struct Turned {
@@ -35,6 +42,12 @@ pub struct Under {
     pub state: State,
     pub scan: Scan,
     pub at: usize,
+}
+
+// Where a walk over a part of the input stopped: the place of the next byte, the widget and the line under way.
+pub struct Walked {
+    pub upto: usize,
+    pub under: Under,
 }
 
 // What opening the session gave: whether it goes on, the widget, and the place behind what was printed.
@@ -169,6 +182,37 @@ pub fn feed(chart: &[i32], under: Under, b: u8, out: &mut [u8]) -> Under
         state: state,
         scan: scan.feed(b),
         at: at,
+    }
+}
+
+// Whether there is room for one more report behind the place.
+fn has_room(out: &[u8], at: usize) -> bool
+    ensures { λ r. ⌜ r ≡ roomy (pen (now (out .entry)) at) ⌝ }
+{
+    let n = out.len();
+    if n < LARGEST {
+        return false;
+    }
+    at <= n - LARGEST
+}
+
+// The bytes of a part of the input from a place on: the walk stops at the part's end, or where there might not be room for one more report.
+pub fn walk(chart: &[i32], part: &[u8], from: usize, under: Under, out: &mut [u8]) -> Walked
+    requires { ⌜ Ruled (now chart) ⌝ }
+    ensures { λ r. ⌜ Walks (turn-of (chart-of (now (chart .entry)))) (now (part .entry)) from (seen under) (now (out .entry)) (under .at) (now (out .exit)) r ⌝ }
+{
+    let mut now = under;
+    let mut i = from;
+    while i < part.len() {
+        if !has_room(out, now.at) {
+            break;
+        }
+        now = feed(chart, now, part[i], out);
+        i += 1;
+    }
+    Walked {
+        upto: i,
+        under: now,
     }
 }
 
