@@ -1,4 +1,4 @@
-// The calls on a widget over its chart that make no reaction (01, "One reaction"): post and discard, with the test for
+// The calls that make no reaction (01, "One reaction"), on a chart that passes the rules: post and discard, with the test for
 // answer 6 in full.
 pub mod answers;
 pub mod own;
@@ -10,13 +10,12 @@ use chart::event_count;
 use meaning::Called;
 use meaning::State;
 use own::own;
-use rules::check;
 use widget::fits::event_fits;
 ghost use mathlib.Core.Path.{_≡_};
 ghost use Rattle.meaning.specs.Value.{chart-of};
-ghost use Rattle.meaning.specs.Calls.{called, post as posts, discard as discards, post-of, discard-of};
+ghost use Rattle.meaning.specs.Calls.{called, post as posts, discard as discards};
 
-// Post on a chart that passes the rules: 7, 6, then 10 before 9.
+// "Post appends an event with an argument": 7, 6, then 10 before 9.
 pub fn post_ruled(chart: &[i32], state: State, event: i32, arg: i32) -> Called
     ensures { λ r. ⌜ r ≡ called (posts (chart-of (now (chart .entry))) state event arg) ⌝ }
 {
@@ -38,8 +37,8 @@ pub fn post_ruled(chart: &[i32], state: State, event: i32, arg: i32) -> Called
     done(with_queue(state, after))
 }
 
-// Discard on a chart that passes the rules: 7, 6, then 8.
-fn discard_ruled(chart: &[i32], state: State) -> Called
+// "discard removes the front one": 7, 6, then 8.
+pub fn discard_ruled(chart: &[i32], state: State) -> Called
     ensures { λ r. ⌜ r ≡ called (discards (chart-of (now (chart .entry))) state) ⌝ }
 {
     if !state.started {
@@ -55,26 +54,4 @@ fn discard_ruled(chart: &[i32], state: State) -> Called
     }
     let after = removed.queue;
     done(with_queue(state, after))
-}
-
-// 01: post appends an event with an argument. A chart that fails a rule is answer 3, first of all.
-pub fn post(chart: &[i32], state: State, event: i32, arg: i32) -> Called
-    ensures { λ r. ⌜ r ≡ called (post-of (now (chart .entry)) state event arg) ⌝ }
-{
-    let verdict = check(chart);
-    if verdict.number != 0 {
-        return refused(3, verdict.place, state);
-    }
-    post_ruled(chart, state, event, arg)
-}
-
-// 01: discard removes the front event.
-pub fn discard(chart: &[i32], state: State) -> Called
-    ensures { λ r. ⌜ r ≡ called (discard-of (now (chart .entry)) state) ⌝ }
-{
-    let verdict = check(chart);
-    if verdict.number != 0 {
-        return refused(3, verdict.place, state);
-    }
-    discard_ruled(chart, state)
 }

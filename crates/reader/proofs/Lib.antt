@@ -4,3 +4,5 @@ pub mod RowLaws
 pub mod HeldLaws
 pub mod ScanLaws
 pub mod ReadLaws
+pub mod RowsBack
+pub mod RuledLaws

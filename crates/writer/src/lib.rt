@@ -13,7 +13,7 @@ ghost use Rattle.meaning.specs.Text.{write as written-out, written, lent-bytes}
 ghost use Rattle.writer.specs.Letters.{zeros};
 
 // The whole slice is 0.
-fn clear(text: &mut [u8])
+pub fn clear(text: &mut [u8])
     ensures { λ _. ⌜ now (text .exit) ≡ zeros (length (now (text .entry))) ⌝ }
 {
     let mut i = 0;
@@ -24,7 +24,7 @@ fn clear(text: &mut [u8])
 }
 
 // The text of a chart that passes the rules; 13 where it is longer than the slice.
-fn write_passed(chart: &[i32], text: &mut [u8]) -> Written
+pub fn write_passed(chart: &[i32], text: &mut [u8]) -> Written
     requires { ⌜ failing-rule-of (now chart) ≡ none ⌝ }
     ensures { λ r. ⌜ (r ≡ written (now (chart .entry)) (length (now (text .entry)))) × (now (text .exit) ≡ lent-bytes (length (now (text .entry))) (written-out (now (chart .entry)) (length (now (text .entry))))) ⌝ }
 {
