@@ -3,6 +3,7 @@
 mod printed;
 mod scan;
 
+pub use fields::LF;
 pub use printed::ENTRY;
 pub use printed::HEAD;
 pub use printed::LINE;

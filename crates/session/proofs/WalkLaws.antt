@@ -11,7 +11,7 @@ use lib.Dec.{leb}
 use lib.ListN.{length, getD, take, drop, length-drop, take-append-drop}
 use lib.Seq.{slice, slice-empty, take-suc, drop-cons, drop-append-le, length-take-le}
 use Rattle.pen.specs.Pen.{Pen, pen, put-all}
-use Rattle.pen.proofs.Laws.{all-append, all-long}
+use Rattle.pen.proofs.Laws.{all-append, all-long, all-stood}
 use Rattle.console.specs.Session.{Turns, Passed, passed, passed-all}
 use Rattle.console.specs.Session.{Under as Seen}
 use Rattle.console.proofs.Session.{under-append, printed-append, under-one, printed-one, printed-none}
@@ -157,7 +157,7 @@ pub walk-begins : (f : Turns) (part : List ℕ) (from : ℕ) (under : Under) (ou
 unfolding put-all
 walk-begins f part from under out =
     let z : passed-all f (seen under) (slice from from part) ≡ record { under = seen under; printed = [] } =
-        ap (passed-all f (seen under)) (slice-empty from part) ∙ printed-none f (seen under) in
+    ap (passed-all f (seen under)) (slice-empty from part) ∙ printed-none f (seen under) in
     record {
       order = omega arith;
       long = refl;
@@ -184,8 +184,8 @@ module _ (f : Turns) (part : List ℕ) (from : ℕ) (u : Seen) (before : List �
   walks-on h k =
       let n = reach f (passed f u (getD part from 0) .under) (put-all (passed f u (getD part from 0) .printed) (pen before at)) (drop (suc from) part) in
       let e : reach f u (pen before at) (drop from part) ≡ suc n =
-          ap (reach f u (pen before at)) (drop-cons part from 0 h)
-          ∙ reach-more f u (pen before at) (getD part from 0) (drop (suc from) part) (le-leb (at + LARGEST) (length before) k) in
+      ap (reach f u (pen before at)) (drop-cons part from 0 h)
+      ∙ reach-more f u (pen before at) (getD part from 0) (drop (suc from) part) (le-leb (at + LARGEST) (length before) k) in
       let g = w .upto in
       omega arith
 
@@ -197,3 +197,7 @@ module _ (f : Turns) (part : List ℕ) (from : ℕ) (u : Seen) (before : List �
       ap (λ k. passed-all f k (drop (r .upto) part) .under) (w .under)
       ∙ sym (under-append f u (slice from (r .upto) part) (drop (r .upto) part))
       ∙ ap (λ l. passed-all f u l .under) (slice-rest part from (r .upto) (v .0) (v .1))
+
+  -- all that the bytes print stands behind what was there: nothing of it was lost
+  pub walks-collected : at ≤ length before → take (r .under .at) after ≡ take at before ++ walked f u part from (r .upto) .printed
+  walks-collected h = all-stood (walked f u part from (r .upto) .printed) before at (pen after (r .under .at)) (w .bytes) (w .whole h)

@@ -3,9 +3,9 @@
 // one step. What the engine writes of a call goes into numbers of its own, with room for 1,000 entries.
 use console::ENTRY;
 use console::HEAD;
+use console::LF;
 use console::LINE;
 use console::Scan;
-use fields::LF;
 use meaning::Line;
 use meaning::State;
 use queue::Queue;
@@ -13,7 +13,7 @@ use sizes::STATES;
 use sizes::VARIABLES;
 ghost use mathlib.Core.Path.{_≡_};
 ghost use lib.ListN.{length};
-ghost use Rattle.walks.specs.Walks.{Ruled};
+ghost use Rattle.promises.specs.Promises.{Accepted};
 ghost use Rattle.meaning.specs.Value.{VALUE, chart-of};
 ghost use Rattle.meaning.specs.Calls.{start as starts, run as runs, unstarted as none};
 ghost use Rattle.meaning.specs.Text.{read};
@@ -87,11 +87,11 @@ pub fn refusal(number: usize, state: State, out: &mut [u8], at: usize) -> Turned
 
 // "it starts"
 pub fn started(chart: &[i32], out: &mut [u8], at: usize) -> Turned
-    requires { ⌜ Ruled (now chart) ⌝ }
+    requires { ⌜ Accepted (now chart) ⌝ }
     ensures { λ r. ⌜ Went (reported (starts (chart-of (now (chart .entry))) none Room)) (now (out .entry)) at (now (out .exit)) r ⌝ }
 {
     let mut trace = [0; ROOM];
-    let called = reaction::starting::start_ruled(chart, unstarted(), &mut trace);
+    let called = engine::checked::start_checked(chart, unstarted(), &mut trace);
     let answer = called.answer;
     let place = console::report(out, at, answer.number, &trace, called.entries);
     let after = called.state;
@@ -106,7 +106,7 @@ pub fn begin(bytes: &[u8], chart: &mut [i32], out: &mut [u8], at: usize) -> Open
     requires { ⌜ length (now chart) ≡ VALUE ⌝ }
     ensures { λ r. ⌜ Opens (read (now (bytes .entry)) VALUE) (now (chart .exit)) (now (out .entry)) at (now (out .exit)) r ⌝ }
 {
-    let answer = text::read(bytes, chart);
+    let answer = engine::read(bytes, chart);
     if answer.number != 0 {
         let t = refusal(answer.number, unstarted(), out, at);
         let state = t.state;
@@ -127,11 +127,11 @@ pub fn begin(bytes: &[u8], chart: &mut [i32], out: &mut [u8], at: usize) -> Open
 
 // "runs each line": the run of the front event.
 fn ran(chart: &[i32], state: State, out: &mut [u8], at: usize) -> Turned
-    requires { ⌜ Ruled (now chart) ⌝ }
+    requires { ⌜ Accepted (now chart) ⌝ }
     ensures { λ r. ⌜ Went (reported (runs (chart-of (now (chart .entry))) state Room)) (now (out .entry)) at (now (out .exit)) r ⌝ }
 {
     let mut trace = [0; ROOM];
-    let called = reaction::running::run_ruled(chart, state, &mut trace);
+    let called = engine::checked::run_checked(chart, state, &mut trace);
     let answer = called.answer;
     let place = console::report(out, at, answer.number, &trace, called.entries);
     let after = called.state;
@@ -143,12 +143,12 @@ fn ran(chart: &[i32], state: State, out: &mut [u8], at: usize) -> Turned
 
 // A line: "Of posts only a refused one prints: R, number, 0; it is not run"; "A line of another form prints `R 1 0`".
 pub fn turn(chart: &[i32], state: State, line: Line, out: &mut [u8], at: usize) -> Turned
-    requires { ⌜ Ruled (now chart) ⌝ }
+    requires { ⌜ Accepted (now chart) ⌝ }
     ensures { λ r. ⌜ Went (turn-of (chart-of (now (chart .entry))) state line) (now (out .entry)) at (now (out .exit)) r ⌝ }
 {
     match line {
         Line::Posts(event, argument) => {
-            let posted = calls::post_ruled(chart, state, event, argument);
+            let posted = engine::checked::post_checked(chart, state, event, argument);
             let answer = posted.answer;
             let number = answer.number;
             let after = posted.state;
@@ -163,7 +163,7 @@ pub fn turn(chart: &[i32], state: State, line: Line, out: &mut [u8], at: usize) 
 
 // One byte of the input: LF ends the line.
 pub fn feed(chart: &[i32], under: Under, b: u8, out: &mut [u8]) -> Under
-    requires { ⌜ Ruled (now chart) ⌝ }
+    requires { ⌜ Accepted (now chart) ⌝ }
     ensures { λ r. ⌜ Passes (passed (turn-of (chart-of (now (chart .entry)))) (seen under) b) (now (out .entry)) (under .at) (now (out .exit)) r ⌝ }
 {
     let state = under.state;
@@ -198,7 +198,7 @@ fn has_room(out: &[u8], at: usize) -> bool
 
 // The bytes of a part of the input from a place on: the walk stops at the part's end, or where there might not be room for one more report.
 pub fn walk(chart: &[i32], part: &[u8], from: usize, under: Under, out: &mut [u8]) -> Walked
-    requires { ⌜ Ruled (now chart) ⌝ }
+    requires { ⌜ Accepted (now chart) ⌝ }
     ensures { λ r. ⌜ Walks (turn-of (chart-of (now (chart .entry)))) (now (part .entry)) from (seen under) (now (out .entry)) (under .at) (now (out .exit)) r ⌝ }
 {
     let mut now = under;
@@ -218,7 +218,7 @@ pub fn walk(chart: &[i32], part: &[u8], from: usize, under: Under, out: &mut [u8
 
 // The end of the input: "The last line may lack its LF".
 pub fn finish(chart: &[i32], under: Under, out: &mut [u8]) -> Under
-    requires { ⌜ Ruled (now chart) ⌝ }
+    requires { ⌜ Accepted (now chart) ⌝ }
     ensures { λ r. ⌜ Passes (finished (turn-of (chart-of (now (chart .entry)))) (seen under)) (now (out .entry)) (under .at) (now (out .exit)) r ⌝ }
 {
     let state = under.state;
