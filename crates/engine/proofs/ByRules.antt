@@ -1,6 +1,6 @@
--- The rules come first (01, "chart 3 .. first"): what the check's promise says of a chart value, and what a call on it is then.
--- In the order: the check; a call by its verdict; each call on a chart that was accepted; promises kept. Assumes nothing.
-use mathlib.Core.Path.{_≡_, refl, sym, ap, _∙_, subst}
+-- The rules come first (01, "chart 3 .. first"): what the check's promise says of a chart value, and what a call on it then is.
+-- In the order: the check; a call by its verdict; the promises kept on an accepted chart, and on one that fails a rule. Assumes nothing.
+use mathlib.Core.Path.{_≡_, refl, sym, ap, _∙_}
 use Prim.Native.Nat.{ℕ}
 use mathlib.Core.Bool.{true, false}
 use mathlib.Core.List.{List}
@@ -13,19 +13,18 @@ use Rattle.meaning.specs.declared.Called.{Called}
 use Rattle.meaning.specs.Value.{rule-0, chart-of}
 use Rattle.meaning.specs.Rules.{failing-rule, failing-rule-of, verdict}
 use Rattle.meaning.specs.Calls.{Outcome, called, lent, refused, start, run, post, discard, start-of, run-of, post-of, discard-of}
-use Rattle.promises.specs.Promises.{Promised, Checked, Accepted, Ends, Told}
+use Rattle.promises.specs.Promises.{Checked, Accepted, Started, Ran, Posted, Discarded}
 use Rattle.rules.proofs.Verdicts.{passed, failed}
 
--- ---- the check
+-- ---- the check: R0 first, then the others
 
--- R0 first, then the others
-pub check-0 : (v : List ℤ) → rule-0 v ≡ false → Checked v (record { number = 3; place = 0 })
+pub check-0 : {v : List ℤ} → rule-0 v ≡ false → Checked v (record { number = 3; place = 0 })
 unfolding verdict failing-rule-of
-check-0 v e = record { result = rw e }
+check-0 e = record { result = rw e }
 
-pub check-on : (v : List ℤ) {r : Answer} → rule-0 v ≡ true → r ≡ verdict (failing-rule (chart-of v)) → Checked v r
+pub check-on : {v : List ℤ} {r : Answer} → rule-0 v ≡ true → r ≡ verdict (failing-rule (chart-of v)) → Checked v r
 unfolding failing-rule-of
-check-on v e h = record { result = h ∙ rw e }
+check-on e h = record { result = h ∙ rw e }
 
 -- answer 0 says that the chart is accepted
 pub accepted : {v : List ℤ} {r : Answer} → Checked v r → r .number ≡ 0 → Accepted v
@@ -43,54 +42,70 @@ by-rules u x o = elim o [
   | some r ↦ refused 3 r u
 ]
 
-module _ (v : List ℤ) (u : State) where
+module _ (v : List ℤ) (u : State) (o : Option ℕ) (e : failing-rule-of v ≡ o) where
+  start-by : (n : ℕ) → start-of v u n ≡ by-rules u (start (chart-of v) u n) o
+  unfolding start-of
+  start-by n = ap (λ o. by-rules u (start (chart-of v) u n) o) e
+
+  run-by : (n : ℕ) → run-of v u n ≡ by-rules u (run (chart-of v) u n) o
+  unfolding run-of
+  run-by n = ap (λ o. by-rules u (run (chart-of v) u n) o) e
+
+  post-by : (x a : ℤ) → post-of v u x a ≡ by-rules u (post (chart-of v) u x a) o
+  unfolding post-of
+  post-by x a = ap (λ o. by-rules u (post (chart-of v) u x a) o) e
+
+  discard-by : discard-of v u ≡ by-rules u (discard (chart-of v) u) o
+  unfolding discard-of
+  discard-by = ap (λ o. by-rules u (discard (chart-of v) u) o) e
+
+-- the answer and the lent trace are those of an outcome
+abbrev Ends : Outcome → List ℤ → Called → List ℤ → Type 0
+Ends o t r t₁ = (r ≡ called o) × (t₁ ≡ lent (length t) o)
+
+-- ---- on an accepted chart a call is the one on its chart
+
+module _ (v : List ℤ) (u : State) (h : Accepted v) where
+  pub start-on : (n : ℕ) → start-of v u n ≡ start (chart-of v) u n
+  start-on n = start-by v u none h n
+
+  pub run-on : (n : ℕ) → run-of v u n ≡ run (chart-of v) u n
+  run-on n = run-by v u none h n
+
+  pub post-on : (x a : ℤ) → post-of v u x a ≡ post (chart-of v) u x a
+  post-on x a = post-by v u none h x a
+
+  pub discard-on : discard-of v u ≡ discard (chart-of v) u
+  discard-on = discard-by v u none h
+
+module _ {v : List ℤ} {u : State} where
   module _ (h : Accepted v) where
-    on : (x : Outcome) → by-rules u x (failing-rule-of v) ≡ x
-    on x = ap (λ o. by-rules u x o) h
+    pub starts : {t : List ℤ} {r : Called} {t₁ : List ℤ} → Ends (start (chart-of v) u (length t)) t r t₁ → Started v u t r t₁
+    starts {t} d = let e = sym (start-on v u h (length t)) in record { result = d .0 ∙ ap called e; lent = d .1 ∙ ap (lent (length t)) e }
 
-    pub start-on : (n : ℕ) → start-of v u n ≡ start (chart-of v) u n
-    unfolding start-of
-    start-on n = on (start (chart-of v) u n)
+    pub runs : {t : List ℤ} {r : Called} {t₁ : List ℤ} → Ends (run (chart-of v) u (length t)) t r t₁ → Ran v u t r t₁
+    runs {t} d = let e = sym (run-on v u h (length t)) in record { result = d .0 ∙ ap called e; lent = d .1 ∙ ap (lent (length t)) e }
 
-    pub run-on : (n : ℕ) → run-of v u n ≡ run (chart-of v) u n
-    unfolding run-of
-    run-on n = on (run (chart-of v) u n)
+    pub posts : {x a : ℤ} {r : Called} → r ≡ called (post (chart-of v) u x a) → Posted v u x a r
+    posts {x} {a} d = record { result = d ∙ ap called (sym (post-on v u h x a)) }
 
-    pub post-on : (e a : ℤ) → post-of v u e a ≡ post (chart-of v) u e a
-    unfolding post-of
-    post-on e a = on (post (chart-of v) u e a)
+    pub discards : {r : Called} → r ≡ called (discard (chart-of v) u) → Discarded v u r
+    discards d = record { result = d ∙ ap called (sym (discard-on v u h)) }
 
-    pub discard-on : discard-of v u ≡ discard (chart-of v) u
-    unfolding discard-of
-    discard-on = on (discard (chart-of v) u)
+  -- ---- on a chart that fails a rule: 3 with the rule
+  module _ {c : Answer} (k : Checked v c) (z : c .number ≡ 0 → ⊥) where
+    pub start-3 : {t : List ℤ} {r : Called} {t₁ : List ℤ} → Ends (refused 3 (c .place) u) t r t₁ → Started v u t r t₁
+    start-3 {t} d =
+        let e = sym (start-by v u (some (c .place)) (rejected k z) (length t)) in
+        record { result = d .0 ∙ ap called e; lent = d .1 ∙ ap (lent (length t)) e }
 
-  module _ {r : Answer} (c : Checked v r) (z : r .number ≡ 0 → ⊥) where
-    off : (x : Outcome) → by-rules u x (failing-rule-of v) ≡ refused 3 (r .place) u
-    off x = ap (λ o. by-rules u x o) (rejected c z)
+    pub run-3 : {t : List ℤ} {r : Called} {t₁ : List ℤ} → Ends (refused 3 (c .place) u) t r t₁ → Ran v u t r t₁
+    run-3 {t} d =
+        let e = sym (run-by v u (some (c .place)) (rejected k z) (length t)) in
+        record { result = d .0 ∙ ap called e; lent = d .1 ∙ ap (lent (length t)) e }
 
-    pub start-off : (n : ℕ) → start-of v u n ≡ refused 3 (r .place) u
-    unfolding start-of
-    start-off n = off (start (chart-of v) u n)
+    pub post-3 : {x a : ℤ} {r : Called} → r ≡ called (refused 3 (c .place) u) → Posted v u x a r
+    post-3 {x} {a} d = record { result = d ∙ ap called (sym (post-by v u (some (c .place)) (rejected k z) x a)) }
 
-    pub run-off : (n : ℕ) → run-of v u n ≡ refused 3 (r .place) u
-    unfolding run-of
-    run-off n = off (run (chart-of v) u n)
-
-    pub post-off : (e a : ℤ) → post-of v u e a ≡ refused 3 (r .place) u
-    unfolding post-of
-    post-off e a = off (post (chart-of v) u e a)
-
-    pub discard-off : discard-of v u ≡ refused 3 (r .place) u
-    unfolding discard-of
-    discard-off = off (discard (chart-of v) u)
-
--- ---- promises kept: what an inner function gives of an outcome, under the promise's outcome
-
-pub both : {A B : Type 0} {told r : A} {left after : List B} → (r ≡ told) × (after ≡ left) → Promised told left r after
-both h = record { result = h .0; lent = h .1 }
-
-pub ends-as : {o p : Outcome} (t : List ℤ) {r : Called} {t₁ : List ℤ} → p ≡ o → (r ≡ called o) × (t₁ ≡ lent (length t) o) → Ends p t r t₁
-ends-as t {r} {t₁} e h = subst (λ x. Ends x t r t₁) (sym e) (both h)
-
-pub told-as : {o p : Outcome} {r : Called} → p ≡ o → r ≡ called o → Told p r
-told-as {r = r} e h = subst (λ x. Told x r) (sym e) (record { result = h })
+    pub discard-3 : {r : Called} → r ≡ called (refused 3 (c .place) u) → Discarded v u r
+    discard-3 d = record { result = d ∙ ap called (sym (discard-by v u (some (c .place)) (rejected k z))) }

@@ -1,1 +1,3 @@
 pub mod ByRules
+pub mod TextKept
+pub mod Unique

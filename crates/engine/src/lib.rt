@@ -8,17 +8,20 @@ use checked::discard_checked;
 use checked::post_checked;
 use checked::run_checked;
 use checked::start_checked;
-use meaning::Answer;
-use meaning::Called;
-use meaning::State;
-use meaning::Written;
+pub use meaning::Answer;
+pub use meaning::Called;
+pub use meaning::State;
+pub use meaning::Written;
+use queue::Queue;
 use reaction::ends::refuse;
 use reader::read::clear;
 use reader::read::read_rows;
 use rules::check_rows;
 use rules::value::rule_0;
+use sizes::STATES;
+use sizes::VARIABLES;
 use writer::write_passed;
-ghost use Rattle.promises.specs.Promises.{Checked, Read, Wrote, Started, Ran, Posted, Discarded};
+ghost use Rattle.promises.specs.Promises.{Checked, Read, Wrote, Unstarted, Started, Ran, Posted, Discarded};
 
 // The rules in order: R0, which is only for a chart handed over as a value; then R1 to R7.
 pub fn check(chart: &[i32]) -> Answer
@@ -41,11 +44,11 @@ pub fn read(text: &[u8], chart: &mut [i32]) -> Answer
     if lines.number != 0 {
         return lines;
     }
-    let verdict = check_rows(chart);
-    if verdict.number != 0 {
+    let ruled = check_rows(chart);
+    if ruled.number != 0 {
         clear(chart);
     }
-    verdict
+    ruled
 }
 
 // A chart written as text into lent bytes: 3 where it fails a rule, 13 where the text is longer. A refusal leaves all of the bytes 0.
@@ -53,7 +56,7 @@ pub fn write(chart: &[i32], out: &mut [u8]) -> Written
     ensures { λ r. ⌜ Wrote (now (chart .entry)) (now (out .entry)) r (now (out .exit)) ⌝ }
 {
     let verdict = check(chart);
-    if verdict.number != 0 {
+    if verdict.number != 0 { // before 13
         writer::clear(out);
         return Written {
             answer: verdict,
@@ -63,12 +66,28 @@ pub fn write(chart: &[i32], out: &mut [u8]) -> Written
     write_passed(chart, out)
 }
 
+// A widget not yet started: any state will do for start, and this one needs no other crate.
+pub fn unstarted() -> State
+    ensures { λ r. ⌜ Unstarted r ⌝ }
+{
+    let active = [false; STATES];
+    let slots = [-1; STATES];
+    let vars = [0; VARIABLES];
+    State {
+        started: false,
+        active: active,
+        slots: slots,
+        vars: vars,
+        queue: Queue::empty(),
+    }
+}
+
 // Starts a widget: 3 where the chart fails a rule; then the first refusal met. It tests neither 7 nor 6.
 pub fn start(chart: &[i32], state: State, trace: &mut [i32]) -> Called
     ensures { λ r. ⌜ Started (now (chart .entry)) state (now (trace .entry)) r (now (trace .exit)) ⌝ }
 {
     let verdict = check(chart);
-    if verdict.number != 0 {
+    if verdict.number != 0 { // "chart 3 .. first"
         return refuse(3, verdict.place, state, trace); // before the first refusal met
     }
     start_checked(chart, state, trace)

@@ -12,12 +12,7 @@ use Rattle.meaning.specs.declared.State.{State}
 use Rattle.meaning.specs.declared.Written.{Written}
 use Rattle.meaning.specs.Rules.{failing-rule-of, verdict}
 use Rattle.meaning.specs.Text.{read, write, answer-of, written, lent-numbers, lent-bytes}
-use Rattle.meaning.specs.Calls.{Outcome, called, lent, start-of, run-of, post-of, discard-of}
-
--- A result and what was lent, both told: the result is `told`, and the lent places hold `left`.
-pub record Promised {A B : Type 0} (told : A) (left : List B) (r : A) (after : List B) : Type 0 where
-  pub result : r ≡ told
-  pub lent : after ≡ left
+use Rattle.meaning.specs.Calls.{called, lent as lent-trace, unstarted, start-of, run-of, post-of, discard-of}
 
 -- ---- the rules' check
 
@@ -25,38 +20,38 @@ pub record Promised {A B : Type 0} (told : A) (left : List B) (r : A) (after : L
 pub record Checked (v : List ℤ) (r : Answer) : Type 0 where
   pub result : r ≡ verdict (failing-rule-of v)
 
--- A chart value that the check accepts: R0 to R7 hold.
+-- a chart value that the check accepts: R0 to R7 hold
 abbrev pub Accepted : List ℤ → Type 0
 Accepted v = failing-rule-of v ≡ none
 
 -- ---- chart text
 
--- A text read into lent numbers: the answer with its line or rule; the chart and 0 past it, or all 0.
-abbrev pub Read : List ℕ → List ℤ → Answer → List ℤ → Type 0
-Read text chart r after = Promised (answer-of (read text (length chart))) (lent-numbers (length chart) (read text (length chart))) r after
+-- a text read into lent numbers: the answer with its line or rule; the chart and 0 past it, or all 0
+pub record Read (text : List ℕ) (chart : List ℤ) (r : Answer) (after : List ℤ) : Type 0 where
+  pub result : r ≡ answer-of (read text (length chart))
+  pub lent : after ≡ lent-numbers (length chart) (read text (length chart))
 
--- A chart value written into lent bytes: the answer and the count of bytes; the text and 0 past it, or all 0.
-abbrev pub Wrote : List ℤ → List ℕ → Written → List ℕ → Type 0
-Wrote v out r after = Promised (written v (length out)) (lent-bytes (length out) (write v (length out))) r after
+-- a chart value written into lent bytes: the answer and the count of bytes; the text and 0 past it, or all 0
+pub record Wrote (v : List ℤ) (out : List ℕ) (r : Written) (after : List ℕ) : Type 0 where
+  pub result : r ≡ written v (length out)
+  pub lent : after ≡ lent-bytes (length out) (write v (length out))
 
--- ---- the calls on a widget
+-- ---- the calls on a widget: answer, place, state after, count of entries; the lent trace has the entries and 0 past them
 
--- A call that ends so, on a lent trace: answer, place, state after and count of entries; the entries and 0 past them.
-abbrev pub Ends : Outcome → List ℤ → Called → List ℤ → Type 0
-Ends o trace r after = Promised (called o) (lent (length trace) o) r after
+-- what a host has before its first start
+pub record Unstarted (r : State) : Type 0 where
+  pub result : r ≡ unstarted
 
-abbrev pub Started : List ℤ → State → List ℤ → Called → List ℤ → Type 0
-Started v u trace r after = Ends (start-of v u (length trace)) trace r after
+pub record Started (v : List ℤ) (u : State) (trace : List ℤ) (r : Called) (after : List ℤ) : Type 0 where
+  pub result : r ≡ called (start-of v u (length trace))
+  pub lent : after ≡ lent-trace (length trace) (start-of v u (length trace))
 
-abbrev pub Ran : List ℤ → State → List ℤ → Called → List ℤ → Type 0
-Ran v u trace r after = Ends (run-of v u (length trace)) trace r after
+pub record Ran (v : List ℤ) (u : State) (trace : List ℤ) (r : Called) (after : List ℤ) : Type 0 where
+  pub result : r ≡ called (run-of v u (length trace))
+  pub lent : after ≡ lent-trace (length trace) (run-of v u (length trace))
 
--- A call that writes no trace: answer, place and state after; its count of entries is 0.
-pub record Told (o : Outcome) (r : Called) : Type 0 where
-  pub result : r ≡ called o
+pub record Posted (v : List ℤ) (u : State) (event arg : ℤ) (r : Called) : Type 0 where
+  pub result : r ≡ called (post-of v u event arg)
 
-abbrev pub Posted : List ℤ → State → ℤ → ℤ → Called → Type 0
-Posted v u event arg r = Told (post-of v u event arg) r
-
-abbrev pub Discarded : List ℤ → State → Called → Type 0
-Discarded v u r = Told (discard-of v u) r
+pub record Discarded (v : List ℤ) (u : State) (r : Called) : Type 0 where
+  pub result : r ≡ called (discard-of v u)

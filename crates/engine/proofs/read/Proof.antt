@@ -1,24 +1,24 @@
--- `read`: the lines first, then the rules; each way out is a law of the reader. Assumes nothing.
-use borrow.Author.Needs.{needs}
+-- `read`: the lines first, then the rules. Assumes nothing.
 use mathlib.Core.Path.{refl}
 use Rattle.reader.proofs.RuledLaws.{read-fault, read-ruled}
-use Rattle.engine.proofs.ByRules.{both}
+use Rattle.engine.proofs.TextKept.{reads}
+use borrow.Author.Needs.{needs}
 use Rattle.engine.proofs.read.Statement.{statement}
 use Rattle.engine.proofs.read.Tie as tie
 
 returns : tie.Need-returns
-returns c = both (read-fault _ _ _ _ (c .before .before .before .read-rows .ensures) (c .if1 .taken))
+returns c = reads (read-fault _ _ _ _ (c .before .before .before .read-rows .ensures) (c .if1 .taken))
 
 returns-2 : tie.Need-returns-2
 returns-2 c =
-    both (read-ruled _ _ _ _ (c .before .before .before .before .before .before .before .before .before .before .read-rows .ensures)
+    reads (read-ruled _ _ _ _ (c .before .before .before .before .before .before .before .before .before .before .read-rows .ensures)
     (c .before .before .before .before .before .before .before .if1 .left) _
     (c .before .before .before .before .before .check-rows .ensures) _
     (λ _. c .before .clear .ensures) (λ z. absurd (c .before .before .before .if2 .taken z)))
 
 returns-3 : tie.Need-returns-3
 returns-3 c =
-    both (read-ruled _ _ _ _ (c .before .before .before .before .before .before .before .read-rows .ensures)
+    reads (read-ruled _ _ _ _ (c .before .before .before .before .before .before .before .read-rows .ensures)
     (c .before .before .before .before .if1 .left) _
     (c .before .before .check-rows .ensures) _
     (λ n. absurd (n (c .if2 .left))) (λ _. refl))

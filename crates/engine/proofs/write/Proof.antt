@@ -1,21 +1,21 @@
 -- `write` checks the rules first. Assumes nothing.
-use borrow.Author.Needs.{needs}
 use native.Mathlib.Omega.{arith}
-use Rattle.writer.proofs.WriteLaws.{wrote-refused}
-use Rattle.engine.proofs.ByRules.{accepted, both}
+use Rattle.engine.proofs.ByRules.{accepted}
+use Rattle.engine.proofs.TextKept.{write-3, writes}
+use borrow.Author.Needs.{needs}
 use Rattle.engine.proofs.write.Statement.{statement}
 use Rattle.engine.proofs.write.Tie as tie
 
 returns : tie.Need-returns
 returns c =
-    both (wrote-refused _ _ (c .before .before .before .before .before .before .check .ensures .result) _ _ _
-    (c .before .before .before .before .if1 .taken) (omega arith) (c .before .before .clear .ensures))
+    write-3 (c .before .before .before .before .before .before .check .ensures) (c .before .before .before .before .if1 .taken)
+    (omega arith) (c .before .before .clear .ensures)
 
 write-passed-requires : tie.Need-write-passed-requires
 write-passed-requires c κs = accepted (c .before .before .before .check .ensures) (c .before .if1 .left)
 
 returns-2 : tie.Need-returns-2
-returns-2 c = both (c .before .before .write-passed .ensures)
+returns-2 c = writes (c .before .before .write-passed .ensures)
 
 pub write-spec : {M : Type 1} → statement M
 write-spec =
