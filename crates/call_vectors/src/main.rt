@@ -14,11 +14,8 @@ use meaning::State;
 use parse::byte_at;
 use parse::line_after;
 use parse::number_from;
-use queue::Queue;
 use show::print;
-use sizes::STATES;
 use sizes::TEXT;
-use sizes::VARIABLES;
 ghost use Prim.Native.Nat.{_≤_};
 ghost use lib.ListN.{length};
 ghost use Rattle.io.specs.Counts.{Counts};
@@ -51,20 +48,6 @@ fn load(name: &[u8], ending: &[u8], buffer: &mut [u8]) -> usize
     let got = io::read_full(file, buffer);
     libc::close(file);
     got
-}
-
-// A widget not yet started.
-fn unstarted() -> State {
-    let active = [false; STATES];
-    let slots = [-1; STATES];
-    let vars = [0; VARIABLES];
-    State {
-        started: false,
-        active: active,
-        slots: slots,
-        vars: vars,
-        queue: Queue::empty(),
-    }
 }
 
 // How many numbers a call lends, of those that there are.
@@ -113,7 +96,7 @@ fn call(chart: &[i32], state: State, calls: &[u8], at: usize, trace: &mut [i32])
 
 // Calls one after the other, the first on a widget not yet started.
 fn one_after_another(chart: &[i32], calls: &[u8]) {
-    let mut state = unstarted();
+    let mut state = engine::unstarted();
     let mut trace = [0i32; ROOM];
     let mut at = 0;
     while at < calls.len() {

@@ -8,9 +8,6 @@ use console::LINE;
 use console::Scan;
 use meaning::Line;
 use meaning::State;
-use queue::Queue;
-use sizes::STATES;
-use sizes::VARIABLES;
 ghost use mathlib.Core.Path.{_≡_};
 ghost use lib.ListN.{length};
 ghost use Rattle.promises.specs.Promises.{Accepted};
@@ -57,22 +54,6 @@ pub struct Opened {
     pub at: usize,
 }
 
-// A widget not yet started.
-fn unstarted() -> State
-    ensures { λ r. ⌜ r ≡ none ⌝ }
-{
-    let active = [false; STATES];
-    let slots = [-1; STATES];
-    let vars = [0; VARIABLES];
-    State {
-        started: false,
-        active: active,
-        slots: slots,
-        vars: vars,
-        queue: Queue::empty(),
-    }
-}
-
 // What prints an answer and no entry: R, number, 0.
 pub fn refusal(number: usize, state: State, out: &mut [u8], at: usize) -> Turned
     ensures { λ r. ⌜ Went (quiet number state) (now (out .entry)) at (now (out .exit)) r ⌝ }
@@ -91,7 +72,7 @@ pub fn started(chart: &[i32], out: &mut [u8], at: usize) -> Turned
     ensures { λ r. ⌜ Went (reported (starts (chart-of (now (chart .entry))) none Room)) (now (out .entry)) at (now (out .exit)) r ⌝ }
 {
     let mut trace = [0; ROOM];
-    let called = engine::checked::start_checked(chart, unstarted(), &mut trace);
+    let called = engine::checked::start_checked(chart, engine::unstarted(), &mut trace);
     let answer = called.answer;
     let place = console::report(out, at, answer.number, &trace, called.entries);
     let after = called.state;
@@ -108,7 +89,7 @@ pub fn begin(bytes: &[u8], chart: &mut [i32], out: &mut [u8], at: usize) -> Open
 {
     let answer = engine::read(bytes, chart);
     if answer.number != 0 {
-        let t = refusal(answer.number, unstarted(), out, at);
+        let t = refusal(answer.number, engine::unstarted(), out, at);
         let state = t.state;
         return Opened {
             going: false,

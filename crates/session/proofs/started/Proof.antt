@@ -33,7 +33,7 @@ returns c =
     let none = call .before .before in
     let top = none .before .before in
     let v = top .args .chart .now in
-    let on = start-on v _ (top .pre) ROOM ∙ ap (λ u. start (chart-of v) u ROOM) (none .unstarted .ensures) in
+    let on = start-on v _ (top .pre) ROOM ∙ ap (λ u. start (chart-of v) u ROOM) (none .unstarted .ensures .result) in
     call-went _ _ _ _ (start (chart-of v) unstarted ROOM) _ _ (call .start-checked .ensures .result ∙ ap called on)
     (call .start-checked .ensures .lent ∙ ap (lent ROOM) on) (search needs) (c .before .before .before .report .ensures)
 
