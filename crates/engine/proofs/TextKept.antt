@@ -8,7 +8,7 @@ use Rattle.meaning.specs.declared.Answer.{Answer}
 use Rattle.meaning.specs.declared.Written.{Written}
 use Rattle.meaning.specs.Text.{read, write, answer-of, written, lent-numbers, lent-bytes}
 use Rattle.promises.specs.Promises.{Checked, Read, Wrote}
-use Rattle.writer.specs.Pen.{zeros}
+use Rattle.writer.specs.Letters.{zeros}
 use Rattle.writer.proofs.WriteLaws.{wrote-refused}
 
 pub reads : {text : List ℕ} {chart after : List ℤ} {r : Answer}

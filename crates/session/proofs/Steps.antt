@@ -7,7 +7,7 @@ use borrow.Author.Tests.{eq-eqb, ne-eqb}
 use native.Mathlib.Omega.{arith}
 use lib.IntN.{ℤ}
 use lib.ListN.{length}
-use Rattle.pen.specs.Pen.{pen, writes}
+use Rattle.pen.specs.Pen.{pen, put-all}
 use Rattle.meaning.specs.declared.State.{State}
 use Rattle.meaning.specs.declared.Called.{Called}
 use Rattle.meaning.specs.declared.Line.{Line}
@@ -30,7 +30,7 @@ use Rattle.session.specs.Turned.{Went, Passes, quiet, LARGEST}
 -- what `report` gives
 abbrev pub Reported : ℕ → ℕ → List ℤ → List ℕ → ℕ → List ℕ → ℕ → Type 0
 Reported number entries trace before at after to =
-    (pen after to ≡ writes (report number (shown entries trace)) (pen before at)) × (at + largest trace ≤ length before → to ≤ at + largest trace)
+    (pen after to ≡ put-all (report number (shown entries trace)) (pen before at)) × (at + largest trace ≤ length before → to ≤ at + largest trace)
 
 module _ (before after : List ℕ) (at to : ℕ) where
   -- a call of the engine, reported
@@ -40,7 +40,7 @@ module _ (before after : List ℕ) (at to : ℕ) where
   unfolding called lent
   call-went o r l e m k w = record {
     widget = ap (λ x. x .state) e;
-    bytes = w .0 ∙ ap (λ b. writes b (pen before at)) (rw e (report-lent (o .number) ROOM (o .trace) l m k));
+    bytes = w .0 ∙ ap (λ b. put-all b (pen before at)) (rw e (report-lent (o .number) ROOM (o .trace) l m k));
     whole = λ h. let z : largest l ≡ LARGEST = rw k in let p = w .1 (omega arith) in omega arith;
   }
 
@@ -108,7 +108,7 @@ module _ (f : Turns) (s : Scan) (u : State) (before : List ℕ) (at : ℕ) where
 
   pub byte-feeds : (b : ℕ) (k : Scan) → (b ≡ LF → ⊥) → k ≡ fed s b
       → Passes (passed f under b) before at before (record { state = u; scan = k; at = at })
-  unfolding passed writes
+  unfolding passed put-all
   byte-feeds b k h e = rw (ne-eqb b LF h) go
     where
       go : Passes (by-end f under b false) before at before (record { state = u; scan = k; at = at })
@@ -124,7 +124,7 @@ module _ (f : Turns) (s : Scan) (u : State) (before : List ℕ) (at : ℕ) where
       go w = record { widget = w .widget; line = g; bytes = w .bytes; whole = w .whole }
 
   pub end-none : began s ≡ false → Passes (finished f under) before at before (record { state = u; scan = s; at = at })
-  unfolding finished writes
+  unfolding finished put-all
   end-none h = rw h go
     where
       go : Passes (by-began f under false) before at before (record { state = u; scan = s; at = at })

@@ -1,6 +1,6 @@
 // The writer (01, "Chart text"): the text of a chart that passes the rules, in a lent slice; 13 where it is too long for the slice.
 pub mod kinds;
-pub mod pen;
+pub mod marks;
 pub mod rows;
 
 use meaning::Answer;
@@ -10,7 +10,7 @@ ghost use mathlib.Core.Option.{none};
 ghost use lib.ListN.{length};
 ghost use Rattle.meaning.specs.Rules.{failing-rule-of};
 ghost use Rattle.meaning.specs.Text.{write as written-out, written, lent-bytes};
-ghost use Rattle.writer.specs.Pen.{zeros};
+ghost use Rattle.writer.specs.Letters.{zeros};
 
 // The whole slice is 0.
 pub fn clear(text: &mut [u8])

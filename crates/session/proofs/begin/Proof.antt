@@ -23,10 +23,10 @@ same-length-2 : tie.Need-same-length-2
 same-length-2 c = search needs
 
 returns : tie.Need-returns
-returns c = open-refused _ _ _ _ _ _ _ (rw (c .before .before .before .before .before .before .before .before .before .before .before .before .before .pre) at (c .before .before .before .before .before .before .before .before .before .read .ensures .0)) (c .before .before .before .before .before .before .if1 .taken) refl (rw (c .before .before .before .before .before .unstarted .ensures) at (c .before .before .before .refusal .ensures))
+returns c = open-refused _ _ _ _ _ _ _ (rw (c .before .before .before .before .before .before .before .before .before .before .before .before .before .pre) at (c .before .before .before .before .before .before .before .before .before .read .ensures .result)) (c .before .before .before .before .before .before .if1 .taken) refl (rw (c .before .before .before .before .before .unstarted .ensures .result) at (c .before .before .before .refusal .ensures))
 
 started-requires : tie.Need-started-requires
-started-requires c κs = let p = c .before .before .before .before .before .before .before .before .before .pre in let e = rw p at (c .before .before .before .before .before .read .ensures .0) in let m = rw p at (c .before .before .before .before .before .read .ensures .1) in let k : length (c .before .before .before .before .before .read .last .1 .0) ≡ VALUE = (let j : length (c .before .before .before .before .before .read .last .1 .0) ≡ length (c .before .before .before .before .before .before .before .before .before .args .chart .now) = search needs in j ∙ p) in read-ruled _ _ _ e m k (c .before .before .if1 .left)
+started-requires c κs = let p = c .before .before .before .before .before .before .before .before .before .pre in let e = rw p at (c .before .before .before .before .before .read .ensures .result) in let m = rw p at (c .before .before .before .before .before .read .ensures .lent) in let k : length (c .before .before .before .before .before .read .last .1 .0) ≡ VALUE = (let j : length (c .before .before .before .before .before .read .last .1 .0) ≡ length (c .before .before .before .before .before .before .before .before .before .args .chart .now) = search needs in j ∙ p) in read-ruled _ _ _ e m k (c .before .before .if1 .left)
 
 same-length-3 : tie.Need-same-length-3
 same-length-3 c = search needs
@@ -35,7 +35,7 @@ same-length-4 : tie.Need-same-length-4
 same-length-4 c = search needs
 
 returns-2 : tie.Need-returns-2
-returns-2 c = let p = c .before .before .before .before .before .before .before .before .before .before .before .before .before .pre in let e = rw p at (c .before .before .before .before .before .before .before .before .before .read .ensures .0) in let m = rw p at (c .before .before .before .before .before .before .before .before .before .read .ensures .1) in let k : length (c .before .before .before .before .before .before .before .before .before .read .last .1 .0) ≡ VALUE = (let j : length (c .before .before .before .before .before .before .before .before .before .read .last .1 .0) ≡ length (c .before .before .before .before .before .before .before .before .before .before .before .before .before .args .chart .now) = search needs in j ∙ p) in open-started _ _ _ e m k (c .before .before .before .before .before .before .if1 .left) _ _ _ _ refl (c .before .before .before .started .ensures)
+returns-2 c = let p = c .before .before .before .before .before .before .before .before .before .before .before .before .before .pre in let e = rw p at (c .before .before .before .before .before .before .before .before .before .read .ensures .result) in let m = rw p at (c .before .before .before .before .before .before .before .before .before .read .ensures .lent) in let k : length (c .before .before .before .before .before .before .before .before .before .read .last .1 .0) ≡ VALUE = (let j : length (c .before .before .before .before .before .before .before .before .before .read .last .1 .0) ≡ length (c .before .before .before .before .before .before .before .before .before .before .before .before .before .args .chart .now) = search needs in j ∙ p) in open-started _ _ _ e m k (c .before .before .before .before .before .before .if1 .left) _ _ _ _ refl (c .before .before .before .started .ensures)
 
 pub begin-spec : {M : Type 1} → statement M
 begin-spec =
