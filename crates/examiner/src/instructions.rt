@@ -18,7 +18,7 @@ use plan_rows::read;
 ghost use mathlib.Core.Path.{_≡_};
 ghost use mathlib.Core.Bool.{true};
 ghost use Prim.Native.Nat.{_+_, _*_, _≤_};
-ghost use lib.ListN.{length, take, drop, getD};
+ghost use lib.ListN.{length, drop, getD};
 ghost use Rattle.sizes.specs.Sizes.{INSTRUCTIONS};
 ghost use Rattle.meaning.specs.WellFormed.{INSTR-ROW, FORMS, no-form, field-fits, instr-fits, left-after-each, left-in-blocks, code-at, code-fits, all-blocks-fill};
 ghost use Rattle.plan_rows.specs.Rows.{Sized};

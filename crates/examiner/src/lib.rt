@@ -5,6 +5,7 @@ pub mod instructions;
 pub mod tests;
 pub mod variables;
 
+use chart::number_at;
 use heads::blocks_fill;
 use heads::heads_fit;
 use instructions::code_fits;
@@ -25,8 +26,6 @@ use sizes::VARIABLES;
 use tests::count_fits;
 use variables::vars_keep;
 ghost use mathlib.Core.Path.{_≡_};
-ghost use Rattle.numbers.specs.Reference.{NOWHERE};
-ghost use Rattle.meaning.specs.Value.{count-fits, num};
 ghost use Rattle.meaning.specs.WellFormed.{counts-keep, rows-well-formed, well-formed};
 ghost use Rattle.examiner.specs.Examined.{examined, Whole};
 
@@ -37,19 +36,19 @@ const MALFORMED: usize = 5;
 fn counts_keep(plan: &[i32]) -> bool
     ensures { λ r. ⌜ r ≡ counts-keep (now (plan .entry)) ⌝ }
 {
-    if !count_fits(2, STATES, chart::number_at(plan, STATE_COUNT)) {
+    if !count_fits(2, STATES, number_at(plan, STATE_COUNT)) {
         return false;
     }
-    if !count_fits(0, VARIABLES, chart::number_at(plan, VAR_COUNT)) {
+    if !count_fits(0, VARIABLES, number_at(plan, VAR_COUNT)) {
         return false;
     }
-    if !count_fits(0, EVENTS, chart::number_at(plan, EVENT_COUNT)) {
+    if !count_fits(0, EVENTS, number_at(plan, EVENT_COUNT)) {
         return false;
     }
-    if !count_fits(0, TRANSITIONS, chart::number_at(plan, HEAD_COUNT)) {
+    if !count_fits(0, TRANSITIONS, number_at(plan, HEAD_COUNT)) {
         return false;
     }
-    count_fits(0, INSTRUCTIONS, chart::number_at(plan, INSTR_COUNT))
+    count_fits(0, INSTRUCTIONS, number_at(plan, INSTR_COUNT))
 }
 
 // The rows of a plan that is not cut short: variables, heads, blocks, instructions.

@@ -1,5 +1,4 @@
 // The variables of a plan: "each variable row keeps R5 and the number range".
-use meaning::chart::VarRow;
 use meaning::plan::Counts;
 use numbers::between;
 use numbers::in_range;

@@ -148,3 +148,54 @@ module _ (k : Counts) where
       ∙ ap (λ m. code-fits k (left-after-each n) (drop (base + b * INSTR-ROW) ns) && code-fits k ys m)
       (ap (λ m. drop (m * INSTR-ROW) (drop (base + b * INSTR-ROW) ns)) (left-length n)
       ∙ drop-drop (n * INSTR-ROW) (base + b * INSTR-ROW) ns ∙ ap (λ m. drop m ns) z)
+
+  -- instruction j of a block of n that fits, where b instructions from a place on come before the block
+  pub block-instr : (n base b : ℕ) (ns : List ℤ) → code-fits k (left-after-each n) (drop (base + b * INSTR-ROW) ns) ≡ true → (j : ℕ) → j < n
+      → instr-fits k (n - suc j) (drop (base + (b + j) * INSTR-ROW) ns) ≡ true
+  unfolding left-after-each
+  block-instr zero base b ns e j h = absurd (omega arith)
+  block-instr (suc n) base b ns e zero h =
+      let z : suc n - 1 ≡ n = omega arith in
+      let o : b + 0 ≡ b = omega arith in
+      rw (z, o) (code-first n (left-after-each n) (drop (base + b * INSTR-ROW) ns) e)
+  block-instr (suc n) base b ns e (suc j) h =
+      let z : suc n - suc (suc j) ≡ n - suc j = omega arith in
+      let o : b + suc j ≡ (b + 1) + j = omega arith in
+      let m : (base + b * INSTR-ROW) + INSTR-ROW ≡ base + (b + 1) * INSTR-ROW = omega arith in
+      rw (z, o)
+      (block-instr n base (b + 1) ns
+      (ap (code-fits k (left-after-each n)) (sym (drop-drop INSTR-ROW (base + b * INSTR-ROW) ns ∙ ap (λ q. drop q ns) m))
+      ∙ sym (code-next n (left-after-each n) (drop (base + b * INSTR-ROW) ns) (code-first n (left-after-each n) (drop (base + b * INSTR-ROW) ns) e))
+      ∙ e)
+      j (omega arith))
+
+-- ---- the block of one head among those that fill n instructions from a place on
+
+-- it lies within the instructions
+pub block-within : (n at : ℕ) (rows : List (List ℤ)) → blocks-fill n at rows ≡ true → (h : ℕ) → h < length rows
+    → ref (num (getD rows h []) 8) + ref (num (getD rows h []) 9) ≤ n
+block-within n at [] e h l = absurd (omega arith)
+block-within n at (row ∷ rows) e zero l =
+    let s = fills-first n at row rows e in
+    let w = fills-within n (at + ref (num row 9)) rows (fills-rest n at row rows e) in
+    omega arith
+block-within n at (row ∷ rows) e (suc h) l = block-within n (at + ref (num row 9)) rows (fills-rest n at row rows e) h (omega arith)
+
+-- and its instructions fit if all do
+pub block-fits : (k : Counts) (n base at : ℕ) (ns : List ℤ) (rows : List (List ℤ)) → blocks-fill n at rows ≡ true
+    → code-fits k (concat-map left-after-each (map (λ row. ref (num row 9)) rows)) (drop (base + at * INSTR-ROW) ns) ≡ true
+    → (h : ℕ) → h < length rows
+    → code-fits k (left-after-each (ref (num (getD rows h []) 9))) (drop (base + ref (num (getD rows h []) 8) * INSTR-ROW) ns) ≡ true
+unfolding concat-map
+block-fits k n base at ns [] e f h l = absurd (omega arith)
+block-fits k n base at ns (row ∷ rows) e f zero l =
+    ap (λ m. code-fits k (left-after-each (ref (num row 9))) (drop (base + m * INSTR-ROW) ns)) (fills-first n at row rows e)
+    ∙ and-left (code-fits k (left-after-each (ref (num row 9))) (drop (base + at * INSTR-ROW) ns))
+    (code-fits k (concat-map left-after-each (map (λ r. ref (num r 9)) rows)) (drop (base + (at + ref (num row 9)) * INSTR-ROW) ns))
+    (sym (code-block k base at (ref (num row 9)) (concat-map left-after-each (map (λ r. ref (num r 9)) rows)) ns) ∙ f)
+block-fits k n base at ns (row ∷ rows) e f (suc h) l =
+    block-fits k n base (at + ref (num row 9)) ns rows (fills-rest n at row rows e)
+    (and-right (code-fits k (left-after-each (ref (num row 9))) (drop (base + at * INSTR-ROW) ns))
+    (code-fits k (concat-map left-after-each (map (λ r. ref (num r 9)) rows)) (drop (base + (at + ref (num row 9)) * INSTR-ROW) ns))
+    (sym (code-block k base at (ref (num row 9)) (concat-map left-after-each (map (λ r. ref (num r 9)) rows)) ns) ∙ f))
+    h (omega arith)

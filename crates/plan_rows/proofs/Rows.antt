@@ -1,12 +1,13 @@
 -- Where the rows of a plan stand among its numbers: row i of the variables, heads and instructions is the numbers from one place on, and
--- says what the definitions say of it. In the order: the counts; the lists of a plan, row by row; a row, number by number. Assumes nothing.
+-- says what the definitions say of it. In the order: the counts; the lists of a plan, row by row; a row, number by number; a block.
+-- Assumes nothing.
 use Prim.Native.Nat.{ℕ, _+_, _*_, _<_, _≤_}
 use mathlib.Core.Path.{_≡_, refl, sym, ap, _∙_}
 use mathlib.Core.List.{List, [], _∷_, map}
 use native.Mathlib.Omega.{arith}
 use lib.IntN.{ℤ, pos}
-use lib.ListN.{length, getD, take, drop}
-use lib.Seq.{drop-drop}
+use lib.ListN.{length, getD, take, drop, length-drop}
+use lib.Seq.{drop-drop, getD-take, getD-drop, length-take-le}
 use Rattle.sizes.specs.Sizes.{STATES, VARIABLES, EVENTS, TRANSITIONS, INSTRUCTIONS}
 use Rattle.numbers.specs.Reference.{ref}
 use Rattle.meaning.specs.Lists.{chunks}
@@ -167,3 +168,16 @@ module _ (ns : List ℤ) (b : ℕ) where
         num-at INSTR-ROW b ns 2 (omega arith),
         num-at INSTR-ROW b ns 3 (omega arith),
       )
+
+-- ---- a block of the plan: n instructions from the given one on
+
+module _ (ns : List ℤ) (start n : ℕ) (within : start + n ≤ counts-of ns .instructions) where
+  pub block-length : length (take n (drop start (plan-by ns .code))) ≡ n
+  block-length =
+      let l = code-length ns in
+      length-take-le n (drop start (plan-by ns .code)) (rw (length-drop start (plan-by ns .code)) (omega arith))
+
+  pub block-at : (j : ℕ) (d : Instr) → j < n
+      → getD (take n (drop start (plan-by ns .code))) j d ≡ instr-by (row INSTR-ROW (code-at (counts-of ns)) (start + j) ns)
+  block-at j d h =
+      getD-take n (drop start (plan-by ns .code)) j d h ∙ getD-drop start (plan-by ns .code) j d ∙ instr-of-plan ns (start + j) d (omega arith)

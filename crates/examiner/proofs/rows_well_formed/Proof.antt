@@ -1,7 +1,7 @@
 -- `rows_well_formed` tests variables, heads, blocks, instructions. Assumes nothing.
 use mathlib.Core.Path.{_≡_, _∙_}
 use Rattle.rules.proofs.Tests.{refuted, held}
-use Rattle.examiner.proofs.Verdict.{rows-vars, rows-heads, rows-blocks, rows-code}
+use Rattle.plan_rows.proofs.Verdict.{rows-vars, rows-heads, rows-blocks, rows-code}
 use borrow.Author.Needs.{needs}
 use Rattle.examiner.proofs.rows_well_formed.Statement.{statement}
 use Rattle.examiner.proofs.rows_well_formed.Tie as tie

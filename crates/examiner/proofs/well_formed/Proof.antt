@@ -7,7 +7,7 @@ use Rattle.meaning.specs.WellFormed.{plan-end, rows-well-formed}
 use Rattle.plan_rows.specs.Rows.{Sized}
 use Rattle.plan_rows.proofs.Rows.{sized}
 use Rattle.rules.proofs.Tests.{refuted, held}
-use Rattle.examiner.proofs.Verdict.{well-counts, well-cut, well-rows}
+use Rattle.plan_rows.proofs.Verdict.{well-counts, well-cut, well-rows}
 use borrow.Author.Needs.{needs}
 use Rattle.examiner.proofs.well_formed.Statement.{statement}
 use Rattle.examiner.proofs.well_formed.Tie as tie
