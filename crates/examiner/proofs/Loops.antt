@@ -5,6 +5,7 @@ use mathlib.Core.Path.{_≡_, refl, sym, ap, _∙_}
 use mathlib.Core.Bool.{Bool, true, false, _&&_}
 use mathlib.Core.List.{List, [], _∷_}
 use native.Mathlib.Omega.{arith}
+use borrow.Author.Tests.{eqb-true, eqb-false}
 use lib.Dec.{eqb}
 use lib.IntN.{ℤ, pos}
 use lib.ListN.{getD, take, drop}
@@ -42,26 +43,29 @@ lasts : (at : ℕ) (ns : List ℤ) → ref (num (take HEAD-ROW (drop at ns)) 9) 
 lasts at ns = ap ref (num-at HEAD-ROW at ns 9 (omega arith))
 
 module _ (n end at left : ℕ) (ns : List ℤ) {b : Bool} where
-  pub fill-gap : (s : ℕ) → s ≡ ref (getD ns (at + 8) (pos 0)) → 0 < left → (s ≡ end → ⊥)
+  pub fill-gap : 0 < left → eqb (ref (getD ns (at + 8) (pos 0))) end ≡ false
       → blocks-fill n end (chunks left HEAD-ROW (drop at ns)) ≡ b → false ≡ b
-  fill-gap s f h e g =
-      sym (fills-gap n end (take HEAD-ROW (drop at ns)) (chunks (left - 1) HEAD-ROW (drop (at + HEAD-ROW) ns)) (λ q. e (f ∙ sym (begins at ns) ∙ q)))
+  fill-gap h e g =
+      sym (fills-gap n end (take HEAD-ROW (drop at ns)) (chunks (left - 1) HEAD-ROW (drop (at + HEAD-ROW) ns))
+      (λ q. eqb-false (ref (getD ns (at + 8) (pos 0))) end e (sym (begins at ns) ∙ q)))
       ∙ rw (rows-cons left HEAD-ROW at ns h) at g
 
-  pub fill-next : (s m : ℕ) → s ≡ ref (getD ns (at + 8) (pos 0)) → m ≡ ref (getD ns (at + 9) (pos 0)) → 0 < left → n < NOWHERE → end ≤ n
-      → s ≡ end → blocks-fill n end (chunks left HEAD-ROW (drop at ns)) ≡ b
-      → blocks-fill n (end + m) (chunks (left - 1) HEAD-ROW (drop (at + HEAD-ROW) ns)) ≡ b
-  fill-next s m f l h o u e g =
-      let z : ref (num (take HEAD-ROW (drop at ns)) 9) ≡ m = lasts at ns ∙ sym l in
-      ap (λ q. blocks-fill n (end + q) (chunks (left - 1) HEAD-ROW (drop (at + HEAD-ROW) ns))) (sym z)
-      ∙ sym (fills-on n end (take HEAD-ROW (drop at ns)) (chunks (left - 1) HEAD-ROW (drop (at + HEAD-ROW) ns)) o u (begins at ns ∙ sym f ∙ e))
-      ∙ rw (rows-cons left HEAD-ROW at ns h) at g
+  -- a block that begins at `end` and has m instructions
+  module _ (h : 0 < left) (few : n < NOWHERE) (inside : end ≤ n) (here : eqb (ref (getD ns (at + 8) (pos 0))) end ≡ true) where
+    pub fill-next : (m : ℕ) → m ≡ ref (getD ns (at + 9) (pos 0)) → blocks-fill n end (chunks left HEAD-ROW (drop at ns)) ≡ b
+        → blocks-fill n (end + m) (chunks (left - 1) HEAD-ROW (drop (at + HEAD-ROW) ns)) ≡ b
+    fill-next m l g =
+        let z : ref (num (take HEAD-ROW (drop at ns)) 9) ≡ m = lasts at ns ∙ sym l in
+        ap (λ q. blocks-fill n (end + q) (chunks (left - 1) HEAD-ROW (drop (at + HEAD-ROW) ns))) (sym z)
+        ∙ sym (fills-on n end (take HEAD-ROW (drop at ns)) (chunks (left - 1) HEAD-ROW (drop (at + HEAD-ROW) ns)) few inside
+        (begins at ns ∙ eqb-true (ref (getD ns (at + 8) (pos 0))) end here))
+        ∙ rw (rows-cons left HEAD-ROW at ns h) at g
 
-  -- a block that ends past the last instruction
-  pub fill-long : (s m : ℕ) → s ≡ ref (getD ns (at + 8) (pos 0)) → m ≡ ref (getD ns (at + 9) (pos 0)) → 0 < left → n < NOWHERE → end ≤ n
-      → s ≡ end → n - end < m → blocks-fill n end (chunks left HEAD-ROW (drop at ns)) ≡ b → false ≡ b
-  fill-long s m f l h o u e v g =
-      sym (fills-past n (end + m) (chunks (left - 1) HEAD-ROW (drop (at + HEAD-ROW) ns)) (omega arith)) ∙ fill-next s m f l h o u e g
+    -- it ends past the last instruction
+    pub fill-long : (m : ℕ) → m ≡ ref (getD ns (at + 9) (pos 0)) → n - end < m → blocks-fill n end (chunks left HEAD-ROW (drop at ns)) ≡ b
+        → false ≡ b
+    fill-long m l v g =
+        sym (fills-past n (end + m) (chunks (left - 1) HEAD-ROW (drop (at + HEAD-ROW) ns)) (omega arith)) ∙ fill-next m l g
 
   pub fill-done : left ≡ 0 → blocks-fill n end (chunks left HEAD-ROW (drop at ns)) ≡ b → eqb end n ≡ b
   unfolding blocks-fill

@@ -6,8 +6,12 @@ use mathlib.Core.Bool.{false, _&&_}
 use mathlib.Core.List.{List}
 use native.Mathlib.Omega.{arith}
 use lib.IntN.{ℤ, pos}
+use lib.Signed.{leZ}
 use lib.ListN.{getD, take, drop}
 use lib.Seq.{getD-drop}
+use mir.Facts.{toZ-ofZ}
+use mir.Syntax.{w32}
+use mir.Val.{SFits, toZ, ofZ}
 use Rattle.sizes.specs.Sizes.{TRANSITIONS}
 use Rattle.numbers.specs.Range.{within, inRange}
 use Rattle.numbers.specs.Reference.{ref}
@@ -21,6 +25,10 @@ use Rattle.chart.proofs.Rows.{num-at}
 use Rattle.examiner.specs.declared.instructions.Field.{Field}
 use Rattle.examiner.specs.declared.instructions.Form.the-variants.{Wrong, Of}
 use Rattle.examiner.specs.Forms.{field-of, form-of}
+
+-- the order of two numbers that were handed over as their bits
+pub order-said : {x y : ℤ} → SFits w32 x → SFits w32 y → leZ (toZ w32 (ofZ w32 x)) (toZ w32 (ofZ w32 y)) ≡ leZ x y
+order-said f g = rw (toZ-ofZ f, toZ-ofZ g)
 
 pub var-read : (r : VarRow) (l : List ℤ) → r ≡ var-by l
     → var-keeps l ≡ within (r .low) (r .first) (r .high) && (inRange (r .low) && (inRange (r .high) && inRange (r .first)))

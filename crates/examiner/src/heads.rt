@@ -22,9 +22,11 @@ use sizes::TRANSITIONS;
 ghost use mathlib.Core.Path.{_≡_};
 ghost use mathlib.Core.Bool.{_&&_};
 ghost use Prim.Native.Nat.{_+_, _≤_};
-ghost use lib.ListN.{length, take, drop};
+ghost use lib.Dec.{eqb};
+ghost use lib.ListN.{getD, length, take, drop};
 ghost use lib.IntN.{pos, negsuc};
 ghost use Rattle.numbers.specs.Equal.{eqZ};
+ghost use Rattle.numbers.specs.Reference.{ref};
 ghost use Rattle.meaning.specs.Lists.{every};
 ghost use Rattle.meaning.specs.WellFormed.{HEAD-ROW, head-rows, head-guard-fits, span-fits, head-fits, all-blocks-fill};
 ghost use Rattle.plan_rows.specs.Rows.{Sized};
@@ -120,6 +122,14 @@ pub fn heads_fit(plan: &[i32], k: Counts) -> bool
     true
 }
 
+// Does the block of the head whose row begins at this place begin with this instruction?
+fn begins_with(plan: &[i32], at: usize, first: usize) -> bool
+    requires { ⌜ at + HEAD-ROW ≤ length (now plan) ⌝ }
+    ensures { λ r. ⌜ r ≡ eqb (ref (getD (now (plan .entry)) (at + 8) (pos 0))) first ⌝ }
+{
+    named(plan, at + BLOCK_START) == first
+}
+
 // The start block, then the blocks in head order, no gaps. A block that ends past the last instruction ends the loop, so
 // that no sum of lengths grows.
 pub fn blocks_fill(plan: &[i32], k: Counts) -> bool
@@ -133,7 +143,7 @@ pub fn blocks_fill(plan: &[i32], k: Counts) -> bool
     let mut at = heads_at(k);
     let mut left = k.heads;
     while 0 < left {
-        if named(plan, at + BLOCK_START) != end {
+        if !begins_with(plan, at, end) {
             return false;
         }
         let n = named(plan, at + BLOCK_LENGTH);

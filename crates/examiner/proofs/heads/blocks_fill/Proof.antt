@@ -6,6 +6,7 @@ use lib.ListN.{length, drop}
 use Rattle.meaning.specs.Lists.{chunks}
 use Rattle.meaning.specs.WellFormed.{HEAD-ROW, head-rows, blocks-fill, all-blocks-fill}
 use Rattle.plan_rows.proofs.Blocks.{fills-past, fills-start}
+use Rattle.rules.proofs.Tests.{refuted, held}
 use Rattle.examiner.proofs.Wholes.{whole-sized, whole-start, whole-few, heads-there}
 use Rattle.examiner.proofs.Loops.{fill-gap, fill-long, fill-next, fill-done}
 use borrow.Author.Needs.{needs}
@@ -48,57 +49,38 @@ loop-holds c =
       omega (arith, heads-there (a .plan .now) (a .k) (s .pre), c .heads-at .ensures),
     )
 
-add-named : tie.Need-add-named Inv-loop μ-loop
-add-named c = search needs
-
-named-requires : tie.Need-named-requires Inv-loop μ-loop
-named-requires c κs = omega arith
+begins-with-requires : tie.Need-begins-with-requires Inv-loop μ-loop
+begins-with-requires c κs = omega arith
 
 returns-2 : tie.Need-returns-2 Inv-loop μ-loop
 returns-2 c =
     let a = c .before .before .before .before .before .before .before .args in
     let w = c .before .before .before .loop in
-    fill-gap (a .k .instructions) (w .end) (w .at) (w .left) (a .plan .now) (c .before .named .result) (c .before .named .ensures) (omega arith)
-    (c .if2 .taken) (w .inv .0)
+    fill-gap (a .k .instructions) (w .end) (w .at) (w .left) (a .plan .now) (omega arith) (refuted (c .before .begins-with .ensures) (c .if2 .taken)) (w .inv .0)
 
-add-named-2 : tie.Need-add-named-2 Inv-loop μ-loop
-add-named-2 c = search needs
-
-named-requires-2 : tie.Need-named-requires-2 Inv-loop μ-loop
-named-requires-2 c κs = omega arith
+named-requires : tie.Need-named-requires Inv-loop μ-loop
+named-requires c κs = omega arith
 
 sub-if3 : tie.Need-sub-if3 Inv-loop μ-loop
 sub-if3 c = omega arith
 
 returns-3 : tie.Need-returns-3 Inv-loop μ-loop
 returns-3 c =
-    let s = c .before .before .before .before .before .before .before .before .before .before in
-    let w = c .before .before .before .before .before .before .loop in
-    let f = c .before .before .before .before .named in
-    let l = c .before .before .named2 in
-    fill-long (s .args .k .instructions) (w .end) (w .at) (w .left) (s .args .plan .now) (f .result) (l .result) (f .ensures) (l .ensures) (omega arith)
-    (whole-few (s .args .plan .now) (s .args .k) (s .pre)) (w .inv .1) (c .before .before .before .if2 .left) (c .if3 .taken) (w .inv .0)
-
-add-end : tie.Need-add-end Inv-loop μ-loop
-add-end c = search needs
-
-add-at : tie.Need-add-at Inv-loop μ-loop
-add-at c = search needs
-
-sub-left : tie.Need-sub-left Inv-loop μ-loop
-sub-left c = omega arith
-
-loop-less : tie.Need-loop-less Inv-loop μ-loop
-loop-less c = omega arith
+    let b = c .before .before .before .before in
+    let s = b .before .before .before .before .before .before in
+    let w = b .before .before .loop in
+    fill-long (s .args .k .instructions) (w .end) (w .at) (w .left) (s .args .plan .now) (omega arith)
+    (whole-few (s .args .plan .now) (s .args .k) (s .pre)) (w .inv .1) (held (b .begins-with .ensures) (c .before .before .before .if2 .left))
+    (c .before .before .named .result) (c .before .before .named .ensures) (c .if3 .taken) (w .inv .0)
 
 loop-again : tie.Need-loop-again Inv-loop μ-loop
 loop-again c =
-    let s = c .before .before .before .before .before .before .before .before .before .before in
-    let w = c .before .before .before .before .before .before .loop in
-    let f = c .before .before .before .before .named in
-    let l = c .before .before .named2 in (
-      fill-next (s .args .k .instructions) (w .end) (w .at) (w .left) (s .args .plan .now) (f .result) (l .result) (f .ensures) (l .ensures) (omega arith)
-          (whole-few (s .args .plan .now) (s .args .k) (s .pre)) (w .inv .1) (c .before .before .before .if2 .left) (w .inv .0),
+    let b = c .before .before .before .before in
+    let s = b .before .before .before .before .before .before in
+    let w = b .before .before .loop in (
+      fill-next (s .args .k .instructions) (w .end) (w .at) (w .left) (s .args .plan .now) (omega arith)
+          (whole-few (s .args .plan .now) (s .args .k) (s .pre)) (w .inv .1) (held (b .begins-with .ensures) (c .before .before .before .if2 .left))
+          (c .before .before .named .result) (c .before .before .named .ensures) (w .inv .0),
       omega arith,
       omega arith,
     )
@@ -118,16 +100,15 @@ blocks-fill-spec =
     returns
     heads-at-requires
     loop-holds
-    add-named
-    named-requires
+    begins-with-requires
     returns-2
-    add-named-2
-    named-requires-2
+    (λ c. search needs)
+    named-requires
     sub-if3
     returns-3
-    add-end
-    add-at
-    sub-left
-    loop-less
+    (λ c. search needs)
+    (λ c. search needs)
+    (λ c. omega arith)
+    (λ c. omega arith)
     loop-again
     returns-4)

@@ -1,9 +1,9 @@
 -- `span_fits` tests number by number. Assumes nothing.
 use mathlib.Core.Path.{_≡_}
-use mir.Facts.{toZ-ofZ}
 use Rattle.meaning.specs.WellFormed.{one-of, span-fits}
 use Rattle.chart.proofs.Said.{said-own}
 use Rattle.rules.proofs.Tests.{refuted, held, on}
+use Rattle.examiner.proofs.RowTests.{order-said}
 use borrow.Author.Needs.{needs}
 use Rattle.examiner.proofs.heads.span_fits.Statement.{statement}
 use Rattle.examiner.proofs.heads.span_fits.Tie as tie
@@ -45,7 +45,7 @@ returns-4 c =
     let f = c .before .before .before .before .before .before .fits in
     on (held (source-from-one-of (c .before .before .before .before .before)) (c .before .before .before .before .if1 .left))
     (on (held (first-from-one-of (c .before .before .before)) (c .before .before .if2 .left))
-    (on (held (last-from-one-of (c .before)) (c .if3 .left)) (rw (toZ-ofZ (f .first), toZ-ofZ (f .last)))))
+    (on (held (last-from-one-of (c .before)) (c .if3 .left)) (order-said (f .first) (f .last))))
 
 pub span-fits-spec : {M : Type 1} → statement M
 span-fits-spec =
