@@ -11,7 +11,8 @@ use Rattle.numbers.specs.Reference.{ref}
 use Rattle.meaning.specs.Lists.{concat-map, chunks}
 use Rattle.meaning.specs.declared.plan.Counts.{Counts}
 use Rattle.meaning.specs.Value.{num}
-use Rattle.meaning.specs.WellFormed.{HEAD-ROW, INSTR-ROW, heads-at, code-at, head-rows, blocks-fill, left-after-each, left-in-blocks, code-fits}
+use Rattle.meaning.specs.WellFormed.{HEAD-ROW, INSTR-ROW, heads-at, code-at, head-rows, blocks-fill, left-after-each}
+use Rattle.meaning.specs.WellFormed.{left-in-blocks, code-fits}
 use Rattle.chart.proofs.Rows.{num-at}
 use Rattle.plan_rows.proofs.Blocks.{rows-cons, rows-none, fills-rest, fills-within, left-length, code-joined, code-block}
 
@@ -69,6 +70,7 @@ module _ (k : Counts) (base done left head : ℕ) (ns : List ℤ) (n : ℕ) (e :
   pub filled-within : (m : ℕ) → blocks-fill m done (chunks left HEAD-ROW (drop head ns)) ≡ true → done + n ≤ m
   filled-within m g = fills-within m (done + n) (chunks (left - 1) HEAD-ROW (drop (head + HEAD-ROW) ns)) (filled-on m g)
 
-pub blocks-done : (k : Counts) (base done left head : ℕ) (ns : List ℤ) {b : Bool} → left ≡ 0 → rest-fits k base done left head ns ≡ b → true ≡ b
+pub blocks-done : (k : Counts) (base done left head : ℕ) (ns : List ℤ) {b : Bool} → left ≡ 0 → rest-fits k base done left head ns ≡ b
+    → true ≡ b
 unfolding code-fits
 blocks-done k base done left head ns h g = rw (lefts-none left head ns h) at g

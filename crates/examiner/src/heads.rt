@@ -1,6 +1,6 @@
 // The heads of a plan, and the blocks that they give the instructions to: "the blocks fill the instructions".
-use super::tests::count_fits;
-use super::tests::one_of;
+use super::fits::count_fits;
+use super::fits::one_of;
 use meaning::plan::Counts;
 use numbers::in_range;
 use numbers::same;

@@ -1,6 +1,6 @@
 // The instructions of a plan, block by block: what each number of an instruction is, and whether it fits.
-use super::tests::count_fits;
-use super::tests::one_of;
+use super::fits::count_fits;
+use super::fits::one_of;
 use meaning::plan::Counts;
 use numbers::in_range;
 use numbers::same;
@@ -20,7 +20,8 @@ ghost use mathlib.Core.Bool.{true};
 ghost use Prim.Native.Nat.{_+_, _*_, _≤_};
 ghost use lib.ListN.{length, drop, getD};
 ghost use Rattle.sizes.specs.Sizes.{INSTRUCTIONS};
-ghost use Rattle.meaning.specs.WellFormed.{INSTR-ROW, FORMS, no-form, field-fits, instr-fits, left-after-each, left-in-blocks, code-at, code-fits, all-blocks-fill};
+ghost use Rattle.meaning.specs.WellFormed.{INSTR-ROW, FORMS, no-form, field-fits, instr-fits, left-after-each, left-in-blocks};
+ghost use Rattle.meaning.specs.WellFormed.{code-at, code-fits, all-blocks-fill};
 ghost use Rattle.plan_rows.specs.Rows.{Sized};
 ghost use Rattle.examiner.specs.Examined.{Whole};
 ghost use Rattle.examiner.specs.Forms.{field-of, form-of};

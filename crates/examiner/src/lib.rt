@@ -1,11 +1,12 @@
 // The examination of a plan (01, "A plan is well formed when"). Any numbers may be lent: nothing is trusted before it was
 // tested, counts first, and numbers past the plan's end are ignored. Each function equals a definition of the crate meaning.
-pub mod heads;
-pub mod instructions;
-pub mod tests;
-pub mod variables;
+mod fits;
+mod heads;
+mod instructions;
+mod variables;
 
 use chart::number_at;
+use fits::count_fits;
 use heads::blocks_fill;
 use heads::heads_fit;
 use instructions::code_fits;
@@ -23,7 +24,6 @@ use sizes::INSTRUCTIONS;
 use sizes::STATES;
 use sizes::TRANSITIONS;
 use sizes::VARIABLES;
-use tests::count_fits;
 use variables::vars_keep;
 ghost use mathlib.Core.Path.{_≡_};
 ghost use Rattle.meaning.specs.WellFormed.{counts-keep, rows-well-formed, well-formed};

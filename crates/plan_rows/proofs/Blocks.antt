@@ -19,7 +19,8 @@ use Rattle.laws.proofs.Lists.{and-left, and-right, le-or-lt}
 use Rattle.meaning.specs.Lists.{concat-map, chunks}
 use Rattle.meaning.specs.declared.plan.Counts.{Counts}
 use Rattle.meaning.specs.Value.{num}
-use Rattle.meaning.specs.WellFormed.{INSTR-ROW, counts-of, head-rows, blocks-fill, all-blocks-fill, instr-fits, left-after-each, code-fits}
+use Rattle.meaning.specs.WellFormed.{INSTR-ROW, counts-of, head-rows, blocks-fill, all-blocks-fill, instr-fits, left-after-each}
+use Rattle.meaning.specs.WellFormed.{code-fits}
 use Rattle.plan_rows.proofs.Codes.{names, names-other}
 
 -- ---- rows one by one
@@ -87,7 +88,8 @@ unfolding all-blocks-fill
 fills-start ns k e h = go (num ns 5) e
   where
     go : (z : ℤ) → k .start ≡ ref z
-        → blocks-fill (k .instructions) (k .start) (head-rows ns k) ≡ leZ (pos 0) z && blocks-fill (k .instructions) (k .start) (head-rows ns k)
+        → blocks-fill (k .instructions) (k .start) (head-rows ns k) ≡ leZ (pos 0) z
+        && blocks-fill (k .instructions) (k .start) (head-rows ns k)
     go (pos m) f = rw (le-leb 0 m (omega arith))
     go (negsuc m) f = fills-past (k .instructions) (k .start) (head-rows ns k) (omega arith)
 
@@ -136,7 +138,8 @@ module _ (k : Counts) where
           let z : INSTR-ROW + length xs * INSTR-ROW ≡ length (x ∷ xs) * INSTR-ROW = omega arith in
           rw (code-next x (xs ++ ys) l e, code-next x xs l e)
           (rest
-          ∙ ap (λ m. code-fits k xs (drop INSTR-ROW l) && code-fits k ys m) (drop-drop (length xs * INSTR-ROW) INSTR-ROW l ∙ ap (λ m. drop m l) z))
+          ∙ ap (λ m. code-fits k xs (drop INSTR-ROW l) && code-fits k ys m)
+          (drop-drop (length xs * INSTR-ROW) INSTR-ROW l ∙ ap (λ m. drop m l) z))
 
   -- a block of n instructions and what follows it, where b instructions from a place on are done
   pub code-block : (base b n : ℕ) (ys : List ℕ) (ns : List ℤ)
@@ -150,7 +153,8 @@ module _ (k : Counts) where
       ∙ drop-drop (n * INSTR-ROW) (base + b * INSTR-ROW) ns ∙ ap (λ m. drop m ns) z)
 
   -- instruction j of a block of n that fits, where b instructions from a place on come before the block
-  pub block-instr : (n base b : ℕ) (ns : List ℤ) → code-fits k (left-after-each n) (drop (base + b * INSTR-ROW) ns) ≡ true → (j : ℕ) → j < n
+  pub block-instr : (n base b : ℕ) (ns : List ℤ) → code-fits k (left-after-each n) (drop (base + b * INSTR-ROW) ns) ≡ true → (j : ℕ)
+      → j < n
       → instr-fits k (n - suc j) (drop (base + (b + j) * INSTR-ROW) ns) ≡ true
   unfolding left-after-each
   block-instr zero base b ns e j h = absurd (omega arith)
@@ -165,7 +169,8 @@ module _ (k : Counts) where
       rw (z, o)
       (block-instr n base (b + 1) ns
       (ap (code-fits k (left-after-each n)) (sym (drop-drop INSTR-ROW (base + b * INSTR-ROW) ns ∙ ap (λ q. drop q ns) m))
-      ∙ sym (code-next n (left-after-each n) (drop (base + b * INSTR-ROW) ns) (code-first n (left-after-each n) (drop (base + b * INSTR-ROW) ns) e))
+      ∙ sym (code-next n (left-after-each n) (drop (base + b * INSTR-ROW) ns)
+      (code-first n (left-after-each n) (drop (base + b * INSTR-ROW) ns) e))
       ∙ e)
       j (omega arith))
 

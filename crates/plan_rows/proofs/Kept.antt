@@ -33,7 +33,8 @@ use Rattle.meaning.specs.declared.plan.Instr.the-variants.{In as go-in, Out as 
 use Rattle.meaning.specs.declared.plan.Instr.the-variants.{SkipFull as skip-full, SkipNot as skip-not, Does as does}
 use Rattle.meaning.specs.Value.{num, size-by, count-fits}
 use Rattle.meaning.specs.WellFormed.{INSTR-ROW, head-guard-by, head-by, instr-act-by, instr-of, instr-by, one-of}
-use Rattle.meaning.specs.WellFormed.{head-guard-fits, span-fits, head-fits, Field, a-state, a-parent, a-variable, an-event, a-constant, a-skip, unused}
+use Rattle.meaning.specs.WellFormed.{head-guard-fits, span-fits, head-fits, Field, a-state, a-parent, a-variable, an-event}
+use Rattle.meaning.specs.WellFormed.{a-constant, a-skip, unused}
 use Rattle.meaning.specs.WellFormed.{Form, no-form, form, FORMS, field-fits, form-fits, instr-fits}
 
 -- ---- the facts
@@ -117,7 +118,8 @@ module _ (k : Counts) where
           → Guard-kept k (head-guard-by v g x)
       go (inl f) =
           guard-none v g x
-          (eqZ-true g (pos 0) (and-left (eqZ g (pos 0)) (eqZ x (pos 0)) (and-right (eqZ v (negsuc 0)) (eqZ g (pos 0) && eqZ x (pos 0)) f)))
+          (eqZ-true g (pos 0) (and-left (eqZ g (pos 0)) (eqZ x (pos 0))
+          (and-right (eqZ v (negsuc 0)) (eqZ g (pos 0) && eqZ x (pos 0)) f)))
       go (inr f) =
           guard-named v g x (ltb-true (ref v) (k .vars) (and-left (one-of (k .vars) v) (count-fits 1 3 g && inRange x) f))
           (and-right (count-fits 1 3 g) (inRange x) (and-right (one-of (k .vars) v) (count-fits 1 3 g && inRange x) f))
@@ -201,7 +203,9 @@ module _ (k : Counts) (left : ℕ) where
   code-kept (pos zero) x y z e = absurd (false≢true e)
   code-kept (pos (suc zero)) x y z e = state-kept x (three a-state unused unused x y z e .0)
   code-kept (pos (suc (suc zero))) x y z e = let t = three a-state a-parent unused x y z e in (state-kept x (t .0), parent-kept y (t .1))
-  code-kept (pos (suc (suc (suc zero)))) x y z e = let t = three a-state a-skip unused x y z e in (state-kept x (t .0), skip-kept y (t .1))
+  code-kept (pos (suc (suc (suc zero)))) x y z e =
+      let t = three a-state a-skip unused x y z e in
+      (state-kept x (t .0), skip-kept y (t .1))
   code-kept (pos (suc (suc (suc (suc zero))))) x y z e =
       let t = three a-state a-skip unused x y z e in
       (state-kept x (t .0), skip-kept y (t .1))

@@ -180,4 +180,5 @@ module _ (ns : List ℤ) (start n : ℕ) (within : start + n ≤ counts-of ns .i
   pub block-at : (j : ℕ) (d : Instr) → j < n
       → getD (take n (drop start (plan-by ns .code))) j d ≡ instr-by (row INSTR-ROW (code-at (counts-of ns)) (start + j) ns)
   block-at j d h =
-      getD-take n (drop start (plan-by ns .code)) j d h ∙ getD-drop start (plan-by ns .code) j d ∙ instr-of-plan ns (start + j) d (omega arith)
+      getD-take n (drop start (plan-by ns .code)) j d h ∙ getD-drop start (plan-by ns .code) j d
+      ∙ instr-of-plan ns (start + j) d (omega arith)

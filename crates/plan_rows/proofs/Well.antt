@@ -20,10 +20,12 @@ use Rattle.meaning.specs.declared.plan.Instr.{Instr}
 use Rattle.meaning.specs.Rules.{row-fits}
 use Rattle.meaning.specs.Value.{num, count-fits, VAR-ROW, var-by, var-statable}
 use Rattle.meaning.specs.WellFormed.{SIX, HEAD-ROW, INSTR-ROW, counts-of, heads-at, code-at, plan-end, head-rows, head-by, instr-by}
-use Rattle.meaning.specs.WellFormed.{counts-keep, var-keeps, head-fits, blocks-fill, instr-fits, left-after-each, left-in-blocks, code-fits, well-formed}
+use Rattle.meaning.specs.WellFormed.{counts-keep, var-keeps, head-fits, blocks-fill, instr-fits, left-after-each, left-in-blocks}
+use Rattle.meaning.specs.WellFormed.{code-fits, well-formed}
 use Rattle.plan_rows.specs.Rows.{row, Sized}
 use Rattle.plan_rows.proofs.Rows.{sized, var-rows-length, var-rows-at, head-rows-length, head-rows-at}
-use Rattle.plan_rows.proofs.Blocks.{fills-start, fills-within, code-joined, left-length, code-block, block-instr, block-within, block-fits}
+use Rattle.plan_rows.proofs.Blocks.{fills-start, fills-within, code-joined, left-length, code-block, block-instr}
+use Rattle.plan_rows.proofs.Blocks.{block-within, block-fits}
 use Rattle.plan_rows.proofs.Verdict.{well-counted, well-whole, well-vars, well-heads, well-blocks, well-code}
 use Rattle.plan_rows.proofs.Kept.{Head-kept, Instr-kept, count-kept, head-kept, instr-kept}
 
@@ -99,7 +101,8 @@ module _ (ns : List ℤ) (e : well-formed ns ≡ true) where
   filled = let s = sized ns in fills-start ns (counts-of ns) (started ns) (omega arith) ∙ well-blocks ns e
 
   -- the start block fits, and so do the others
-  code-parts : (code-fits (counts-of ns) (left-after-each (counts-of ns .start)) (drop (code-at (counts-of ns) + 0 * INSTR-ROW) ns) ≡ true)
+  code-parts : (code-fits (counts-of ns) (left-after-each (counts-of ns .start)) (drop (code-at (counts-of ns) + 0 * INSTR-ROW) ns)
+      ≡ true)
       × (code-fits (counts-of ns) (concat-map left-after-each (map (λ r. ref (num r 9)) (head-rows ns (counts-of ns))))
       (drop (code-at (counts-of ns) + (0 + counts-of ns .start) * INSTR-ROW) ns) ≡ true)
   unfolding left-in-blocks concat-map
@@ -107,7 +110,8 @@ module _ (ns : List ℤ) (e : well-formed ns ≡ true) where
       let k = counts-of ns in
       let z : code-at k + 0 * INSTR-ROW ≡ code-at k = omega arith in
       let ys = concat-map left-after-each (map (λ r. ref (num r 9)) (head-rows ns k)) in
-      let f = sym (code-block k (code-at k) 0 (k .start) ys ns) ∙ ap (λ m. code-fits k (left-after-each (k .start) ++ ys) (drop m ns)) z ∙ well-code ns e in (
+      let f = sym (code-block k (code-at k) 0 (k .start) ys ns)
+      ∙ ap (λ m. code-fits k (left-after-each (k .start) ++ ys) (drop m ns)) z ∙ well-code ns e in (
         and-left (code-fits k (left-after-each (k .start)) (drop (code-at k + 0 * INSTR-ROW) ns)) _ f,
         and-right (code-fits k (left-after-each (k .start)) (drop (code-at k + 0 * INSTR-ROW) ns)) _ f,
       )
@@ -136,7 +140,8 @@ module _ (ns : List ℤ) (e : well-formed ns ≡ true) where
       let z : (0 + k .start) ≡ k .start = omega arith in
       block-kept (head-at ns h .start) (head-at ns h .length)
       (rw (head-of h l)
-      at (block-fits k (k .instructions) (code-at k) (k .start) ns (head-rows ns k) filled (rw z at (code-parts .1)) h (rw (head-rows-length ns k) l)))
+      at (block-fits k (k .instructions) (code-at k) (k .start) ns (head-rows ns k) filled (rw z at (code-parts .1)) h
+      (rw (head-rows-length ns k) l)))
 
   pub well : Well ns
   well = record {

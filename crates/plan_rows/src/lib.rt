@@ -50,7 +50,8 @@ ghost use lib.ListN.{getD, length};
 ghost use lib.IntN.{pos};
 ghost use Rattle.numbers.specs.Reference.{ref};
 ghost use Rattle.meaning.specs.Value.{size-by, var-by, VAR-ROW};
-ghost use Rattle.meaning.specs.WellFormed.{SIX, HEAD-ROW, INSTR-ROW, counts-of, heads-at, code-at, plan-end, head-guard-by, head-by, instr-by};
+ghost use Rattle.meaning.specs.WellFormed.{SIX, HEAD-ROW, INSTR-ROW, counts-of, heads-at, code-at, plan-end, head-guard-by, head-by};
+ghost use Rattle.meaning.specs.WellFormed.{instr-by};
 ghost use Rattle.plan_rows.specs.Rows.{Sized, row};
 
 // The count at i, 0 where it does not keep its size.
@@ -134,7 +135,8 @@ pub fn var_row(plan: &[i32], v: usize) -> VarRow
 // The guard of the head whose row begins at this place.
 pub fn guard_at(plan: &[i32], at: usize) -> Guard
     requires { ⌜ at + HEAD-ROW ≤ length (now plan) ⌝ }
-    ensures { λ r. ⌜ r ≡ head-guard-by (getD (now (plan .entry)) (at + 3) (pos 0)) (getD (now (plan .entry)) (at + 4) (pos 0)) (getD (now (plan .entry)) (at + 5) (pos 0)) ⌝ }
+    ensures { λ r. ⌜ r ≡ head-guard-by (getD (now (plan .entry)) (at + 3) (pos 0)) (getD (now (plan .entry)) (at + 4) (pos 0))
+        (getD (now (plan .entry)) (at + 5) (pos 0)) ⌝ }
 {
     head_guard_by(
         read(plan, at + GUARD_VAR),

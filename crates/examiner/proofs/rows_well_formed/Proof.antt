@@ -15,14 +15,16 @@ returns-2 : tie.Need-returns-2
 returns-2 c =
     let v = c .before .before .before in
     let a = v .before .args in
-    rows-heads (a .plan .now) (a .k) (held (v .vars-keep .ensures) (c .before .before .if1 .left)) (refuted (c .before .heads-fit .ensures) (c .if2 .taken))
+    rows-heads (a .plan .now) (a .k) (held (v .vars-keep .ensures) (c .before .before .if1 .left))
+    (refuted (c .before .heads-fit .ensures) (c .if2 .taken))
 
 returns-3 : tie.Need-returns-3
 returns-3 c =
     let h = c .before .before .before in
     let v = h .before .before in
     let a = v .before .args in
-    rows-blocks (a .plan .now) (a .k) (held (v .vars-keep .ensures) (h .before .if1 .left)) (held (h .heads-fit .ensures) (c .before .before .if2 .left))
+    rows-blocks (a .plan .now) (a .k) (held (v .vars-keep .ensures) (h .before .if1 .left))
+    (held (h .heads-fit .ensures) (c .before .before .if2 .left))
     (refuted (c .before .blocks-fill .ensures) (c .if3 .taken))
 
 code-fits-requires : tie.Need-code-fits-requires
@@ -35,7 +37,8 @@ returns-4 c =
     let v = h .before .before in
     let a = v .before .args in
     c .code-fits .ensures
-    ∙ rows-code (a .plan .now) (a .k) (held (v .vars-keep .ensures) (h .before .if1 .left)) (held (h .heads-fit .ensures) (b .before .if2 .left))
+    ∙ rows-code (a .plan .now) (a .k) (held (v .vars-keep .ensures) (h .before .if1 .left))
+    (held (h .heads-fit .ensures) (b .before .if2 .left))
     (held (b .blocks-fill .ensures) (c .before .if3 .left))
 
 pub rows-well-formed-spec : {M : Type 1} → statement M

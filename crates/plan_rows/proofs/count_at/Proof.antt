@@ -10,7 +10,8 @@ use borrow.Author.Needs.{needs}
 use Rattle.plan_rows.proofs.count_at.Statement.{statement}
 use Rattle.plan_rows.proofs.count_at.Tie as tie
 
-counted : (c : tie.After-reference) → c .reference .result ≡ ref (getD (c .before .before .args .plan .now) (c .before .before .args .i) (pos 0))
+counted : (c : tie.After-reference) → c .reference .result
+    ≡ ref (getD (c .before .before .args .plan .now) (c .before .before .args .i) (pos 0))
 counted c = said-of ref (c .before .number-at .ok) (c .before .number-at .ensures) (c .reference .ensures)
 
 returns : tie.Need-returns

@@ -44,7 +44,8 @@ unfolding head-rows
 loop-holds c =
     let s = c .before .before .before in
     let a = s .args in (
-      ap (λ m. blocks-fill (a .k .instructions) (a .k .start) (chunks (a .k .heads) HEAD-ROW (drop m (a .plan .now)))) (c .heads-at .ensures) ∙ begun s,
+      ap (λ m. blocks-fill (a .k .instructions) (a .k .start) (chunks (a .k .heads) HEAD-ROW (drop m (a .plan .now))))
+          (c .heads-at .ensures) ∙ begun s,
       omega arith,
       omega (arith, heads-there (a .plan .now) (a .k) (s .pre), c .heads-at .ensures),
     )
@@ -56,7 +57,8 @@ returns-2 : tie.Need-returns-2 Inv-loop μ-loop
 returns-2 c =
     let a = c .before .before .before .before .before .before .before .args in
     let w = c .before .before .before .loop in
-    fill-gap (a .k .instructions) (w .end) (w .at) (w .left) (a .plan .now) (omega arith) (refuted (c .before .begins-with .ensures) (c .if2 .taken)) (w .inv .0)
+    fill-gap (a .k .instructions) (w .end) (w .at) (w .left) (a .plan .now) (omega arith)
+    (refuted (c .before .begins-with .ensures) (c .if2 .taken)) (w .inv .0)
 
 named-requires : tie.Need-named-requires Inv-loop μ-loop
 named-requires c κs = omega arith
@@ -70,7 +72,8 @@ returns-3 c =
     let s = b .before .before .before .before .before .before in
     let w = b .before .before .loop in
     fill-long (s .args .k .instructions) (w .end) (w .at) (w .left) (s .args .plan .now) (omega arith)
-    (whole-few (s .args .plan .now) (s .args .k) (s .pre)) (w .inv .1) (held (b .begins-with .ensures) (c .before .before .before .if2 .left))
+    (whole-few (s .args .plan .now) (s .args .k) (s .pre)) (w .inv .1)
+    (held (b .begins-with .ensures) (c .before .before .before .if2 .left))
     (c .before .before .named .result) (c .before .before .named .ensures) (c .if3 .taken) (w .inv .0)
 
 loop-again : tie.Need-loop-again Inv-loop μ-loop
@@ -79,7 +82,8 @@ loop-again c =
     let s = b .before .before .before .before .before .before in
     let w = b .before .before .loop in (
       fill-next (s .args .k .instructions) (w .end) (w .at) (w .left) (s .args .plan .now) (omega arith)
-          (whole-few (s .args .plan .now) (s .args .k) (s .pre)) (w .inv .1) (held (b .begins-with .ensures) (c .before .before .before .if2 .left))
+          (whole-few (s .args .plan .now) (s .args .k) (s .pre)) (w .inv .1)
+          (held (b .begins-with .ensures) (c .before .before .before .if2 .left))
           (c .before .before .named .result) (c .before .before .named .ensures) (w .inv .0),
       omega arith,
       omega arith,

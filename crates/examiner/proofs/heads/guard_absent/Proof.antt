@@ -19,7 +19,8 @@ returns-2 c =
 returns-3 : tie.Need-returns-3
 returns-3 c =
     let f = c .before .before .before .before .before .fits in
-    on (held (said-own (λ z. eqZ z (negsuc 0)) (f .v) (c .before .before .before .before .same .ensures)) (c .before .before .before .if1 .left))
+    on (held (said-own (λ z. eqZ z (negsuc 0)) (f .v) (c .before .before .before .before .same .ensures))
+    (c .before .before .before .if1 .left))
     (on (held (said-own (λ z. eqZ z (pos 0)) (f .g) (c .before .before .same2 .ensures)) (c .before .if2 .left))
     (said-own (λ z. eqZ z (pos 0)) (f .x) (c .same3 .ensures)))
 

@@ -36,7 +36,8 @@ unfolding head-guard-fits
 returns-3 c =
     let s = c .before .before .before .before .before .before in
     or-else (sym (absent (c .before .before .before .before .before)) ∙ c .before .before .before .before .if1 .left)
-    (on (held (said-own (one-of (s .args .k .vars)) (s .fits .v) (c .before .before .before .one-of .ensures)) (c .before .before .if2 .left))
+    (on (held (said-own (one-of (s .args .k .vars)) (s .fits .v) (c .before .before .before .one-of .ensures))
+    (c .before .before .if2 .left))
     (rw (refuted (said-own (count-fits 1 3) (s .fits .g) (c .before .count-fits .ensures)) (c .if3 .taken))))
 
 returns-4 : tie.Need-returns-4
@@ -44,7 +45,8 @@ unfolding head-guard-fits
 returns-4 c =
     let s = c .before .before .before .before .before .before .before in
     or-else (sym (absent (c .before .before .before .before .before .before)) ∙ c .before .before .before .before .before .if1 .left)
-    (on (held (said-own (one-of (s .args .k .vars)) (s .fits .v) (c .before .before .before .before .one-of .ensures)) (c .before .before .before .if2 .left))
+    (on (held (said-own (one-of (s .args .k .vars)) (s .fits .v) (c .before .before .before .before .one-of .ensures))
+    (c .before .before .before .if2 .left))
     (on (held (said-own (count-fits 1 3) (s .fits .g) (c .before .before .count-fits .ensures)) (c .before .if3 .left))
     (said-own inRange (s .fits .x) (c .in-range .ensures))))
 

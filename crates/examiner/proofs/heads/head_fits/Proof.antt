@@ -28,20 +28,24 @@ transition c = said-of (one-of TRANSITIONS) (c .before .read .ok) (c .before .re
 
 trigger : (c : tie.After-count-fits)
     → c .count-fits .result
-    ≡ count-fits 0 (start-from-count-fits c .args .k .events) (getD (start-from-count-fits c .args .plan .now) (start-from-count-fits c .args .at + 2) (pos 0))
+    ≡ count-fits 0 (start-from-count-fits c .args .k .events)
+    (getD (start-from-count-fits c .args .plan .now) (start-from-count-fits c .args .at + 2) (pos 0))
 trigger c =
-    said-of (count-fits 0 (start-from-count-fits c .args .k .events)) (c .before .read2 .ok) (c .before .read2 .ensures) (c .count-fits .ensures)
+    said-of (count-fits 0 (start-from-count-fits c .args .k .events)) (c .before .read2 .ok) (c .before .read2 .ensures)
+    (c .count-fits .ensures)
 
 span : (c : tie.After-span-fits)
     → c .span-fits .result
-    ≡ span-fits (start-from-span-fits c .args .k) (getD (start-from-span-fits c .args .plan .now) (start-from-span-fits c .args .at + 1) (pos 0))
+    ≡ span-fits (start-from-span-fits c .args .k) (getD (start-from-span-fits c .args .plan .now)
+    (start-from-span-fits c .args .at + 1) (pos 0))
     (getD (start-from-span-fits c .args .plan .now) (start-from-span-fits c .args .at + 6) (pos 0))
     (getD (start-from-span-fits c .args .plan .now) (start-from-span-fits c .args .at + 7) (pos 0))
 span c =
     let x = c .before .before .before .read3 in
     let y = c .before .before .read4 in
     let z = c .before .read5 in
-    said-of3 (span-fits (start-from-span-fits c .args .k)) (x .ok) (x .ensures) (y .ok) (y .ensures) (z .ok) (z .ensures) (c .span-fits .ensures)
+    said-of3 (span-fits (start-from-span-fits c .args .k)) (x .ok) (x .ensures) (y .ok) (y .ensures) (z .ok) (z .ensures)
+    (c .span-fits .ensures)
 
 returns : tie.Need-returns
 returns c =

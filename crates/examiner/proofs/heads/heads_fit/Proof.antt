@@ -14,7 +14,8 @@ use Rattle.examiner.proofs.heads.heads_fit.Tie as tie
 
 abbrev Inv-loop : tie.InvT-loop
 Inv-loop plan k at₀ left₀ at left =
-    (every (head-fits k) (chunks left HEAD-ROW (drop at plan)) ≡ every (head-fits k) (head-rows plan k)) × (at + left * HEAD-ROW ≤ length plan)
+    (every (head-fits k) (chunks left HEAD-ROW (drop at plan)) ≡ every (head-fits k) (head-rows plan k))
+    × (at + left * HEAD-ROW ≤ length plan)
 
 abbrev μ-loop : tie.MeasureT-loop
 μ-loop plan k at₀ left₀ at left = left
@@ -39,7 +40,8 @@ returns : tie.Need-returns Inv-loop μ-loop
 returns c =
     let a = c .before .before .before .before .before .args in
     let w = c .before .before .before .loop in
-    each-stop (head-fits (a .k)) HEAD-ROW (w .at) (w .left) (a .plan .now) (omega arith) (refuted (c .before .head-fits .ensures) (c .if1 .taken)) (w .inv .0)
+    each-stop (head-fits (a .k)) HEAD-ROW (w .at) (w .left) (a .plan .now) (omega arith)
+    (refuted (c .before .head-fits .ensures) (c .if1 .taken)) (w .inv .0)
 
 add-at : tie.Need-add-at Inv-loop μ-loop
 add-at c = search needs
@@ -54,7 +56,8 @@ loop-again : tie.Need-loop-again Inv-loop μ-loop
 loop-again c =
     let a = c .before .before .before .before .before .args in
     let w = c .before .before .before .loop in (
-      each-next (head-fits (a .k)) HEAD-ROW (w .at) (w .left) (a .plan .now) (omega arith) (held (c .before .head-fits .ensures) (c .if1 .left)) (w .inv .0),
+      each-next (head-fits (a .k)) HEAD-ROW (w .at) (w .left) (a .plan .now) (omega arith)
+          (held (c .before .head-fits .ensures) (c .if1 .left)) (w .inv .0),
       omega arith,
     )
 

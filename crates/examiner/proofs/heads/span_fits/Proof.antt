@@ -17,7 +17,8 @@ first-from-one-of c =
     said-own (one-of (c .before .before .before .args .k .states)) (c .before .before .before .fits .first) (c .one-of2 .ensures)
 
 last-from-one-of : (c : tie.After-one-of3)
-    → c .one-of3 .result ≡ one-of (c .before .before .before .before .before .args .k .states) (c .before .before .before .before .before .args .last)
+    → c .one-of3 .result ≡ one-of (c .before .before .before .before .before .args .k .states)
+    (c .before .before .before .before .before .args .last)
 last-from-one-of c =
     let s = c .before .before .before .before .before in
     said-own (one-of (s .args .k .states)) (s .fits .last) (c .one-of3 .ensures)

@@ -1,11 +1,12 @@
 -- `code_fits` tries each block, the start block first. Assumes nothing.
 use mathlib.Core.Path.{_≡_, sym, ap, _∙_}
 use mathlib.Core.Bool.{true}
-use Prim.Native.Nat.{_+_, _*_, _≤_}
+use Prim.Native.Nat.{ℕ, _+_, _*_, _≤_}
 use native.Mathlib.Omega.{arith}
 use lib.ListN.{length, drop}
 use Rattle.meaning.specs.Lists.{chunks}
-use Rattle.meaning.specs.WellFormed.{HEAD-ROW, INSTR-ROW, heads-at, code-at, head-rows, blocks-fill, left-after-each, left-in-blocks, code-fits, all-blocks-fill}
+use Rattle.meaning.specs.WellFormed.{HEAD-ROW, INSTR-ROW, heads-at, code-at, head-rows, blocks-fill, left-after-each}
+use Rattle.meaning.specs.WellFormed.{left-in-blocks, code-fits, all-blocks-fill}
 use Rattle.plan_rows.proofs.Blocks.{fills-start, fills-within}
 use Rattle.rules.proofs.Tests.{refuted, held}
 use Rattle.examiner.proofs.Wholes.{whole-sized, whole-start, whole-few, heads-there, code-there}
@@ -26,8 +27,12 @@ abbrev μ-loop : tie.MeasureT-loop
 abbrev start-from-named : tie.After-named Inv-loop μ-loop → tie.Start Inv-loop μ-loop
 start-from-named c = c .before .before .before .before .before .before .before
 
+abbrev base-from-named : tie.After-named Inv-loop μ-loop → ℕ
+base-from-named c = c .before .before .before .before .before .before .code-at .result
+
 -- the blocks fill the instructions, so the start block lies within them
-begun : (c : tie.Start Inv-loop μ-loop) → blocks-fill (c .args .k .instructions) (c .args .k .start) (head-rows (c .args .plan .now) (c .args .k)) ≡ true
+begun : (c : tie.Start Inv-loop μ-loop)
+    → blocks-fill (c .args .k .instructions) (c .args .k .start) (head-rows (c .args .plan .now) (c .args .k)) ≡ true
 begun c =
     fills-start (c .args .plan .now) (c .args .k) (whole-start (c .args .plan .now) (c .args .k) (c .pre .0))
     (whole-few (c .args .plan .now) (c .args .k) (c .pre .0))
@@ -43,10 +48,24 @@ block-fits-requires c κs =
     let w = fills-within (a .k .instructions) (a .k .start) (head-rows (a .plan .now) (a .k)) (begun (c .before)) in
     (s, omega arith, omega (arith, code-there (a .plan .now) (a .k) (c .before .pre .0), c .code-at .ensures))
 
+-- what the call for the start block says, and that for a head's block
+start-tried : (c : tie.After-block-fits Inv-loop μ-loop)
+    → c .block-fits .result
+    ≡ code-fits (c .before .before .args .k) (left-after-each (c .before .before .args .k .start))
+    (drop (c .before .code-at .result) (c .before .before .args .plan .now))
+start-tried c = c .block-fits .ensures
+
+block-tried : (c : tie.After-block-fits2 Inv-loop μ-loop)
+    → c .block-fits2 .result
+    ≡ code-fits (start-from-named (c .before) .args .k) (left-after-each (c .before .named .result))
+    (drop (base-from-named (c .before) + c .before .before .before .loop .done * INSTR-ROW) (start-from-named (c .before) .args .plan .now))
+block-tried c = c .block-fits2 .ensures
+
 returns : tie.Need-returns Inv-loop μ-loop
 returns c =
     let a = c .before .before .before .args in
-    rw (blocks-start (a .k) (a .plan .now), ← c .before .before .code-at .ensures) (rw (refuted (c .before .block-fits .ensures) (c .if1 .taken)))
+    rw (blocks-start (a .k) (a .plan .now), ← c .before .before .code-at .ensures)
+    (rw (refuted (start-tried (c .before)) (c .if1 .taken)))
 
 heads-at-requires : tie.Need-heads-at-requires Inv-loop μ-loop
 heads-at-requires c κs =
@@ -59,7 +78,7 @@ loop-holds c =
     let s = c .before .before .before .before in
     let a = s .args in (
       rw (blocks-start (a .k) (a .plan .now), ← c .before .before .before .code-at .ensures)
-          (rw (held (c .before .before .block-fits .ensures) (c .before .if1 .left), c .heads-at .ensures)),
+          (rw (held (start-tried (c .before .before)) (c .before .if1 .left), c .heads-at .ensures)),
       rw (c .heads-at .ensures) (begun s),
       omega (arith, heads-there (a .plan .now) (a .k) (s .pre .0), c .heads-at .ensures),
     )
@@ -70,11 +89,13 @@ add-named c = search needs
 named-requires : tie.Need-named-requires Inv-loop μ-loop
 named-requires c κs = omega arith
 
-inside : (c : tie.After-named Inv-loop μ-loop) → c .before .before .loop .done + c .named .result ≤ start-from-named c .args .k .instructions
+inside : (c : tie.After-named Inv-loop μ-loop)
+    → c .before .before .loop .done + c .named .result ≤ start-from-named c .args .k .instructions
 inside c =
     let a = start-from-named c .args in
     let w = c .before .before .loop in
-    filled-within (a .k) (c .before .before .before .before .before .before .code-at .result) (w .done) (w .left) (w .head) (a .plan .now) (c .named .result)
+    filled-within (a .k) (base-from-named c) (w .done) (w .left) (w .head)
+    (a .plan .now) (c .named .result)
     (c .named .ensures) (omega arith) (a .k .instructions) (w .inv .1)
 
 mul-block-fits : tie.Need-mul-block-fits Inv-loop μ-loop
@@ -85,7 +106,12 @@ mul-block-fits c =
 add-block-fits : tie.Need-add-block-fits Inv-loop μ-loop
 add-block-fits c =
     let s = start-from-named c in
-    omega (arith, inside c, code-there (s .args .plan .now) (s .args .k) (s .pre .0), c .before .before .before .before .before .before .code-at .ensures)
+    omega (
+      arith,
+      inside c,
+      code-there (s .args .plan .now) (s .args .k) (s .pre .0),
+      c .before .before .before .before .before .before .code-at .ensures,
+    )
 
 block-fits-requires-2 : tie.Need-block-fits-requires-2 Inv-loop μ-loop
 block-fits-requires-2 c κs =
@@ -94,7 +120,11 @@ block-fits-requires-2 c κs =
     let i = inside c in (
       z,
       omega arith,
-      omega (arith, code-there (s .args .plan .now) (s .args .k) (s .pre .0), c .before .before .before .before .before .before .code-at .ensures),
+      omega (
+        arith,
+        code-there (s .args .plan .now) (s .args .k) (s .pre .0),
+        c .before .before .before .before .before .before .code-at .ensures,
+      ),
     )
 
 returns-2 : tie.Need-returns-2 Inv-loop μ-loop
@@ -102,8 +132,9 @@ returns-2 c =
     let d = c .before .before in
     let a = start-from-named d .args in
     let w = d .before .before .loop in
-    blocks-stop (a .k) (d .before .before .before .before .before .before .code-at .result) (w .done) (w .left) (w .head) (a .plan .now) (d .named .result)
-    (d .named .ensures) (omega arith) (refuted (c .before .block-fits2 .ensures) (c .if2 .taken)) (w .inv .0)
+    blocks-stop (a .k) (base-from-named d) (w .done) (w .left) (w .head)
+    (a .plan .now) (d .named .result)
+    (d .named .ensures) (omega arith) (refuted (block-tried (c .before)) (c .if2 .taken)) (w .inv .0)
 
 add-done : tie.Need-add-done Inv-loop μ-loop
 add-done c =
@@ -125,10 +156,11 @@ loop-again c =
     let d = c .before .before in
     let a = start-from-named d .args in
     let w = d .before .before .loop in
-    let b = d .before .before .before .before .before .before .code-at .result in (
+    let b = base-from-named d in (
       blocks-next (a .k) b (w .done) (w .left) (w .head) (a .plan .now) (d .named .result) (d .named .ensures) (omega arith)
-          (held (c .before .block-fits2 .ensures) (c .if2 .left)) (w .inv .0),
-      filled-on (a .k) b (w .done) (w .left) (w .head) (a .plan .now) (d .named .result) (d .named .ensures) (omega arith) (a .k .instructions) (w .inv .1),
+          (held (block-tried (c .before)) (c .if2 .left)) (w .inv .0),
+      filled-on (a .k) b (w .done) (w .left) (w .head) (a .plan .now) (d .named .result) (d .named .ensures) (omega arith)
+          (a .k .instructions) (w .inv .1),
       omega arith,
     )
 

@@ -15,7 +15,8 @@ use Rattle.examiner.proofs.instructions.instr_fits.Tie as tie
 
 -- the form that the code has, by the definitions
 known : (c : tie.After-form-by)
-    → form-of (c .form-by .result) ≡ getD FORMS (ref (getD (c .before .before .args .plan .now) (c .before .before .args .at + 0) (pos 0))) no-form
+    → form-of (c .form-by .result) ≡ getD FORMS (ref (getD (c .before .before .args .plan .now) (c .before .before .args .at + 0)
+    (pos 0))) no-form
 known c = c .form-by .ensures ∙ ap (λ m. getD FORMS m no-form) (c .before .named .ensures)
 
 returns : tie.Need-returns
@@ -26,7 +27,8 @@ returns c =
     let g = t .form .given in
     let x = c .before .before .read in
     rw (instr-read (a .k) (a .plan .now) (a .at) (a .left) (g .0 .0) (g .0 .1 .0) (g .0 .1 .1 .0) (sym (ap form-of (g .1)) ∙ known b))
-    (rw (refuted (said-of (field-fits (a .k) (a .left) (field-of (g .0 .0))) (x .ok) (x .ensures) (c .before .field-fits .ensures)) (c .if1 .taken)))
+    (rw (refuted (said-of (field-fits (a .k) (a .left) (field-of (g .0 .0))) (x .ok) (x .ensures) (c .before .field-fits .ensures))
+    (c .if1 .taken)))
 
 returns-2 : tie.Need-returns-2
 returns-2 c =
@@ -38,8 +40,10 @@ returns-2 c =
     let x = f .before .read in
     let y = c .before .before .read2 in
     rw (instr-read (a .k) (a .plan .now) (a .at) (a .left) (g .0 .0) (g .0 .1 .0) (g .0 .1 .1 .0) (sym (ap form-of (g .1)) ∙ known b))
-    (on (held (said-of (field-fits (a .k) (a .left) (field-of (g .0 .0))) (x .ok) (x .ensures) (f .field-fits .ensures)) (c .before .before .before .if1 .left))
-    (rw (refuted (said-of (field-fits (a .k) (a .left) (field-of (g .0 .1 .0))) (y .ok) (y .ensures) (c .before .field-fits2 .ensures)) (c .if2 .taken))))
+    (on (held (said-of (field-fits (a .k) (a .left) (field-of (g .0 .0))) (x .ok) (x .ensures) (f .field-fits .ensures))
+    (c .before .before .before .if1 .left))
+    (rw (refuted (said-of (field-fits (a .k) (a .left) (field-of (g .0 .1 .0))) (y .ok) (y .ensures)
+    (c .before .field-fits2 .ensures)) (c .if2 .taken))))
 
 returns-3 : tie.Need-returns-3
 returns-3 c =
@@ -59,8 +63,10 @@ returns-4 c =
     let y = s .before .read2 in
     let z = c .before .read3 in
     rw (instr-read (a .k) (a .plan .now) (a .at) (a .left) (g .0 .0) (g .0 .1 .0) (g .0 .1 .1 .0) (sym (ap form-of (g .1)) ∙ known b))
-    (on (held (said-of (field-fits (a .k) (a .left) (field-of (g .0 .0))) (x .ok) (x .ensures) (f .field-fits .ensures)) (s .before .before .if1 .left))
-    (on (held (said-of (field-fits (a .k) (a .left) (field-of (g .0 .1 .0))) (y .ok) (y .ensures) (s .field-fits2 .ensures)) (c .before .before .if2 .left))
+    (on (held (said-of (field-fits (a .k) (a .left) (field-of (g .0 .0))) (x .ok) (x .ensures) (f .field-fits .ensures))
+    (s .before .before .if1 .left))
+    (on (held (said-of (field-fits (a .k) (a .left) (field-of (g .0 .1 .0))) (y .ok) (y .ensures) (s .field-fits2 .ensures))
+    (c .before .before .if2 .left))
     (said-of (field-fits (a .k) (a .left) (field-of (g .0 .1 .1 .0))) (z .ok) (z .ensures) (c .field-fits3 .ensures))))
 
 pub instr-fits-spec : {M : Type 1} → statement M

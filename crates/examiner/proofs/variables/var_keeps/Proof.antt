@@ -21,7 +21,8 @@ var-from-low c = var-from-between (c .before .before .before)
 abbrev var-from-high : tie.After-in-range2 → tie.After-var-row
 var-from-high c = var-from-low (c .before .before .before)
 
-ordered : (c : tie.After-between) → c .between .result ≡ within (var-from-between c .var-row .result .low) (var-from-between c .var-row .result .first) (var-from-between c .var-row .result .high)
+ordered : (c : tie.After-between) → c .between .result ≡ within (var-from-between c .var-row .result .low)
+    (var-from-between c .var-row .result .first) (var-from-between c .var-row .result .high)
 ordered c =
     let r = c .before .before .before .before .var-row .result in
     let g = c .before .before .before .struct-told .given in
@@ -43,14 +44,17 @@ returns-2 : tie.Need-returns-2
 returns-2 c =
     let v = var-from-low (c .before) in
     rw (var-read (v .var-row .result) (row VAR-ROW SIX (v .before .args .v) (v .before .args .plan .now)) (v .var-row .ensures))
-    (on (held (ordered (c .before .before .before .before)) (c .before .before .before .if1 .left)) (rw (refuted (low (c .before)) (c .if2 .taken))))
+    (on (held (ordered (c .before .before .before .before)) (c .before .before .before .if1 .left))
+    (rw (refuted (low (c .before)) (c .if2 .taken))))
 
 returns-3 : tie.Need-returns-3
 returns-3 c =
     let v = var-from-high (c .before) in
     rw (var-read (v .var-row .result) (row VAR-ROW SIX (v .before .args .v) (v .before .args .plan .now)) (v .var-row .ensures))
-    (on (held (ordered (c .before .before .before .before .before .before .before)) (c .before .before .before .before .before .before .if1 .left))
-    (on (held (low (c .before .before .before .before)) (c .before .before .before .if2 .left)) (rw (refuted (high (c .before)) (c .if3 .taken)))))
+    (on (held (ordered (c .before .before .before .before .before .before .before))
+    (c .before .before .before .before .before .before .if1 .left))
+    (on (held (low (c .before .before .before .before)) (c .before .before .before .if2 .left))
+    (rw (refuted (high (c .before)) (c .if3 .taken)))))
 
 returns-4 : tie.Need-returns-4
 returns-4 c =

@@ -10,19 +10,22 @@ use Rattle.plan_rows.proofs.decode.head_guard_by.Tie as tie
 returns : tie.Need-returns
 returns c =
     let s = c .before .before .before in
-    equal-said (s .args .v) (s .args .g) (s .args .x) (said ref (s .fits .g) (c .before .before .reference .ensures) (c .before .match .keys1))
+    equal-said (s .args .v) (s .args .g) (s .args .x) (said ref (s .fits .g) (c .before .before .reference .ensures)
+    (c .before .match .keys1))
     (said-own ref (s .fits .v) (c .reference2 .ensures)) (toZ-ofZ (s .fits .x))
 
 returns-2 : tie.Need-returns-2
 returns-2 c =
     let s = c .before .before .before in
-    less-said (s .args .v) (s .args .g) (s .args .x) (said ref (s .fits .g) (c .before .before .reference .ensures) (c .before .match .keys2))
+    less-said (s .args .v) (s .args .g) (s .args .x) (said ref (s .fits .g) (c .before .before .reference .ensures)
+    (c .before .match .keys2))
     (said-own ref (s .fits .v) (c .reference3 .ensures)) (toZ-ofZ (s .fits .x))
 
 returns-3 : tie.Need-returns-3
 returns-3 c =
     let s = c .before .before .before in
-    more-said (s .args .v) (s .args .g) (s .args .x) (said ref (s .fits .g) (c .before .before .reference .ensures) (c .before .match .keys3))
+    more-said (s .args .v) (s .args .g) (s .args .x) (said ref (s .fits .g) (c .before .before .reference .ensures)
+    (c .before .match .keys3))
     (said-own ref (s .fits .v) (c .reference4 .ensures)) (toZ-ofZ (s .fits .x))
 
 returns-4 : tie.Need-returns-4

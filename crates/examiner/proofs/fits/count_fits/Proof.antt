@@ -4,8 +4,8 @@ use mir.Facts.{toZ-ofZ}
 use Rattle.numbers.specs.Range.{within}
 use Rattle.numbers.proofs.Laws.{back32}
 use borrow.Author.Needs.{needs}
-use Rattle.examiner.proofs.tests.count_fits.Statement.{statement}
-use Rattle.examiner.proofs.tests.count_fits.Tie as tie
+use Rattle.examiner.proofs.fits.count_fits.Statement.{statement}
+use Rattle.examiner.proofs.fits.count_fits.Tie as tie
 
 returns : tie.Need-returns
 unfolding within

@@ -4,8 +4,8 @@ use lib.Dec.{ltb}
 use Rattle.numbers.specs.Reference.{ref}
 use Rattle.chart.proofs.Said.{said-own}
 use borrow.Author.Needs.{needs}
-use Rattle.examiner.proofs.tests.one_of.Statement.{statement}
-use Rattle.examiner.proofs.tests.one_of.Tie as tie
+use Rattle.examiner.proofs.fits.one_of.Statement.{statement}
+use Rattle.examiner.proofs.fits.one_of.Tie as tie
 
 returns : tie.Need-returns
 returns c = ap (λ m. ltb m (c .before .args .n)) (said-own ref (c .before .fits .z) (c .reference .ensures))
