@@ -10,6 +10,17 @@ use Rattle.meaning.specs.WellFormed.{well-formed}
 use Rattle.plan_rows.proofs.Well.{Well, well}
 use Rattle.examiner.specs.Examined.{examined}
 
+-- the two answers
+module _ (ns : List ℤ) where
+  pub answer-done : well-formed ns ≡ true → record { number = 0; place = 0 } ≡ examined ns
+  unfolding examined
+  answer-done e = rw e
+
+  pub answer-malformed : well-formed ns ≡ false → record { number = 5; place = 0 } ≡ examined ns
+  unfolding examined
+  answer-malformed e = rw e
+
+-- what each says
 module _ (ns : List ℤ) (a : Answer) (e : a ≡ examined ns) where
   pub passed : a .number ≡ 0 → well-formed ns ≡ true
   unfolding examined

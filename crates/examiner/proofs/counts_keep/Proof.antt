@@ -39,11 +39,13 @@ events : (c : tie.After-count-fits3)
 events c = said-of (count-fits 0 EVENTS) (c .before .number-at3 .ok) (c .before .number-at3 .ensures) (c .count-fits3 .ensures)
 
 heads : (c : tie.After-count-fits4)
-    → c .count-fits4 .result ≡ count-fits 0 TRANSITIONS (num (numbers-from-states (states-from-vars (vars-from-events (events-from-heads c)))) 3)
+    → c .count-fits4 .result
+    ≡ count-fits 0 TRANSITIONS (num (numbers-from-states (states-from-vars (vars-from-events (events-from-heads c)))) 3)
 heads c = said-of (count-fits 0 TRANSITIONS) (c .before .number-at4 .ok) (c .before .number-at4 .ensures) (c .count-fits4 .ensures)
 
 instructions : (c : tie.After-count-fits5)
-    → c .count-fits5 .result ≡ count-fits 0 INSTRUCTIONS (num (numbers-from-states (states-from-vars (vars-from-events (events-from-heads (heads-from-code c))))) 4)
+    → c .count-fits5 .result
+    ≡ count-fits 0 INSTRUCTIONS (num (numbers-from-states (states-from-vars (vars-from-events (events-from-heads (heads-from-code c))))) 4)
 instructions c = said-of (count-fits 0 INSTRUCTIONS) (c .before .number-at5 .ok) (c .before .number-at5 .ensures) (c .count-fits5 .ensures)
 
 returns : tie.Need-returns
