@@ -1,6 +1,6 @@
 // Damaged plans run and compared (01, "A plan is well formed when"): the arguments name files of data/, one plan each, one number a line.
 // For each the program prints the plan's name and the answer that its examination gives. A file that cannot be opened prints a dash.
-// The file `stdout` has what must be printed.
+// The file `stdout` has what must be printed: the table of vectors in its order, then plans at the edge of each rule.
 mod lines;
 
 use examiner::examine;
