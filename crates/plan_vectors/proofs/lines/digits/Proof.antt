@@ -1,0 +1,65 @@
+-- `digits` is safe, ends, and stays within the text. Assumes nothing.
+use Prim.Native.Nat.{_-_, _≤_}
+use native.Mathlib.Omega.{arith}
+use lib.ListN.{length}
+use Rattle.numbers.specs.Reference.{NOWHERE}
+use borrow.Author.Needs.{needs}
+use Rattle.plan_vectors.proofs.lines.digits.Statement.{statement}
+use Rattle.plan_vectors.proofs.lines.digits.Tie as tie
+
+abbrev Inv-loop : tie.InvT-loop
+Inv-loop text from value₀ at₀ value at = (from ≤ at) × (at ≤ length text) × (value ≤ NOWHERE)
+
+abbrev μ-loop : tie.MeasureT-loop
+μ-loop text from value₀ at₀ value at = length text - at
+
+loop-holds : tie.Need-loop-holds Inv-loop μ-loop
+loop-holds c = (omega arith, omega arith, omega arith)
+
+shared-slice-read-digit : tie.Need-shared-slice-read-digit Inv-loop μ-loop
+shared-slice-read-digit c = search needs
+
+digit-requires : tie.Need-digit-requires Inv-loop μ-loop
+digit-requires c κs = search needs
+
+returns : tie.Need-returns Inv-loop μ-loop
+returns c = (omega arith, omega arith)
+
+mul-held : tie.Need-mul-held Inv-loop μ-loop
+mul-held c = search needs
+
+add-held : tie.Need-add-held Inv-loop μ-loop
+add-held c = search needs
+
+held-requires : tie.Need-held-requires Inv-loop μ-loop
+held-requires c κs = search needs
+
+add-at : tie.Need-add-at Inv-loop μ-loop
+add-at c = search needs
+
+loop-less : tie.Need-loop-less Inv-loop μ-loop
+loop-less c = omega arith
+
+loop-again : tie.Need-loop-again Inv-loop μ-loop
+loop-again c = (omega arith, omega arith, omega arith)
+
+returns-2 : tie.Need-returns-2 Inv-loop μ-loop
+returns-2 c = (omega arith, omega arith)
+
+pub digits-spec : {M : Type 1} → statement M
+digits-spec =
+    tie.close
+    (tie.spec
+    Inv-loop
+    μ-loop
+    loop-holds
+    shared-slice-read-digit
+    digit-requires
+    returns
+    mul-held
+    add-held
+    held-requires
+    add-at
+    loop-less
+    loop-again
+    returns-2)
