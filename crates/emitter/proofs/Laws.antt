@@ -16,7 +16,7 @@ use Rattle.meaning.specs.declared.plan.Instr.{Instr}
 use Rattle.meaning.specs.declared.plan.Instr.the-variants.{In as go-in, Out as go-out, SkipOut as skip-out, SkipEmpty as skip-empty}
 use Rattle.meaning.specs.declared.plan.Instr.the-variants.{SkipFull as skip-full, SkipNot as skip-not, Does as does}
 use Rattle.meaning.specs.Plan.{slot-number, act-numbers, instr-numbers}
-use Rattle.emitter.specs.Pen.{Pen, pen, puts, emits}
+use Rattle.emitter.specs.Pen.{Pen, pen, puts, emits, Room}
 
 -- ---- numbers
 
@@ -57,7 +57,7 @@ four l at a b c d {l₁} {l₂} {l₃} {l₄} e f g h =
 
 -- ---- instructions
 
-concat-map-append : {A B : Type 0} (f : A → List B) (xs ys : List A) → concat-map f (xs ++ ys) ≡ concat-map f xs ++ concat-map f ys
+pub concat-map-append : {A B : Type 0} (f : A → List B) (xs ys : List A) → concat-map f (xs ++ ys) ≡ concat-map f xs ++ concat-map f ys
 unfolding concat-map
 concat-map-append f [] ys = refl
 concat-map-append f (x ∷ xs) ys = ap (λ l. f x ++ l) (concat-map-append f xs ys) ∙ sym (assoc (f x) (concat-map f xs) (concat-map f ys))
@@ -109,6 +109,27 @@ emits-at is l at e = ap (λ p. p .at) e ∙ emits-count is (pen l at)
 pub emits-one : (i : Instr) (p : Pen) {q : Pen} → q ≡ puts (instr-numbers i) p → q ≡ emits (i ∷ []) p
 unfolding emits concat-map
 emits-one i p e = e ∙ ap (λ l. puts l p) (sym (append-nil (instr-numbers i)))
+
+-- ---- one after the other
+
+pub put-first : (x : Instr) (xs : List Instr) (p : Pen) {q r : Pen} → q ≡ emits (x ∷ []) p → r ≡ emits xs q → r ≡ emits (x ∷ xs) p
+put-first x xs p e f = f ∙ ap (emits xs) e ∙ sym (emits-cons x xs p)
+
+pub put-both : (xs ys : List Instr) (p : Pen) {q r : Pen} → q ≡ emits xs p → r ≡ emits ys q → r ≡ emits (xs ++ ys) p
+put-both xs ys p e f = f ∙ ap (emits ys) e ∙ sym (emits-append xs ys p)
+
+-- what is still to be put after a part of it
+pub owes-on : (xs ys : List Instr) (p : Pen) {q t : Pen} → emits (xs ++ ys) p ≡ t → q ≡ emits xs p → emits ys q ≡ t
+owes-on xs ys p o e = ap (emits ys) e ∙ sym (emits-append xs ys p) ∙ o
+
+pub owes-none : (p : Pen) {t : Pen} → emits [] p ≡ t → p ≡ t
+owes-none p o = sym (emits-none p) ∙ o
+
+-- where there is room for all there is room for the part that comes next
+pub owes-room : (xs ys zs : List Instr) (l l₁ : List ℤ) (at p : ℕ) → emits (xs ++ ys) (pen l₁ p) ≡ emits zs (pen l at) → Room zs at → Room xs p
+owes-room xs ys zs l l₁ at p o r =
+    let e = ap (λ q. q .at) o in
+    omega (arith, emits-count (xs ++ ys) (pen l₁ p), emits-count zs (pen l at), length-append xs ys)
 
 -- what is put leaves the slice's length as it was
 emits-length : (is : List Instr) (p : Pen) → length (emits is p .buf) ≡ length (p .buf)
