@@ -24,22 +24,22 @@ use Rattle.moves.proofs.Among.{stored-plain}
 -- ---- lists
 
 module _ {B : Type 0} (g : ℕ → List B) (p : ℕ → Bool) where
-  range-none : (i e : ℕ) → e ≤ i → concat-map g (keep p (from i (e - i))) ≡ []
+  pub range-none : (i e : ℕ) → e ≤ i → concat-map g (keep p (from i (e - i))) ≡ []
   unfolding concat-map keep from
   range-none i e l = let n : e - i ≡ 0 = omega arith in rw n
 
-  range-next : (i e : ℕ) → i < e → from i (e - i) ≡ i ∷ from (i + 1) (e - (i + 1))
+  pub range-next : (i e : ℕ) → i < e → from i (e - i) ≡ i ∷ from (i + 1) (e - (i + 1))
   unfolding from
   range-next i e l =
       let n : e - i ≡ suc (e - (i + 1)) = omega arith in
       let m : suc i ≡ i + 1 = omega arith in
       ap (from i) n ∙ ap (λ j. i ∷ from j (e - (i + 1))) m
 
-  range-skip : (i e : ℕ) → i < e → p i ≡ false → concat-map g (keep p (from i (e - i))) ≡ concat-map g (keep p (from (i + 1) (e - (i + 1))))
+  pub range-skip : (i e : ℕ) → i < e → p i ≡ false → concat-map g (keep p (from i (e - i))) ≡ concat-map g (keep p (from (i + 1) (e - (i + 1))))
   unfolding concat-map keep
   range-skip i e l q = ap (λ xs. concat-map g (keep p xs)) (range-next i e l) ∙ rw q
 
-  range-take : (i e : ℕ) → i < e → p i ≡ true → concat-map g (keep p (from i (e - i))) ≡ g i ++ concat-map g (keep p (from (i + 1) (e - (i + 1))))
+  pub range-take : (i e : ℕ) → i < e → p i ≡ true → concat-map g (keep p (from i (e - i))) ≡ g i ++ concat-map g (keep p (from (i + 1) (e - (i + 1))))
   unfolding concat-map keep
   range-take i e l q = ap (λ xs. concat-map g (keep p xs)) (range-next i e l) ∙ rw q
 

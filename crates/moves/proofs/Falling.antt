@@ -33,7 +33,7 @@ reverse-last a n =
     let e : suc n ≡ n + 1 = omega arith in
     ap (λ k. reverse (from a k)) e ∙ ap reverse (from-add a n 1) ∙ reverse-append (from a n) (from (a + n) 1)
 
-falls-by : (s d : ℕ) → suc s < d → reverse (from (suc s) (d - suc s)) ≡ (d - 1) ∷ reverse (from (suc s) ((d - 1) - suc s))
+pub falls-by : (s d : ℕ) → suc s < d → reverse (from (suc s) (d - suc s)) ≡ (d - 1) ∷ reverse (from (suc s) ((d - 1) - suc s))
 falls-by s d h =
     let e : d - suc s ≡ suc ((d - 1) - suc s) = omega arith in
     let f : suc s + ((d - 1) - suc s) ≡ d - 1 = omega arith in
