@@ -114,14 +114,6 @@ module _ (v : List ℤ) (allowed : failing-rule-of v ≡ none) (o l : List ℕ) 
 -- ---- the verdict of the rules
 
 module _ (v : List ℤ) (a : Answer) (e : a ≡ verdict (failing-rule-of v)) where
-  pub passed : a .number ≡ 0 → failing-rule-of v ≡ none
-  unfolding verdict
-  passed h = go (failing-rule-of v) (ap (λ (x : Answer). x .number) (sym e) ∙ h)
-    where
-      go : (o : Option ℕ) → verdict o .number ≡ 0 → o ≡ none
-      go none h = refl
-      go (some k) h = absurd (omega arith)
-
   pub wrote-refused : (n k : ℕ) (m : List ℕ) → (a .number ≡ 0 → ⊥) → k ≡ n → m ≡ zeros k → (record { answer = a; length = 0 } ≡ written v n) × (m ≡ lent-bytes n (write v n))
   unfolding verdict written write lent-bytes lent zeros
   wrote-refused n k m h ek em = go (failing-rule-of v) e

@@ -50,19 +50,3 @@ pub fn write_passed(chart: &[i32], text: &mut [u8]) -> Written
         length: end,
     }
 }
-
-// A chart written as text: 3 with the rule where the value fails one of R0 to R7, 13 where the text is longer than the slice, else
-// the text and 0 past it, with its length. A refusal leaves the slice 0.
-pub fn write(chart: &[i32], text: &mut [u8]) -> Written
-    ensures { λ r. ⌜ (r ≡ written (now (chart .entry)) (length (now (text .entry)))) × (now (text .exit) ≡ lent-bytes (length (now (text .entry))) (written-out (now (chart .entry)) (length (now (text .entry))))) ⌝ }
-{
-    let verdict = rules::check(chart);
-    if verdict.number != 0 {
-        clear(text);
-        return Written {
-            answer: verdict,
-            length: 0,
-        };
-    }
-    write_passed(chart, text)
-}
