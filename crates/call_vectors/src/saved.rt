@@ -1,5 +1,5 @@
-// A widget's state from its numbers, one a line: started, a mark and a slot for each state, the variables, the queue's length and its places
-// of event and argument.
+// A widget's state from its numbers, one a line: started, a mark and a slot for each state, the variables, the queue's length and its
+// places of event and argument.
 use crate::parse::number_from;
 use meaning::State;
 use queue::Item;

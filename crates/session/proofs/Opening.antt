@@ -109,7 +109,8 @@ module _ (text input : List ℕ) where
   whole-refused n p e = rw e
 
   pub whole-started : (v : List ℤ) → read text VALUE ≡ done v
-      → (let t = reported (start (chart-of v) unstarted ROOM) in t .printed ++ all-printed (turn (chart-of v)) (fresh (t .state)) input) ≡ output text input
+      → (let t = reported (start (chart-of v) unstarted ROOM) in
+      t .printed ++ all-printed (turn (chart-of v)) (fresh (t .state)) input) ≡ output text input
   unfolding output output-by
   whole-started v e = rw e (session-printed (chart-of v) (reported (start (chart-of v) unstarted ROOM)) input)
 

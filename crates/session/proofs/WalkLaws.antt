@@ -92,7 +92,8 @@ module _ (f : Turns) (part : List ℕ) (from : ℕ) (u : Seen) (before : List �
     pub whole : at ≤ length before → here .at ≤ length before
 
   module _ (i : ℕ) (out : List ℕ) (here : Under) (w : Walking i out here) where
-    stopped : reach f (seen here) (pen out (here .at)) (drop i part) ≡ 0 → Walks f part from u before at out (record { upto = i; under = here })
+    stopped : reach f (seen here) (pen out (here .at)) (drop i part) ≡ 0
+        → Walks f part from u before at out (record { upto = i; under = here })
     stopped e = record { upto = omega (arith, w .ahead); under = w .under; bytes = w .bytes; whole = w .whole }
 
     -- at the part's end, and where there might not be room
@@ -111,7 +112,8 @@ module _ (f : Turns) (part : List ℕ) (from : ℕ) (u : Seen) (before : List �
       moved : seen next ≡ q .under
       moved = same-seen next (q .under) (p .widget) (p .line)
 
-      reach-next : reach f (seen here) (pen out (here .at)) (drop i part) ≡ suc (reach f (seen next) (pen after (next .at)) (drop (i + 1) part))
+      reach-next : reach f (seen here) (pen out (here .at)) (drop i part)
+          ≡ suc (reach f (seen next) (pen after (next .at)) (drop (i + 1) part))
       reach-next =
           ap (reach f (seen here) (pen out (here .at))) (drop-next part i h)
           ∙ reach-more f (seen here) (pen out (here .at)) (getD part i 0) (drop (i + 1) part) e
@@ -153,7 +155,8 @@ module _ (f : Turns) (part : List ℕ) (from : ℕ) (u : Seen) (before : List �
       }
 
 -- before its first byte
-pub walk-begins : (f : Turns) (part : List ℕ) (from : ℕ) (under : Under) (out : List ℕ) → Walking f part from (seen under) out (under .at) from out under
+pub walk-begins : (f : Turns) (part : List ℕ) (from : ℕ) (under : Under) (out : List ℕ)
+    → Walking f part from (seen under) out (under .at) from out under
 unfolding put-all
 walk-begins f part from under out =
     let z : passed-all f (seen under) (slice from from part) ≡ record { under = seen under; printed = [] } =
@@ -182,7 +185,8 @@ module _ (f : Turns) (part : List ℕ) (from : ℕ) (u : Seen) (before : List �
   -- and goes on where there is room
   pub walks-on : from < length part → at + LARGEST ≤ length before → from < r .upto
   walks-on h k =
-      let n = reach f (passed f u (getD part from 0) .under) (put-all (passed f u (getD part from 0) .printed) (pen before at)) (drop (suc from) part) in
+      let q = passed f u (getD part from 0) in
+      let n = reach f (q .under) (put-all (q .printed) (pen before at)) (drop (suc from) part) in
       let e : reach f u (pen before at) (drop from part) ≡ suc n =
       ap (reach f u (pen before at)) (drop-cons part from 0 h)
       ∙ reach-more f u (pen before at) (getD part from 0) (drop (suc from) part) (le-leb (at + LARGEST) (length before) k) in

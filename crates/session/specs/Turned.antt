@@ -34,7 +34,8 @@ pub record Went (t : Turn) (before : List ℕ) (at : ℕ) (after : List ℕ) (r 
 abbrev pub quiet : ℕ → State → Turn
 quiet number u = record { state = u; printed = report number [] }
 
--- opening the session: "A refused chart prints the same and ends the program"; a chart that was read passes the rules, and the widget starts
+-- opening the session: "A refused chart prints the same and ends the program"; a chart that was read passes the rules, and the widget
+-- starts
 abbrev pub turned : Opened → Turned
 turned r = record { state = r .state; at = r .at }
 

@@ -10,6 +10,7 @@ use lib.Seq.{slice}
 use Rattle.pen.specs.Pen.{Pen, pen, put-all}
 use Rattle.console.specs.Session.{Turns, Passed, passed, passed-all}
 use Rattle.console.specs.Session.{Under as Seen}
+use Rattle.session.specs.declared.Under.{Under}
 use Rattle.session.specs.declared.Walked.{Walked}
 use Rattle.session.specs.Turned.{LARGEST, seen}
 
@@ -36,3 +37,8 @@ pub record Walks (f : Turns) (part : List ℕ) (from : ℕ) (u : Seen) (before :
   pub under : seen (r .under) ≡ walked f u part from (r .upto) .under
   pub bytes : pen after (r .under .at) ≡ put-all (walked f u part from (r .upto) .printed) (pen before at)
   pub whole : at ≤ length before → r .under .at ≤ length before
+
+-- all bytes of a part were walked: the widget and the line are as they leave them, and there is room for one more report
+pub record Fed (f : Turns) (part : List ℕ) (u : Seen) (out : List ℕ) (r : Under) : Type 0 where
+  pub under : seen r ≡ passed-all f u part .under
+  pub room : r .at + LARGEST ≤ length out

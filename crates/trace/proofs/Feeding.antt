@@ -24,7 +24,8 @@ module _ (f : Turns) (part : List ℕ) (u : Seen) where
   feeding-begins = record { within = omega arith; rest = refl }
 
   module _ (i : ℕ) (here : Seen) (w : Feeding i here) where
-    pub feeding-on : (before : List ℕ) (at : ℕ) (after : List ℕ) (r : Walked) → Walks f part i here before at after r → Feeding (r .upto) (seen (r .under))
+    pub feeding-on : (before : List ℕ) (at : ℕ) (after : List ℕ) (r : Walked) → Walks f part i here before at after r
+        → Feeding (r .upto) (seen (r .under))
     feeding-on before at after r k = record {
       within = walks-within f part i here before at after r k (w .within) .1;
       rest = walks-rest f part i here before at after r k (w .within) ∙ w .rest;

@@ -10,15 +10,14 @@ use meaning::State;
 use session::LARGEST;
 use session::Under;
 use sizes::TEXT;
-ghost use mathlib.Core.Path.{_≡_};
 ghost use Prim.Native.Nat.{_+_, _≤_};
 ghost use lib.ListN.{length};
 ghost use Rattle.io.specs.Counts.{Counts};
 ghost use Rattle.meaning.specs.Value.{chart-of};
 ghost use Rattle.meaning.specs.Program.{turn};
 ghost use Rattle.promises.specs.Promises.{Accepted};
-ghost use Rattle.console.specs.Session.{passed-all};
 ghost use Rattle.session.specs.Turned.{LARGEST as Largest, seen};
+ghost use Rattle.session.specs.Walked.{Fed};
 
 // The bytes lent for a text: one more than a text may have, so that a longer one is not cut to one that is accepted.
 const LENT: usize = TEXT + 1;
@@ -64,7 +63,7 @@ fn with_room(out: &[u8], at: usize) -> usize
 // All bytes of a part of the input, in as many walks as the room needs: what was collected is written between them.
 fn feed_all(chart: &[i32], part: &[u8], under: Under, out: &mut [u8]) -> Under
     requires { ⌜ Accepted (now chart) × (under .at + Largest ≤ length (now out)) ⌝ }
-    ensures { λ r. ⌜ (seen r ≡ passed-all (turn (chart-of (now (chart .entry)))) (seen under) (now (part .entry)) .under) × (r .at + Largest ≤ length (now (out .exit))) ⌝ }
+    ensures { λ r. ⌜ Fed (turn (chart-of (now (chart .entry)))) (now (part .entry)) (seen under) (now (out .exit)) r ⌝ }
 {
     let mut now = under;
     let mut i = 0;

@@ -15,7 +15,10 @@ abbrev μ-loop : tie.MeasureT-loop
 μ-loop chart state calls trace₀ at₀ trace at = length calls - at
 
 loop-less : tie.Need-loop-less Inv-loop μ-loop
-loop-less c = let more = c .before .before .before .before .before .loop-test .taken in let on = c .line-after .ensures more in omega arith
+loop-less c =
+    let more = c .before .before .before .before .before .loop-test .taken in
+    let on = c .line-after .ensures more in
+    omega arith
 
 pub each-on-spec : {M : Type 1} → statement M
 each-on-spec =

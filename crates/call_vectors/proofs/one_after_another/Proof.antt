@@ -15,7 +15,10 @@ abbrev μ-loop : tie.MeasureT-loop
 μ-loop chart calls state₀ trace₀ at₀ state trace at = length calls - at
 
 loop-less : tie.Need-loop-less Inv-loop μ-loop
-loop-less c = let more = c .before .before .before .before .before .before .before .before .before .loop-test .taken in let on = c .line-after .ensures more in omega arith
+loop-less c =
+    let more = c .before .before .before .before .before .before .before .before .before .loop-test .taken in
+    let on = c .line-after .ensures more in
+    omega arith
 
 pub one-after-another-spec : {M : Type 1} → statement M
 one-after-another-spec =

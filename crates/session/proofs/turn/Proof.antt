@@ -10,18 +10,6 @@ use borrow.Author.Needs.{needs}
 use Rattle.session.proofs.turn.Statement.{statement}
 use Rattle.session.proofs.turn.Tie as tie
 
-enum-known-line : tie.Need-enum-known-line
-enum-known-line c = search needs
-
-post-checked-requires : tie.Need-post-checked-requires
-post-checked-requires c κs = search needs
-
-refusal-requires : tie.Need-refusal-requires
-refusal-requires c κs = search needs
-
-same-length : tie.Need-same-length
-same-length c = search needs
-
 returns : tie.Need-returns
 returns c =
     let posted = c .before .before .before .before .before .before .before in
@@ -33,18 +21,6 @@ returns c =
     turn-refused _ _ _ _ _ _ _ _ _ (said .line .given .1) _
     (told ∙ ap called (post-on (top .args .chart .now) (top .args .state) (top .pre) _ _))
     (c .before .before .before .before .if1 .taken) (c .before .before .refusal .ensures)
-
-ran-requires : tie.Need-ran-requires
-ran-requires c κs = search needs
-
-enum-told : tie.Need-enum-told
-enum-told c = search needs
-
-refusal-requires-2 : tie.Need-refusal-requires-2
-refusal-requires-2 c κs = search needs
-
-same-length-2 : tie.Need-same-length-2
-same-length-2 c = search needs
 
 returns-2 : tie.Need-returns-2
 returns-2 c =
@@ -58,9 +34,6 @@ returns-2 c =
     (told ∙ ap called (post-on (top .args .chart .now) (top .args .state) (top .pre) _ _))
     (c .before .before .before .before .if1 .left) (c .before .before .ran .ensures)
 
-same-length-3 : tie.Need-same-length-3
-same-length-3 c = search needs
-
 returns-3 : tie.Need-returns-3
 returns-3 c = turn-wrong _ _ _ _ _ _ _ (c .before .before .before .before .enum-told .given .1) (c .before .before .refusal2 .ensures)
 
@@ -68,15 +41,15 @@ pub turn-spec : {M : Type 1} → statement M
 turn-spec =
     tie.close
     (tie.spec
-    enum-known-line
-    post-checked-requires
-    refusal-requires
-    same-length
+    (λ c. search needs)
+    (λ c κs. search needs)
+    (λ c κs. search needs)
+    (λ c. search needs)
     returns
-    ran-requires
-    enum-told
-    refusal-requires-2
-    same-length-2
+    (λ c κs. search needs)
+    (λ c. search needs)
+    (λ c κs. search needs)
+    (λ c. search needs)
     returns-2
-    same-length-3
+    (λ c. search needs)
     returns-3)

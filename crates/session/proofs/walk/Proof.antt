@@ -33,7 +33,8 @@ returns c = walk-done _ _ _ _ _ _ _ _ _ (c .before .loop .inv) (c .loop-test .le
 
 returns-2 : tie.Need-returns-2 Inv-loop μ-loop
 returns-2 c =
-    walk-full _ _ _ _ _ _ _ _ _ (c .before .before .before .before .loop .inv) (sym (c .before .has-room .ensures) ∙ not-true _ (c .if1 .taken))
+    walk-full _ _ _ _ _ _ _ _ _ (c .before .before .before .before .loop .inv)
+    (sym (c .before .has-room .ensures) ∙ not-true _ (c .if1 .taken))
 
 pub walk-spec : {M : Type 1} → statement M
 walk-spec =

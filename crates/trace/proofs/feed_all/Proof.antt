@@ -31,6 +31,12 @@ with-room-requires c κs =
     let k : length (walk .walk .last .1 .1 .1 .1 .0) ≡ length (top .loop .out) = search needs in
     (omega arith, omega (arith, top .loop .inv .2))
 
+loop-again : tie.Need-loop-again Inv-loop μ-loop
+loop-again c =
+    let walk = c .before .before .before .before .before .before in
+    let top = walk .before .before .before in
+    (feeding-on _ _ _ _ _ (top .loop .inv .0) _ _ _ _ (walk .walk .ensures), search needs, search needs)
+
 loop-less : tie.Need-loop-less Inv-loop μ-loop
 loop-less c =
     let walk = c .before .before .before .before .before .before in
@@ -39,14 +45,8 @@ loop-less c =
     let more = test .loop-test .taken in
     omega arith
 
-loop-again : tie.Need-loop-again Inv-loop μ-loop
-loop-again c =
-    let walk = c .before .before .before .before .before .before in
-    let top = walk .before .before .before in
-    (feeding-on _ _ _ _ _ (top .loop .inv .0) _ _ _ _ (walk .walk .ensures), search needs, search needs)
-
 returns : tie.Need-returns Inv-loop μ-loop
-returns c = (feeding-done _ _ _ _ _ (c .before .loop .inv .0) (c .loop-test .left), c .before .loop .inv .2)
+returns c = record { under = feeding-done _ _ _ _ _ (c .before .loop .inv .0) (c .loop-test .left); room = c .before .loop .inv .2 }
 
 pub feed-all-spec : {M : Type 1} → statement M
 feed-all-spec =
