@@ -15,7 +15,7 @@ use Rattle.meaning.specs.declared.Turns.{Turns}
 use Rattle.reader.specs.Scanned.{zeros, Fit, Scanned}
 use Rattle.reader.specs.declared.scan.Progress.{Progress}
 
--- rows laid into a chart's numbers, the counts still 0
+-- a chart's numbers while its text is read: the counts still 0, but that of events; z is what lies past them
 unfoldable pub laid : Rows → List ℤ → List ℤ
 laid r z =
     pos 0 ∷ pos 0 ∷ r .events ∷ pos 0 ∷ pos 0 ∷ (area (STATES * STATE-ROW) (r .states) ++ (area (VARIABLES * VAR-ROW) (r .vars)
@@ -32,6 +32,7 @@ pub record Walking (s : List ℕ) (n0 : ℕ) (l : List ℤ) (at n : ℕ) (t : Tu
   pub line : n ≤ at + 1
   pub same : walk n read (lines (slice at (length s) s)) ≡ walk 1 start (lines s)
 
+-- nothing is counted
 abbrev pub no-turns : Turns
 no-turns = record { stage = 0; states = 0; vars = 0; transitions = 0; actions = 0 }
 

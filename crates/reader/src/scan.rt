@@ -60,7 +60,7 @@ fn over(number: usize, place: usize) -> Progress
     }
 }
 
-// The line that starts at a place.
+// The line that starts at a place is read; behind the last LF the reading is over.
 pub fn line_at(text: &[u8], at: usize, p: Progress, chart: &mut [i32]) -> Progress
     requires { ⌜ Walking (now text) (length (now chart)) (now chart) at (p .line) (p .turns) ⌝ }
     ensures { λ r. ⌜ Onward (now (text .entry)) (length (now (chart .entry))) (now (chart .exit)) r × (r .going ≡ true → at < r .at) ⌝ }
