@@ -1,5 +1,5 @@
 -- `plan_vectors::main` is safe and ends. The measure is how many arguments are left. Assumes nothing.
-use Prim.Native.Nat.{_≤_, _-_}
+use Prim.Native.Nat.{_-_}
 use native.Mathlib.Omega.{arith}
 use Rattle.plan_vectors.proofs.main.Statement.{statement}
 use Rattle.plan_vectors.proofs.main.Tie as tie

@@ -60,8 +60,8 @@ returns-2 c =
     fill-gap (a .k .instructions) (w .end) (w .at) (w .left) (a .plan .now) (omega arith)
     (refuted (c .before .begins-with .ensures) (c .if2 .taken)) (w .inv .0)
 
-named-requires : tie.Need-named-requires Inv-loop μ-loop
-named-requires c κs = omega arith
+block-length-requires : tie.Need-block-length-requires Inv-loop μ-loop
+block-length-requires c κs = omega arith
 
 sub-if3 : tie.Need-sub-if3 Inv-loop μ-loop
 sub-if3 c = omega arith
@@ -74,7 +74,7 @@ returns-3 c =
     fill-long (s .args .k .instructions) (w .end) (w .at) (w .left) (s .args .plan .now) (omega arith)
     (whole-few (s .args .plan .now) (s .args .k) (s .pre)) (w .inv .1)
     (held (b .begins-with .ensures) (c .before .before .before .if2 .left))
-    (c .before .before .named .result) (c .before .before .named .ensures) (c .if3 .taken) (w .inv .0)
+    (c .before .before .block-length .result) (c .before .before .block-length .ensures) (c .if3 .taken) (w .inv .0)
 
 loop-again : tie.Need-loop-again Inv-loop μ-loop
 loop-again c =
@@ -84,7 +84,7 @@ loop-again c =
       fill-next (s .args .k .instructions) (w .end) (w .at) (w .left) (s .args .plan .now) (omega arith)
           (whole-few (s .args .plan .now) (s .args .k) (s .pre)) (w .inv .1)
           (held (b .begins-with .ensures) (c .before .before .before .if2 .left))
-          (c .before .before .named .result) (c .before .before .named .ensures) (w .inv .0),
+          (c .before .before .block-length .result) (c .before .before .block-length .ensures) (w .inv .0),
       omega arith,
       omega arith,
     )
@@ -106,8 +106,7 @@ blocks-fill-spec =
     loop-holds
     begins-with-requires
     returns-2
-    (λ c. search needs)
-    named-requires
+    block-length-requires
     sub-if3
     returns-3
     (λ c. search needs)

@@ -3,7 +3,7 @@ use mathlib.Core.Path.{_≡_, refl, sym, ap, _∙_}
 use mathlib.Core.List.{[]}
 use Prim.Native.Nat.{_-_, _<_, _≤_}
 use native.Mathlib.Omega.{arith}
-use lib.ListN.{length, drop}
+use lib.ListN.{drop}
 use Rattle.meaning.specs.Lists.{every, chunks}
 use Rattle.meaning.specs.Value.{VAR-ROW}
 use Rattle.meaning.specs.WellFormed.{SIX, var-keeps, var-rows}
