@@ -50,21 +50,12 @@ loop-holds c =
       omega (arith, heads-there (a .plan .now) (a .k) (s .pre), c .heads-at .ensures),
     )
 
-begins-with-requires : tie.Need-begins-with-requires Inv-loop μ-loop
-begins-with-requires c κs = omega arith
-
 returns-2 : tie.Need-returns-2 Inv-loop μ-loop
 returns-2 c =
     let a = c .before .before .before .before .before .before .before .args in
     let w = c .before .before .before .loop in
     fill-gap (a .k .instructions) (w .end) (w .at) (w .left) (a .plan .now) (omega arith)
     (refuted (c .before .begins-with .ensures) (c .if2 .taken)) (w .inv .0)
-
-block-length-requires : tie.Need-block-length-requires Inv-loop μ-loop
-block-length-requires c κs = omega arith
-
-sub-if3 : tie.Need-sub-if3 Inv-loop μ-loop
-sub-if3 c = omega arith
 
 returns-3 : tie.Need-returns-3 Inv-loop μ-loop
 returns-3 c =
@@ -104,10 +95,10 @@ blocks-fill-spec =
     returns
     heads-at-requires
     loop-holds
-    begins-with-requires
+    (λ c κs. omega arith)
     returns-2
-    block-length-requires
-    sub-if3
+    (λ c κs. omega arith)
+    (λ c. omega arith)
     returns-3
     (λ c. search needs)
     (λ c. search needs)

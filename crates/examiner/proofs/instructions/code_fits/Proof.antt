@@ -84,9 +84,6 @@ loop-holds c =
       omega (arith, heads-there (a .plan .now) (a .k) (s .pre .0), c .heads-at .ensures),
     )
 
-block-length-requires : tie.Need-block-length-requires Inv-loop μ-loop
-block-length-requires c κs = omega arith
-
 inside : (c : tie.After-block-length Inv-loop μ-loop)
     → c .before .before .loop .done + c .block-length .result ≤ start-from-length c .args .k .instructions
 inside c =
@@ -140,15 +137,6 @@ add-done c =
     let s = start-from-length d in
     omega (arith, inside d, whole-sized (s .args .plan .now) (s .args .k) (s .pre .0))
 
-add-head : tie.Need-add-head Inv-loop μ-loop
-add-head c = search needs
-
-sub-left : tie.Need-sub-left Inv-loop μ-loop
-sub-left c = omega arith
-
-loop-less : tie.Need-loop-less Inv-loop μ-loop
-loop-less c = omega arith
-
 loop-again : tie.Need-loop-again Inv-loop μ-loop
 loop-again c =
     let d = c .before .before in
@@ -180,14 +168,14 @@ code-fits-spec =
     returns
     heads-at-requires
     loop-holds
-    block-length-requires
+    (λ c κs. omega arith)
     mul-block-fits
     add-block-fits
     block-fits-requires-2
     returns-2
     add-done
-    add-head
-    sub-left
-    loop-less
+    (λ c. search needs)
+    (λ c. omega arith)
+    (λ c. omega arith)
     loop-again
     returns-3)
