@@ -1,19 +1,17 @@
 -- The loop over the blocks, the start block first: the blocks of the heads left say as much as all. Assumes nothing.
 use Prim.Native.Nat.{ℕ, _+_, _-_, _*_, _<_, _≤_}
-use mathlib.Core.Path.{_≡_, refl, sym, ap, _∙_}
+use mathlib.Core.Path.{_≡_, ap, _∙_}
 use mathlib.Core.Bool.{Bool, true, false, _&&_}
-use mathlib.Core.List.{List, [], _∷_, _++_, map}
-use native.Mathlib.Omega.{arith}
-use lib.IntN.{ℤ, pos}
-use lib.ListN.{length, getD, take, drop}
+use mathlib.Core.List.{List, [], _++_, map}
+use lib.IntN.{ℤ}
+use lib.ListN.{take, drop}
 use lib.Seq.{drop-drop}
 use Rattle.numbers.specs.Reference.{ref}
 use Rattle.meaning.specs.Lists.{concat-map, chunks}
 use Rattle.meaning.specs.declared.plan.Counts.{Counts}
 use Rattle.meaning.specs.Value.{num}
-use Rattle.meaning.specs.WellFormed.{HEAD-ROW, INSTR-ROW, heads-at, code-at, head-rows, blocks-fill, left-after-each}
+use Rattle.meaning.specs.WellFormed.{HEAD-ROW, INSTR-ROW, heads-at, code-at, head-rows, head-by, blocks-fill, left-after-each}
 use Rattle.meaning.specs.WellFormed.{left-in-blocks, code-fits}
-use Rattle.chart.proofs.Rows.{num-at}
 use Rattle.plan_rows.proofs.Blocks.{rows-cons, rows-none, fills-rest, fills-within, left-length, code-joined, code-block}
 
 -- how many of its block follow each instruction, in the blocks of so many heads from a place on
@@ -34,16 +32,17 @@ blocks-start k ns =
     ∙ ap (λ m. code-fits k (left-after-each (k .start)) (drop (code-at k) ns) && code-fits k (lefts-of (k .heads) (heads-at k) ns) m)
     (ap (λ m. drop (m * INSTR-ROW) (drop (code-at k) ns)) (left-length (k .start)) ∙ drop-drop (k .start * INSTR-ROW) (code-at k) ns)
 
-lefts-cons : (left head : ℕ) (ns : List ℤ) (n : ℕ) → n ≡ ref (getD ns (head + 9) (pos 0)) → 0 < left
+lefts-cons : (left head : ℕ) (ns : List ℤ) (n : ℕ) → n ≡ head-by (take HEAD-ROW (drop head ns)) .length → 0 < left
     → lefts-of left head ns ≡ left-after-each n ++ lefts-of (left - 1) (head + HEAD-ROW) ns
-unfolding concat-map
-lefts-cons left head ns n e h = rw (rows-cons left HEAD-ROW head ns h, num-at HEAD-ROW head ns 9 (omega arith), ← e)
+unfolding concat-map head-by
+lefts-cons left head ns n e h = rw (rows-cons left HEAD-ROW head ns h, e)
 
 lefts-none : (left head : ℕ) (ns : List ℤ) → left ≡ 0 → lefts-of left head ns ≡ []
 unfolding concat-map
 lefts-none left head ns h = rw (rows-none left HEAD-ROW head ns h)
 
-module _ (k : Counts) (base done left head : ℕ) (ns : List ℤ) (n : ℕ) (e : n ≡ ref (getD ns (head + 9) (pos 0))) (h : 0 < left) where
+module _ (k : Counts) (base done left head : ℕ) (ns : List ℤ) (n : ℕ) (e : n ≡ head-by (take HEAD-ROW (drop head ns)) .length)
+    (h : 0 < left) where
   step : rest-fits k base done left head ns
       ≡ code-fits k (left-after-each n) (drop (base + done * INSTR-ROW) ns) && rest-fits k base (done + n) (left - 1) (head + HEAD-ROW) ns
   step =
@@ -61,9 +60,9 @@ module _ (k : Counts) (base done left head : ℕ) (ns : List ℤ) (n : ℕ) (e :
   -- where the blocks fill m instructions, this one lies within them, and the rest fill what is left
   pub filled-on : (m : ℕ) → blocks-fill m done (chunks left HEAD-ROW (drop head ns)) ≡ true
       → blocks-fill m (done + n) (chunks (left - 1) HEAD-ROW (drop (head + HEAD-ROW) ns)) ≡ true
+  unfolding head-by
   filled-on m g =
-      ap (λ q. blocks-fill m (done + q) (chunks (left - 1) HEAD-ROW (drop (head + HEAD-ROW) ns)))
-      (e ∙ sym (ap ref (num-at HEAD-ROW head ns 9 (omega arith))))
+      ap (λ q. blocks-fill m (done + q) (chunks (left - 1) HEAD-ROW (drop (head + HEAD-ROW) ns))) e
       ∙ fills-rest m done (take HEAD-ROW (drop head ns)) (chunks (left - 1) HEAD-ROW (drop (head + HEAD-ROW) ns))
       (rw (rows-cons left HEAD-ROW head ns h) at g)
 

@@ -1,21 +1,19 @@
 -- The loops over rows: what is left to try says as much as the whole. Three laws each: a row that fails ends the loop, one that fits goes
 -- on, and no row left is the end. Assumes nothing.
 use Prim.Native.Nat.{ℕ, _+_, _-_, _<_, _≤_}
-use mathlib.Core.Path.{_≡_, refl, sym, ap, _∙_}
-use mathlib.Core.Bool.{Bool, true, false, _&&_}
-use mathlib.Core.List.{List, [], _∷_}
+use mathlib.Core.Path.{_≡_, sym, ap, _∙_}
+use mathlib.Core.Bool.{Bool, true, false}
+use mathlib.Core.List.{List}
 use native.Mathlib.Omega.{arith}
 use borrow.Author.Tests.{eqb-true, eqb-false}
 use lib.Dec.{eqb}
-use lib.IntN.{ℤ, pos}
-use lib.ListN.{getD, take, drop}
+use lib.IntN.{ℤ}
+use lib.ListN.{take, drop}
 use lib.Seq.{drop-drop}
-use Rattle.numbers.specs.Reference.{ref, NOWHERE}
+use Rattle.numbers.specs.Reference.{NOWHERE}
 use Rattle.meaning.specs.Lists.{every, chunks}
 use Rattle.meaning.specs.declared.plan.Counts.{Counts}
-use Rattle.meaning.specs.Value.{num}
-use Rattle.meaning.specs.WellFormed.{HEAD-ROW, INSTR-ROW, blocks-fill, instr-fits, left-after-each, code-fits}
-use Rattle.chart.proofs.Rows.{num-at}
+use Rattle.meaning.specs.WellFormed.{HEAD-ROW, INSTR-ROW, head-by, blocks-fill, instr-fits, left-after-each, code-fits}
 use Rattle.plan_rows.proofs.Blocks.{rows-cons, rows-none, fills-past, fills-gap, fills-on, left-cons, code-stop, code-next}
 
 -- ---- each of the rows left, from a place on
@@ -36,34 +34,29 @@ module _ (p : List ℤ → Bool) (w at left : ℕ) (ns : List ℤ) {b : Bool} wh
 
 -- ---- the blocks of the heads left fill n instructions from `end` on
 
-begins : (at : ℕ) (ns : List ℤ) → ref (num (take HEAD-ROW (drop at ns)) 8) ≡ ref (getD ns (at + 8) (pos 0))
-begins at ns = ap ref (num-at HEAD-ROW at ns 8 (omega arith))
-
-lasts : (at : ℕ) (ns : List ℤ) → ref (num (take HEAD-ROW (drop at ns)) 9) ≡ ref (getD ns (at + 9) (pos 0))
-lasts at ns = ap ref (num-at HEAD-ROW at ns 9 (omega arith))
-
 module _ (n end at left : ℕ) (ns : List ℤ) {b : Bool} where
-  pub fill-gap : 0 < left → eqb (ref (getD ns (at + 8) (pos 0))) end ≡ false
+  pub fill-gap : 0 < left → eqb (head-by (take HEAD-ROW (drop at ns)) .start) end ≡ false
       → blocks-fill n end (chunks left HEAD-ROW (drop at ns)) ≡ b → false ≡ b
+  unfolding head-by
   fill-gap h e g =
       sym (fills-gap n end (take HEAD-ROW (drop at ns)) (chunks (left - 1) HEAD-ROW (drop (at + HEAD-ROW) ns))
-      (λ q. eqb-false (ref (getD ns (at + 8) (pos 0))) end e (sym (begins at ns) ∙ q)))
+      (eqb-false (head-by (take HEAD-ROW (drop at ns)) .start) end e))
       ∙ rw (rows-cons left HEAD-ROW at ns h) at g
 
   -- a block that begins at `end` and has m instructions
-  module _ (h : 0 < left) (few : n < NOWHERE) (inside : end ≤ n) (here : eqb (ref (getD ns (at + 8) (pos 0))) end ≡ true) where
-    pub fill-next : (m : ℕ) → m ≡ ref (getD ns (at + 9) (pos 0)) → blocks-fill n end (chunks left HEAD-ROW (drop at ns)) ≡ b
+  module _ (h : 0 < left) (few : n < NOWHERE) (inside : end ≤ n) (here : eqb (head-by (take HEAD-ROW (drop at ns)) .start) end ≡ true) where
+    pub fill-next : (m : ℕ) → m ≡ head-by (take HEAD-ROW (drop at ns)) .length → blocks-fill n end (chunks left HEAD-ROW (drop at ns)) ≡ b
         → blocks-fill n (end + m) (chunks (left - 1) HEAD-ROW (drop (at + HEAD-ROW) ns)) ≡ b
+    unfolding head-by
     fill-next m l g =
-        let z : ref (num (take HEAD-ROW (drop at ns)) 9) ≡ m = lasts at ns ∙ sym l in
-        ap (λ q. blocks-fill n (end + q) (chunks (left - 1) HEAD-ROW (drop (at + HEAD-ROW) ns))) (sym z)
+        ap (λ q. blocks-fill n (end + q) (chunks (left - 1) HEAD-ROW (drop (at + HEAD-ROW) ns))) l
         ∙ sym (fills-on n end (take HEAD-ROW (drop at ns)) (chunks (left - 1) HEAD-ROW (drop (at + HEAD-ROW) ns)) few inside
-        (begins at ns ∙ eqb-true (ref (getD ns (at + 8) (pos 0))) end here))
+        (eqb-true (head-by (take HEAD-ROW (drop at ns)) .start) end here))
         ∙ rw (rows-cons left HEAD-ROW at ns h) at g
 
     -- it ends past the last instruction
-    pub fill-long : (m : ℕ) → m ≡ ref (getD ns (at + 9) (pos 0)) → n - end < m → blocks-fill n end (chunks left HEAD-ROW (drop at ns)) ≡ b
-        → false ≡ b
+    pub fill-long : (m : ℕ) → m ≡ head-by (take HEAD-ROW (drop at ns)) .length → n - end < m
+        → blocks-fill n end (chunks left HEAD-ROW (drop at ns)) ≡ b → false ≡ b
     fill-long m l v g =
         sym (fills-past n (end + m) (chunks (left - 1) HEAD-ROW (drop (at + HEAD-ROW) ns)) (omega arith)) ∙ fill-next m l g
 

@@ -1,7 +1,7 @@
 -- The tests of a row, number by number, against code that reads the numbers one by one from the place b where the row begins.
 -- Assumes nothing.
 use Prim.Native.Nat.{ℕ, zero, suc, _+_}
-use mathlib.Core.Path.{_≡_, refl, ap, _∙_}
+use mathlib.Core.Path.{_≡_, refl}
 use mathlib.Core.Bool.{false, _&&_}
 use mathlib.Core.List.{List}
 use native.Mathlib.Omega.{arith}

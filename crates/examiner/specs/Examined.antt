@@ -1,5 +1,5 @@
 -- What the examination of a plan promises (01, "Answer numbers"), and what its parts ask of the plan that is lent. Assumes nothing.
-use Prim.Native.Nat.{ℕ, _≤_}
+use Prim.Native.Nat.{_≤_}
 use mathlib.Core.Bool.{cond}
 use mathlib.Core.Path.{_≡_}
 use mathlib.Core.List.{List}

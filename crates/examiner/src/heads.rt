@@ -4,9 +4,9 @@ use super::fits::one_of;
 use meaning::plan::Counts;
 use numbers::in_range;
 use numbers::same;
+use plan_rows::block_length;
+use plan_rows::block_start;
 use plan_rows::heads_at;
-use plan_rows::layout::BLOCK_LENGTH;
-use plan_rows::layout::BLOCK_START;
 use plan_rows::layout::GUARD_CONSTANT;
 use plan_rows::layout::GUARD_SIGN;
 use plan_rows::layout::GUARD_VAR;
@@ -16,19 +16,17 @@ use plan_rows::layout::SPAN_FIRST;
 use plan_rows::layout::SPAN_LAST;
 use plan_rows::layout::TRANSITION;
 use plan_rows::layout::TRIGGER;
-use plan_rows::named;
 use plan_rows::read;
 use sizes::TRANSITIONS;
 ghost use mathlib.Core.Path.{_≡_};
 ghost use mathlib.Core.Bool.{_&&_};
 ghost use Prim.Native.Nat.{_+_, _≤_};
 ghost use lib.Dec.{eqb};
-ghost use lib.ListN.{getD, length, take, drop};
+ghost use lib.ListN.{length, take, drop};
 ghost use lib.IntN.{pos, negsuc};
 ghost use Rattle.numbers.specs.Equal.{eqZ};
-ghost use Rattle.numbers.specs.Reference.{ref};
 ghost use Rattle.meaning.specs.Lists.{every};
-ghost use Rattle.meaning.specs.WellFormed.{HEAD-ROW, head-rows, head-guard-fits, span-fits, head-fits, all-blocks-fill};
+ghost use Rattle.meaning.specs.WellFormed.{HEAD-ROW, head-rows, head-by, head-guard-fits, span-fits, head-fits, all-blocks-fill};
 ghost use Rattle.plan_rows.specs.Rows.{Sized};
 ghost use Rattle.examiner.specs.Examined.{Whole};
 
@@ -125,9 +123,9 @@ pub fn heads_fit(plan: &[i32], k: Counts) -> bool
 // Does the block of the head whose row begins at this place begin with this instruction?
 fn begins_with(plan: &[i32], at: usize, first: usize) -> bool
     requires { ⌜ at + HEAD-ROW ≤ length (now plan) ⌝ }
-    ensures { λ r. ⌜ r ≡ eqb (ref (getD (now (plan .entry)) (at + 8) (pos 0))) first ⌝ }
+    ensures { λ r. ⌜ r ≡ eqb (head-by (take HEAD-ROW (drop at (now (plan .entry)))) .start) first ⌝ }
 {
-    named(plan, at + BLOCK_START) == first
+    block_start(plan, at) == first
 }
 
 // The start block, then the blocks in head order, no gaps. A block that ends past the last instruction ends the loop, so
@@ -146,7 +144,7 @@ pub fn blocks_fill(plan: &[i32], k: Counts) -> bool
         if !begins_with(plan, at, end) {
             return false;
         }
-        let n = named(plan, at + BLOCK_LENGTH);
+        let n = block_length(plan, at);
         if k.instructions - end < n {
             return false;
         }

@@ -4,9 +4,9 @@ use super::fits::one_of;
 use meaning::plan::Counts;
 use numbers::in_range;
 use numbers::same;
+use plan_rows::block_length;
 use plan_rows::code_at;
 use plan_rows::heads_at;
-use plan_rows::layout::BLOCK_LENGTH;
 use plan_rows::layout::CODE;
 use plan_rows::layout::FIRST;
 use plan_rows::layout::HEAD_ROW;
@@ -136,7 +136,7 @@ pub fn code_fits(plan: &[i32], k: Counts) -> bool
     let mut head = heads_at(k);
     let mut left = k.heads;
     while 0 < left {
-        let n = named(plan, head + BLOCK_LENGTH);
+        let n = block_length(plan, head);
         if !block_fits(plan, k, base + done * INSTR_ROW, n) {
             return false;
         }

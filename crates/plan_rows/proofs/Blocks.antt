@@ -7,7 +7,7 @@ use mathlib.Core.Bool.{Bool, true, false, _&&_, false≢true}
 use mathlib.Core.List.{List, [], _∷_, _++_, map}
 use mathlib.Core.Logic.{_⊎_, inl, inr}
 use native.Mathlib.Omega.{arith}
-use borrow.Author.Tests.{eqb-true, ne-eqb, le-leb}
+use borrow.Author.Tests.{ne-eqb, le-leb}
 use lib.IntN.{ℤ, pos, negsuc}
 use lib.Signed.{leZ}
 use lib.ListN.{length, getD, take, drop}
@@ -19,7 +19,7 @@ use Rattle.laws.proofs.Lists.{and-left, and-right, le-or-lt}
 use Rattle.meaning.specs.Lists.{concat-map, chunks}
 use Rattle.meaning.specs.declared.plan.Counts.{Counts}
 use Rattle.meaning.specs.Value.{num}
-use Rattle.meaning.specs.WellFormed.{INSTR-ROW, counts-of, head-rows, blocks-fill, all-blocks-fill, instr-fits, left-after-each}
+use Rattle.meaning.specs.WellFormed.{INSTR-ROW, head-rows, blocks-fill, all-blocks-fill, instr-fits, left-after-each}
 use Rattle.meaning.specs.WellFormed.{code-fits}
 use Rattle.plan_rows.proofs.Codes.{names, names-other}
 

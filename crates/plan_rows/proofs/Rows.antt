@@ -2,8 +2,8 @@
 -- says what the definitions say of it. In the order: the counts; the lists of a plan, row by row; a row, number by number; a block.
 -- Assumes nothing.
 use Prim.Native.Nat.{ℕ, _+_, _*_, _<_, _≤_}
-use mathlib.Core.Path.{_≡_, refl, sym, ap, _∙_}
-use mathlib.Core.List.{List, [], _∷_, map}
+use mathlib.Core.Path.{_≡_, refl, ap, _∙_}
+use mathlib.Core.List.{List, []}
 use native.Mathlib.Omega.{arith}
 use lib.IntN.{ℤ, pos}
 use lib.ListN.{length, getD, take, drop, length-drop}
@@ -16,7 +16,6 @@ use Rattle.meaning.specs.declared.chart.VarRow.{VarRow}
 use Rattle.meaning.specs.declared.chart.Guard.{Guard}
 use Rattle.meaning.specs.declared.plan.Head.{Head}
 use Rattle.meaning.specs.declared.plan.Instr.{Instr}
-use Rattle.meaning.specs.Plan.{Plan}
 use Rattle.meaning.specs.Value.{num, size-by, VAR-ROW, var-by}
 use Rattle.meaning.specs.WellFormed.{SIX, HEAD-ROW, INSTR-ROW, counts-of, heads-at, code-at, plan-end, var-rows, head-rows, code-rows}
 use Rattle.meaning.specs.WellFormed.{head-guard-by, head-by, instr-of, instr-by, plan-by}
@@ -72,8 +71,20 @@ module _ (ns : List ℤ) (k : Counts) where
   unfolding code-rows
   code-rows-at i h = row-of (k .instructions) INSTR-ROW (code-at k) ns i h
 
--- the plan that the numbers state, row by row: what `var_row`, `head_row` and `instr` give
+-- the plan that the numbers state: its counts, and row by row what `var_row`, `head_row` and `instr` give
 module _ (ns : List ℤ) where
+  pub states-of-plan : plan-by ns .states ≡ counts-of ns .states
+  unfolding plan-by
+  states-of-plan = refl
+
+  pub events-of-plan : plan-by ns .events ≡ counts-of ns .events
+  unfolding plan-by
+  events-of-plan = refl
+
+  pub start-of-plan : plan-by ns .start-length ≡ counts-of ns .start
+  unfolding plan-by
+  start-of-plan = refl
+
   pub vars-length : length (plan-by ns .vars) ≡ counts-of ns .vars
   unfolding plan-by var-rows
   vars-length = length-rows var-by _ _ _
@@ -123,15 +134,28 @@ module _ (ns : List ℤ) (b : ℕ) where
   var-said p q r =
       rw (p, q, r, num-at VAR-ROW b ns 0 (omega arith), num-at VAR-ROW b ns 1 (omega arith), num-at VAR-ROW b ns 2 (omega arith))
 
+  pub guard-of : head-by (take HEAD-ROW (drop b ns)) .guard
+      ≡ head-guard-by (getD ns (b + 3) (pos 0)) (getD ns (b + 4) (pos 0)) (getD ns (b + 5) (pos 0))
+  unfolding head-by
+  guard-of = rw (num-at HEAD-ROW b ns 3 (omega arith), num-at HEAD-ROW b ns 4 (omega arith), num-at HEAD-ROW b ns 5 (omega arith))
+
+  pub start-of : head-by (take HEAD-ROW (drop b ns)) .start ≡ ref (getD ns (b + 8) (pos 0))
+  unfolding head-by
+  start-of = ap ref (num-at HEAD-ROW b ns 8 (omega arith))
+
+  pub length-of : head-by (take HEAD-ROW (drop b ns)) .length ≡ ref (getD ns (b + 9) (pos 0))
+  unfolding head-by
+  length-of = ap ref (num-at HEAD-ROW b ns 9 (omega arith))
+
   pub head-said : {t s e f l a n : ℕ} {g : Guard}
       → t ≡ ref (getD ns (b + 0) (pos 0))
       → s ≡ ref (getD ns (b + 1) (pos 0))
       → e ≡ ref (getD ns (b + 2) (pos 0))
-      → g ≡ head-guard-by (getD ns (b + 3) (pos 0)) (getD ns (b + 4) (pos 0)) (getD ns (b + 5) (pos 0))
+      → g ≡ head-by (take HEAD-ROW (drop b ns)) .guard
       → f ≡ ref (getD ns (b + 6) (pos 0))
       → l ≡ ref (getD ns (b + 7) (pos 0))
-      → a ≡ ref (getD ns (b + 8) (pos 0))
-      → n ≡ ref (getD ns (b + 9) (pos 0))
+      → a ≡ head-by (take HEAD-ROW (drop b ns)) .start
+      → n ≡ head-by (take HEAD-ROW (drop b ns)) .length
       → record { transition = t; source = s; trigger = e; guard = g; first = f; last = l; start = a; length = n }
       ≡ head-by (take HEAD-ROW (drop b ns))
   unfolding head-by
@@ -148,13 +172,8 @@ module _ (ns : List ℤ) (b : ℕ) where
         num-at HEAD-ROW b ns 0 (omega arith),
         num-at HEAD-ROW b ns 1 (omega arith),
         num-at HEAD-ROW b ns 2 (omega arith),
-        num-at HEAD-ROW b ns 3 (omega arith),
-        num-at HEAD-ROW b ns 4 (omega arith),
-        num-at HEAD-ROW b ns 5 (omega arith),
         num-at HEAD-ROW b ns 6 (omega arith),
         num-at HEAD-ROW b ns 7 (omega arith),
-        num-at HEAD-ROW b ns 8 (omega arith),
-        num-at HEAD-ROW b ns 9 (omega arith),
       )
 
   pub instr-said : {i : Instr}

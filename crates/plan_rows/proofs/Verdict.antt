@@ -1,7 +1,7 @@
 -- The order of the tests of a plan: counts, length, variables, heads, blocks, instructions. What each test says of the whole plan, and
 -- what a well-formed plan says of each test. Assumes nothing.
-use Prim.Native.Nat.{ℕ, _<_, _≤_}
-use mathlib.Core.Path.{_≡_, refl, sym, ap, _∙_}
+use Prim.Native.Nat.{_<_, _≤_}
+use mathlib.Core.Path.{_≡_, refl, _∙_}
 use mathlib.Core.Bool.{Bool, true, false, false≢true}
 use mathlib.Core.Logic.{_⊎_, inl, inr}
 use mathlib.Core.List.{List}

@@ -1,30 +1,29 @@
 -- A well-formed plan as plain facts, for whoever runs one: counts within their sizes, each row there, each head's and each instruction's
 -- numbers in bounds, blocks within the instructions, skips within their block. Assumes nothing.
-use Prim.Native.Nat.{ℕ, zero, suc, _+_, _-_, _*_, _<_, _≤_}
+use Prim.Native.Nat.{ℕ, suc, _+_, _-_, _*_, _<_, _≤_}
 use mathlib.Core.Path.{_≡_, refl, sym, ap, _∙_}
-use mathlib.Core.Bool.{Bool, true, false, _&&_}
-use mathlib.Core.List.{List, [], _∷_, _++_, map}
+use mathlib.Core.Bool.{true, _&&_}
+use mathlib.Core.List.{List, [], _++_, map}
 use native.Mathlib.Omega.{arith}
-use lib.IntN.{ℤ, pos}
-use lib.ListN.{length, getD, take, drop}
-use Rattle.sizes.specs.Sizes.{STATES, VARIABLES, EVENTS, TRANSITIONS, INSTRUCTIONS}
+use lib.IntN.{ℤ}
+use lib.ListN.{length, getD, drop}
+use Rattle.sizes.specs.Sizes.{STATES}
 use Rattle.numbers.specs.Range.{inRange}
-use Rattle.numbers.specs.Reference.{ref, NOWHERE}
+use Rattle.numbers.specs.Reference.{ref}
 use Rattle.laws.proofs.Lists.{and-left, and-right, every-at}
 use Rattle.laws.proofs.Value.{Row-in-range}
 use Rattle.meaning.specs.Lists.{concat-map}
 use Rattle.meaning.specs.declared.chart.VarRow.{VarRow}
-use Rattle.meaning.specs.declared.plan.Counts.{Counts}
 use Rattle.meaning.specs.declared.plan.Head.{Head}
 use Rattle.meaning.specs.declared.plan.Instr.{Instr}
 use Rattle.meaning.specs.Rules.{row-fits}
 use Rattle.meaning.specs.Value.{num, count-fits, VAR-ROW, var-by, var-statable}
 use Rattle.meaning.specs.WellFormed.{SIX, HEAD-ROW, INSTR-ROW, counts-of, heads-at, code-at, plan-end, head-rows, head-by, instr-by}
-use Rattle.meaning.specs.WellFormed.{counts-keep, var-keeps, head-fits, blocks-fill, instr-fits, left-after-each, left-in-blocks}
+use Rattle.meaning.specs.WellFormed.{counts-keep, var-keeps, head-fits, blocks-fill, left-after-each, left-in-blocks}
 use Rattle.meaning.specs.WellFormed.{code-fits, well-formed}
 use Rattle.plan_rows.specs.Rows.{row, Sized}
 use Rattle.plan_rows.proofs.Rows.{sized, var-rows-length, var-rows-at, head-rows-length, head-rows-at}
-use Rattle.plan_rows.proofs.Blocks.{fills-start, fills-within, code-joined, left-length, code-block, block-instr}
+use Rattle.plan_rows.proofs.Blocks.{fills-start, fills-within, code-block, block-instr}
 use Rattle.plan_rows.proofs.Blocks.{block-within, block-fits}
 use Rattle.plan_rows.proofs.Verdict.{well-counted, well-whole, well-vars, well-heads, well-blocks, well-code}
 use Rattle.plan_rows.proofs.Kept.{Head-kept, Instr-kept, count-kept, head-kept, instr-kept}

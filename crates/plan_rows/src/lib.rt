@@ -46,11 +46,11 @@ use sizes::TRANSITIONS;
 use sizes::VARIABLES;
 ghost use mathlib.Core.Path.{_≡_};
 ghost use Prim.Native.Nat.{_+_, _*_, _<_, _≤_};
-ghost use lib.ListN.{getD, length};
+ghost use lib.ListN.{getD, length, take, drop};
 ghost use lib.IntN.{pos};
 ghost use Rattle.numbers.specs.Reference.{ref};
 ghost use Rattle.meaning.specs.Value.{size-by, var-by, VAR-ROW};
-ghost use Rattle.meaning.specs.WellFormed.{SIX, HEAD-ROW, INSTR-ROW, counts-of, heads-at, code-at, plan-end, head-guard-by, head-by};
+ghost use Rattle.meaning.specs.WellFormed.{SIX, HEAD-ROW, INSTR-ROW, counts-of, heads-at, code-at, plan-end, head-by};
 ghost use Rattle.meaning.specs.WellFormed.{instr-by};
 ghost use Rattle.plan_rows.specs.Rows.{Sized, row};
 
@@ -132,17 +132,30 @@ pub fn var_row(plan: &[i32], v: usize) -> VarRow
     }
 }
 
-// The guard of the head whose row begins at this place.
+// Of the head whose row begins at this place: its guard, the first instruction of its block, the block's length.
 pub fn guard_at(plan: &[i32], at: usize) -> Guard
     requires { ⌜ at + HEAD-ROW ≤ length (now plan) ⌝ }
-    ensures { λ r. ⌜ r ≡ head-guard-by (getD (now (plan .entry)) (at + 3) (pos 0)) (getD (now (plan .entry)) (at + 4) (pos 0))
-        (getD (now (plan .entry)) (at + 5) (pos 0)) ⌝ }
+    ensures { λ r. ⌜ r ≡ head-by (take HEAD-ROW (drop at (now (plan .entry)))) .guard ⌝ }
 {
     head_guard_by(
         read(plan, at + GUARD_VAR),
         read(plan, at + GUARD_SIGN),
         read(plan, at + GUARD_CONSTANT),
     )
+}
+
+pub fn block_start(plan: &[i32], at: usize) -> usize
+    requires { ⌜ at + HEAD-ROW ≤ length (now plan) ⌝ }
+    ensures { λ r. ⌜ r ≡ head-by (take HEAD-ROW (drop at (now (plan .entry)))) .start ⌝ }
+{
+    named(plan, at + BLOCK_START)
+}
+
+pub fn block_length(plan: &[i32], at: usize) -> usize
+    requires { ⌜ at + HEAD-ROW ≤ length (now plan) ⌝ }
+    ensures { λ r. ⌜ r ≡ head-by (take HEAD-ROW (drop at (now (plan .entry)))) .length ⌝ }
+{
+    named(plan, at + BLOCK_LENGTH)
 }
 
 // Head h, where the heads begin at base.
@@ -158,8 +171,8 @@ pub fn head_row(plan: &[i32], base: usize, h: usize) -> Head
         guard: guard_at(plan, at),
         first: named(plan, at + SPAN_FIRST),
         last: named(plan, at + SPAN_LAST),
-        start: named(plan, at + BLOCK_START),
-        length: named(plan, at + BLOCK_LENGTH),
+        start: block_start(plan, at),
+        length: block_length(plan, at),
     }
 }
 

@@ -1,5 +1,5 @@
 -- `rows_well_formed` tests variables, heads, blocks, instructions. Assumes nothing.
-use mathlib.Core.Path.{_≡_, _∙_}
+use mathlib.Core.Path.{_∙_}
 use Rattle.rules.proofs.Tests.{refuted, held}
 use Rattle.plan_rows.proofs.Verdict.{rows-vars, rows-heads, rows-blocks, rows-code}
 use borrow.Author.Needs.{needs}

@@ -1,10 +1,7 @@
 -- `well_formed` tests the counts, the length, the rows. Assumes nothing.
-use mathlib.Core.Path.{_≡_, sym, ap, _∙_}
-use Prim.Native.Nat.{_≤_}
+use mathlib.Core.Path.{ap, _∙_}
 use native.Mathlib.Omega.{arith}
-use lib.ListN.{length}
 use Rattle.meaning.specs.WellFormed.{plan-end, rows-well-formed}
-use Rattle.plan_rows.specs.Rows.{Sized}
 use Rattle.plan_rows.proofs.Rows.{sized}
 use Rattle.rules.proofs.Tests.{refuted, held}
 use Rattle.plan_rows.proofs.Verdict.{well-counts, well-cut, well-rows}

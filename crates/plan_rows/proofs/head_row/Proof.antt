@@ -12,7 +12,7 @@ returns c =
     let a = g .before .before .before .before .args in
     head-said (a .plan .now) (a .base + a .h * HEAD-ROW) (g .before .before .before .named .ensures) (g .before .before .named2 .ensures)
     (g .before .named3 .ensures) (g .guard-at .ensures) (c .before .before .before .named4 .ensures) (c .before .before .named5 .ensures)
-    (c .before .named6 .ensures) (c .named7 .ensures)
+    (c .before .block-start .ensures) (c .block-length .ensures)
 
 pub head-row-spec : {M : Type 1} → statement M
 head-row-spec =
@@ -31,8 +31,6 @@ head-row-spec =
     (λ c κs. search needs)
     (λ c. search needs)
     (λ c κs. search needs)
-    (λ c. search needs)
     (λ c κs. search needs)
-    (λ c. search needs)
     (λ c κs. search needs)
     returns)

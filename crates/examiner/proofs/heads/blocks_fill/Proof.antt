@@ -50,21 +50,12 @@ loop-holds c =
       omega (arith, heads-there (a .plan .now) (a .k) (s .pre), c .heads-at .ensures),
     )
 
-begins-with-requires : tie.Need-begins-with-requires Inv-loop μ-loop
-begins-with-requires c κs = omega arith
-
 returns-2 : tie.Need-returns-2 Inv-loop μ-loop
 returns-2 c =
     let a = c .before .before .before .before .before .before .before .args in
     let w = c .before .before .before .loop in
     fill-gap (a .k .instructions) (w .end) (w .at) (w .left) (a .plan .now) (omega arith)
     (refuted (c .before .begins-with .ensures) (c .if2 .taken)) (w .inv .0)
-
-named-requires : tie.Need-named-requires Inv-loop μ-loop
-named-requires c κs = omega arith
-
-sub-if3 : tie.Need-sub-if3 Inv-loop μ-loop
-sub-if3 c = omega arith
 
 returns-3 : tie.Need-returns-3 Inv-loop μ-loop
 returns-3 c =
@@ -74,7 +65,7 @@ returns-3 c =
     fill-long (s .args .k .instructions) (w .end) (w .at) (w .left) (s .args .plan .now) (omega arith)
     (whole-few (s .args .plan .now) (s .args .k) (s .pre)) (w .inv .1)
     (held (b .begins-with .ensures) (c .before .before .before .if2 .left))
-    (c .before .before .named .result) (c .before .before .named .ensures) (c .if3 .taken) (w .inv .0)
+    (c .before .before .block-length .result) (c .before .before .block-length .ensures) (c .if3 .taken) (w .inv .0)
 
 loop-again : tie.Need-loop-again Inv-loop μ-loop
 loop-again c =
@@ -84,7 +75,7 @@ loop-again c =
       fill-next (s .args .k .instructions) (w .end) (w .at) (w .left) (s .args .plan .now) (omega arith)
           (whole-few (s .args .plan .now) (s .args .k) (s .pre)) (w .inv .1)
           (held (b .begins-with .ensures) (c .before .before .before .if2 .left))
-          (c .before .before .named .result) (c .before .before .named .ensures) (w .inv .0),
+          (c .before .before .block-length .result) (c .before .before .block-length .ensures) (w .inv .0),
       omega arith,
       omega arith,
     )
@@ -104,11 +95,10 @@ blocks-fill-spec =
     returns
     heads-at-requires
     loop-holds
-    begins-with-requires
+    (λ c κs. omega arith)
     returns-2
-    (λ c. search needs)
-    named-requires
-    sub-if3
+    (λ c κs. omega arith)
+    (λ c. omega arith)
     returns-3
     (λ c. search needs)
     (λ c. search needs)

@@ -43,15 +43,6 @@ returns c =
     each-stop (head-fits (a .k)) HEAD-ROW (w .at) (w .left) (a .plan .now) (omega arith)
     (refuted (c .before .head-fits .ensures) (c .if1 .taken)) (w .inv .0)
 
-add-at : tie.Need-add-at Inv-loop μ-loop
-add-at c = search needs
-
-sub-left : tie.Need-sub-left Inv-loop μ-loop
-sub-left c = omega arith
-
-loop-less : tie.Need-loop-less Inv-loop μ-loop
-loop-less c = omega arith
-
 loop-again : tie.Need-loop-again Inv-loop μ-loop
 loop-again c =
     let a = c .before .before .before .before .before .args in
@@ -77,8 +68,8 @@ heads-fit-spec =
     loop-holds
     head-fits-requires
     returns
-    add-at
-    sub-left
-    loop-less
+    (λ c. search needs)
+    (λ c. omega arith)
+    (λ c. omega arith)
     loop-again
     returns-2)

@@ -22,9 +22,6 @@ abbrev μ-loop : tie.MeasureT-loop
 loop-holds : tie.Need-loop-holds Inv-loop μ-loop
 loop-holds c = (refl, refl, omega arith)
 
-sub-left : tie.Need-sub-left Inv-loop μ-loop
-sub-left c = omega arith
-
 instr-fits-requires : tie.Need-instr-fits-requires Inv-loop μ-loop
 instr-fits-requires c κs = (c .before .before .pre .0, omega arith, omega arith)
 
@@ -33,12 +30,6 @@ returns c =
     let a = c .before .before .before .before .args in
     let w = c .before .before .before .loop in
     block-stop (a .k) (w .at) (w .left) (a .plan .now) (omega arith) (refuted (c .before .instr-fits .ensures) (c .if1 .taken)) (w .inv .0)
-
-add-at : tie.Need-add-at Inv-loop μ-loop
-add-at c = search needs
-
-loop-less : tie.Need-loop-less Inv-loop μ-loop
-loop-less c = omega arith
 
 loop-again : tie.Need-loop-again Inv-loop μ-loop
 loop-again c =
@@ -62,10 +53,10 @@ block-fits-spec =
     Inv-loop
     μ-loop
     loop-holds
-    sub-left
+    (λ c. omega arith)
     instr-fits-requires
     returns
-    add-at
-    loop-less
+    (λ c. search needs)
+    (λ c. omega arith)
     loop-again
     returns-2)

@@ -1,12 +1,12 @@
 -- `code_fits` tries each block, the start block first. Assumes nothing.
-use mathlib.Core.Path.{_≡_, sym, ap, _∙_}
+use mathlib.Core.Path.{_≡_, _∙_}
 use mathlib.Core.Bool.{true}
 use Prim.Native.Nat.{ℕ, _+_, _*_, _≤_}
 use native.Mathlib.Omega.{arith}
 use lib.ListN.{length, drop}
 use Rattle.meaning.specs.Lists.{chunks}
-use Rattle.meaning.specs.WellFormed.{HEAD-ROW, INSTR-ROW, heads-at, code-at, head-rows, blocks-fill, left-after-each}
-use Rattle.meaning.specs.WellFormed.{left-in-blocks, code-fits, all-blocks-fill}
+use Rattle.meaning.specs.WellFormed.{HEAD-ROW, INSTR-ROW, code-at, head-rows, blocks-fill, left-after-each}
+use Rattle.meaning.specs.WellFormed.{left-in-blocks, code-fits}
 use Rattle.plan_rows.proofs.Blocks.{fills-start, fills-within}
 use Rattle.rules.proofs.Tests.{refuted, held}
 use Rattle.examiner.proofs.Wholes.{whole-sized, whole-start, whole-few, heads-there, code-there}
@@ -24,11 +24,11 @@ Inv-loop plan k base done₀ head₀ left₀ done head left =
 abbrev μ-loop : tie.MeasureT-loop
 μ-loop plan k base done₀ head₀ left₀ done head left = left
 
-abbrev start-from-named : tie.After-named Inv-loop μ-loop → tie.Start Inv-loop μ-loop
-start-from-named c = c .before .before .before .before .before .before .before
+abbrev start-from-length : tie.After-block-length Inv-loop μ-loop → tie.Start Inv-loop μ-loop
+start-from-length c = c .before .before .before .before .before .before .before
 
-abbrev base-from-named : tie.After-named Inv-loop μ-loop → ℕ
-base-from-named c = c .before .before .before .before .before .before .code-at .result
+abbrev base-from-length : tie.After-block-length Inv-loop μ-loop → ℕ
+base-from-length c = c .before .before .before .before .before .before .code-at .result
 
 -- the blocks fill the instructions, so the start block lies within them
 begun : (c : tie.Start Inv-loop μ-loop)
@@ -57,8 +57,9 @@ start-tried c = c .block-fits .ensures
 
 block-tried : (c : tie.After-block-fits2 Inv-loop μ-loop)
     → c .block-fits2 .result
-    ≡ code-fits (start-from-named (c .before) .args .k) (left-after-each (c .before .named .result))
-    (drop (base-from-named (c .before) + c .before .before .before .loop .done * INSTR-ROW) (start-from-named (c .before) .args .plan .now))
+    ≡ code-fits (start-from-length (c .before) .args .k) (left-after-each (c .before .block-length .result))
+    (drop (base-from-length (c .before) + c .before .before .before .loop .done * INSTR-ROW)
+    (start-from-length (c .before) .args .plan .now))
 block-tried c = c .block-fits2 .ensures
 
 returns : tie.Need-returns Inv-loop μ-loop
@@ -83,29 +84,23 @@ loop-holds c =
       omega (arith, heads-there (a .plan .now) (a .k) (s .pre .0), c .heads-at .ensures),
     )
 
-add-named : tie.Need-add-named Inv-loop μ-loop
-add-named c = search needs
-
-named-requires : tie.Need-named-requires Inv-loop μ-loop
-named-requires c κs = omega arith
-
-inside : (c : tie.After-named Inv-loop μ-loop)
-    → c .before .before .loop .done + c .named .result ≤ start-from-named c .args .k .instructions
+inside : (c : tie.After-block-length Inv-loop μ-loop)
+    → c .before .before .loop .done + c .block-length .result ≤ start-from-length c .args .k .instructions
 inside c =
-    let a = start-from-named c .args in
+    let a = start-from-length c .args in
     let w = c .before .before .loop in
-    filled-within (a .k) (base-from-named c) (w .done) (w .left) (w .head)
-    (a .plan .now) (c .named .result)
-    (c .named .ensures) (omega arith) (a .k .instructions) (w .inv .1)
+    filled-within (a .k) (base-from-length c) (w .done) (w .left) (w .head)
+    (a .plan .now) (c .block-length .result)
+    (c .block-length .ensures) (omega arith) (a .k .instructions) (w .inv .1)
 
 mul-block-fits : tie.Need-mul-block-fits Inv-loop μ-loop
 mul-block-fits c =
-    let s = start-from-named c in
+    let s = start-from-length c in
     omega (arith, inside c, whole-sized (s .args .plan .now) (s .args .k) (s .pre .0))
 
 add-block-fits : tie.Need-add-block-fits Inv-loop μ-loop
 add-block-fits c =
-    let s = start-from-named c in
+    let s = start-from-length c in
     omega (
       arith,
       inside c,
@@ -115,7 +110,7 @@ add-block-fits c =
 
 block-fits-requires-2 : tie.Need-block-fits-requires-2 Inv-loop μ-loop
 block-fits-requires-2 c κs =
-    let s = start-from-named c in
+    let s = start-from-length c in
     let z = whole-sized (s .args .plan .now) (s .args .k) (s .pre .0) in
     let i = inside c in (
       z,
@@ -130,36 +125,27 @@ block-fits-requires-2 c κs =
 returns-2 : tie.Need-returns-2 Inv-loop μ-loop
 returns-2 c =
     let d = c .before .before in
-    let a = start-from-named d .args in
+    let a = start-from-length d .args in
     let w = d .before .before .loop in
-    blocks-stop (a .k) (base-from-named d) (w .done) (w .left) (w .head)
-    (a .plan .now) (d .named .result)
-    (d .named .ensures) (omega arith) (refuted (block-tried (c .before)) (c .if2 .taken)) (w .inv .0)
+    blocks-stop (a .k) (base-from-length d) (w .done) (w .left) (w .head)
+    (a .plan .now) (d .block-length .result)
+    (d .block-length .ensures) (omega arith) (refuted (block-tried (c .before)) (c .if2 .taken)) (w .inv .0)
 
 add-done : tie.Need-add-done Inv-loop μ-loop
 add-done c =
     let d = c .before .before in
-    let s = start-from-named d in
+    let s = start-from-length d in
     omega (arith, inside d, whole-sized (s .args .plan .now) (s .args .k) (s .pre .0))
-
-add-head : tie.Need-add-head Inv-loop μ-loop
-add-head c = search needs
-
-sub-left : tie.Need-sub-left Inv-loop μ-loop
-sub-left c = omega arith
-
-loop-less : tie.Need-loop-less Inv-loop μ-loop
-loop-less c = omega arith
 
 loop-again : tie.Need-loop-again Inv-loop μ-loop
 loop-again c =
     let d = c .before .before in
-    let a = start-from-named d .args in
+    let a = start-from-length d .args in
     let w = d .before .before .loop in
-    let b = base-from-named d in (
-      blocks-next (a .k) b (w .done) (w .left) (w .head) (a .plan .now) (d .named .result) (d .named .ensures) (omega arith)
+    let b = base-from-length d in (
+      blocks-next (a .k) b (w .done) (w .left) (w .head) (a .plan .now) (d .block-length .result) (d .block-length .ensures) (omega arith)
           (held (block-tried (c .before)) (c .if2 .left)) (w .inv .0),
-      filled-on (a .k) b (w .done) (w .left) (w .head) (a .plan .now) (d .named .result) (d .named .ensures) (omega arith)
+      filled-on (a .k) b (w .done) (w .left) (w .head) (a .plan .now) (d .block-length .result) (d .block-length .ensures) (omega arith)
           (a .k .instructions) (w .inv .1),
       omega arith,
     )
@@ -182,15 +168,14 @@ code-fits-spec =
     returns
     heads-at-requires
     loop-holds
-    add-named
-    named-requires
+    (λ c κs. omega arith)
     mul-block-fits
     add-block-fits
     block-fits-requires-2
     returns-2
     add-done
-    add-head
-    sub-left
-    loop-less
+    (λ c. search needs)
+    (λ c. omega arith)
+    (λ c. omega arith)
     loop-again
     returns-3)

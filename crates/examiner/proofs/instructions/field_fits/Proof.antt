@@ -1,5 +1,4 @@
 -- `field_fits` goes by what the number is. Assumes nothing.
-use mathlib.Core.Path.{sym, _∙_}
 use lib.IntN.{pos, negsuc}
 use Rattle.numbers.specs.Equal.{eqZ}
 use Rattle.numbers.specs.Range.{inRange}

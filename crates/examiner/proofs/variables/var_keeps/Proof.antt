@@ -1,6 +1,5 @@
 -- `var_keeps` tests R5, then the range of each number. Assumes nothing.
-use mathlib.Core.Path.{_≡_, sym, ap, _∙_}
-use mathlib.Core.Bool.{_&&_}
+use mathlib.Core.Path.{_≡_, ap, _∙_}
 use Rattle.numbers.specs.Range.{within, inRange}
 use Rattle.numbers.proofs.Laws.{back32}
 use Rattle.meaning.specs.Value.{VAR-ROW}

@@ -3,7 +3,7 @@ use mathlib.Core.Path.{_≡_, refl, sym, ap, _∙_}
 use mathlib.Core.List.{[]}
 use Prim.Native.Nat.{_-_, _<_, _≤_}
 use native.Mathlib.Omega.{arith}
-use lib.ListN.{length, drop}
+use lib.ListN.{drop}
 use Rattle.meaning.specs.Lists.{every, chunks}
 use Rattle.meaning.specs.Value.{VAR-ROW}
 use Rattle.meaning.specs.WellFormed.{SIX, var-keeps, var-rows}
@@ -59,25 +59,16 @@ returns-2 c =
     let h : k .vars ≤ w .v = omega arith in
     every-done var-keeps (var-rows ns k) [] (w .v) (rw (var-rows-length ns k) h) (w .inv)
 
-loop-holds : tie.Need-loop-holds Inv-loop μ-loop
-loop-holds c = refl
-
-add-v : tie.Need-add-v Inv-loop μ-loop
-add-v c = omega arith
-
-loop-less : tie.Need-loop-less Inv-loop μ-loop
-loop-less c = omega arith
-
 pub vars-keep-spec : {M : Type 1} → statement M
 vars-keep-spec =
     tie.close
     (tie.spec
     Inv-loop
     μ-loop
-    loop-holds
+    (λ c. refl)
     var-keeps-requires
     returns
-    add-v
-    loop-less
+    (λ c. omega arith)
+    (λ c. omega arith)
     loop-again
     returns-2)

@@ -18,12 +18,6 @@ abbrev μ-loop : tie.MeasureT-loop
 loop-holds : tie.Need-loop-holds Inv-loop μ-loop
 loop-holds c = (omega arith, refl)
 
-same-length : tie.Need-same-length Inv-loop μ-loop
-same-length c = search needs
-
-returns : tie.Need-returns Inv-loop μ-loop
-returns c = search needs
-
 loop-less : tie.Need-loop-less Inv-loop μ-loop
 loop-less c =
     let d = c .before .before in
@@ -35,12 +29,6 @@ loop-again c =
     let x = toZ w32 (ofZ w32 (c .before .signed .result)) in
     (omega (arith, length-set (w .into) (w .count) x), length-set (w .into) (w .count) x ∙ w .inv .1)
 
-same-length-2 : tie.Need-same-length-2 Inv-loop μ-loop
-same-length-2 c = search needs
-
-returns-2 : tie.Need-returns-2 Inv-loop μ-loop
-returns-2 c = search needs
-
 pub read-numbers-spec : {M : Type 1} → statement M
 read-numbers-spec =
     tie.close
@@ -48,8 +36,8 @@ read-numbers-spec =
     Inv-loop
     μ-loop
     loop-holds
-    same-length
-    returns
+    (λ c. search needs)
+    (λ c. search needs)
     (λ c κs. search needs)
     (λ c κs. search needs)
     (λ c κs. search needs)
@@ -59,5 +47,5 @@ read-numbers-spec =
     (λ c. search needs)
     loop-less
     loop-again
-    same-length-2
-    returns-2)
+    (λ c. search needs)
+    (λ c. search needs))
