@@ -1,3 +1,5 @@
 pub mod ByRules
 pub mod TextKept
+pub mod Examining
 pub mod Unique
+pub mod UniquePlans

@@ -29,10 +29,10 @@ pub record Settles {A R E L : Type 0} (given asked : A → Type 0) (learnt promi
   -- two results that it allows are equal, and so is what it wrote
   pub unique : (a : A) (r s : R) (x y : E) → learnt a r x → learnt a s y → (r ≡ s) × (lent x ≡ lent y)
 
-one : {A : Type 0} {d x y : A} → x ≡ d → y ≡ d → x ≡ y
+pub one : {A : Type 0} {d x y : A} → x ≡ d → y ≡ d → x ≡ y
 one p q = p ∙ sym q
 
-abbrev nothing : {A : Type 0} → A → Type 0
+abbrev pub nothing : {A : Type 0} → A → Type 0
 nothing a = Unit {0}
 
 -- ---- the functions that require nothing

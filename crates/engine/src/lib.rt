@@ -1,7 +1,8 @@
 // The engine's door (01): every function that a host or a program calls, each with its promise by name (crate promises). A chart is a
 // value in lent numbers, and no function here asks anything of what it is lent. A caller that has checked a chart once finds in checked
-// the same calls without the check.
+// the same calls without the check. Plans have a module of their own.
 pub mod checked;
+pub mod plans;
 
 use calls::answers::refused;
 use checked::discard_checked;
@@ -12,6 +13,7 @@ pub use meaning::Answer;
 pub use meaning::Called;
 pub use meaning::State;
 pub use meaning::Written;
+pub use meaning::plan::Compiled;
 use queue::Queue;
 use reaction::ends::refuse;
 use reader::read::clear;

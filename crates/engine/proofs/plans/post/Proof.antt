@@ -1,0 +1,10 @@
+-- `post` says by name what the machine says. Assumes nothing.
+use borrow.Author.Needs.{needs}
+use Rattle.engine.proofs.plans.post.Statement.{statement}
+use Rattle.engine.proofs.plans.post.Tie as tie
+
+returns : tie.Need-returns
+returns c = record { result = c .post .ensures }
+
+pub post-spec : {M : Type 1} → statement M
+post-spec = tie.close (tie.spec (λ c κs. search needs) returns)
