@@ -49,7 +49,8 @@ pub fn open<'a>(text: &'a [u8]) -> Reader<'a>
     Reader { text, at: 0 }
 }
 
-// Line by line, from numbers that are all 0. Where the answer is not 0, or there are too few for a value, what stands in them afterwards is of no use.
+// Line by line, from numbers that are all 0. Where the answer is not 0, or there are too few for a value, what stands in them
+// afterwards is of no use.
 pub fn walk(text: &[u8], chart: &mut [i32]) -> Answer
     requires { ⌜ now chart ≡ zeros (length (now chart)) ⌝ }
     ensures { λ r. ⌜ Scanned (walk-of 1 start (lines (now (text .entry)))) r (length (now (chart .entry))) (now (chart .exit)) ⌝ }

@@ -1,5 +1,6 @@
 -- `reader::order::line` meets its contract: each way out is a law of the files beside. Assumes nothing.
-use Rattle.reader.proofs.OrderLaws.{is-s, is-v, is-e, is-t, is-a, is-none, took-s, took-v, took-e, took-t, took-a, not-s, not-v, not-e, not-t, not-a, not-any}
+use Rattle.reader.proofs.OrderLaws.{is-s, is-v, is-e, is-t, is-a, is-none, took-s, took-v, took-e, took-t, took-a, not-s, not-v}
+use Rattle.reader.proofs.OrderLaws.{not-e, not-t, not-a, not-any}
 use borrow.Author.Needs.{needs}
 use Rattle.reader.proofs.order.line.Statement.{statement}
 use Rattle.reader.proofs.order.line.Tie as tie

@@ -1,5 +1,6 @@
 -- `reader::read::read_rows` meets its contract: each way out is a law of the files beside. Assumes nothing.
-use Rattle.reader.proofs.ReadLaws.{rows-long, rows-fault, rows-few, rows-done, all-zero, zero-again, scanned-at, zero-length, few-at, enough-at}
+use Rattle.reader.proofs.ReadLaws.{rows-long, rows-fault, rows-few, rows-done, all-zero, zero-again, scanned-at, zero-length, few-at}
+use Rattle.reader.proofs.ReadLaws.{enough-at}
 use borrow.Author.Needs.{needs}
 use Rattle.reader.proofs.read.read_rows.Statement.{statement}
 use Rattle.reader.proofs.read.read_rows.Tie as tie
