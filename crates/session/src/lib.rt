@@ -151,12 +151,12 @@ pub fn feed(chart: &[i32], under: Under, b: u8, out: &mut [u8]) -> Under
     let scan = under.scan;
     let at = under.at;
     if b == LF {
-        let t = turn(chart, state, scan.line(), out, at);
-        let after = t.state;
+        let ended = turn(chart, state, scan.line(), out, at);
+        let after = ended.state;
         return Under {
             state: after,
             scan: Scan::empty(),
-            at: t.at,
+            at: ended.at,
         };
     }
     Under {
