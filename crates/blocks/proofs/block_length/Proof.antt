@@ -5,9 +5,6 @@ use borrow.Author.Needs.{needs}
 use Rattle.blocks.proofs.block_length.Statement.{statement}
 use Rattle.blocks.proofs.block_length.Tie as tie
 
-slice-aggregate-put-block : tie.Need-slice-aggregate-put-block
-slice-aggregate-put-block c = search needs
-
 put-block-requires : tie.Need-put-block-requires
 put-block-requires c κs = (c .before .pre .0, c .before .pre .1, c .before .pre .2)
 
@@ -15,4 +12,4 @@ returns : tie.Need-returns
 returns c = omega (arith, emits-at _ _ _ (c .before .put-block .ensures))
 
 pub block-length-spec : {M : Type 1} → statement M
-block-length-spec = tie.close (tie.spec slice-aggregate-put-block put-block-requires returns)
+block-length-spec = tie.close (tie.spec (λ c. search needs) put-block-requires returns)

@@ -21,27 +21,58 @@ abbrev μ-loop : tie.MeasureT-loop
 μ-loop chart index s plan₀ at p₀ d₀ plan p d =
     d
 
+abbrev in-loop-from-plan : tie.After-plan Inv-loop μ-loop → tie.In-loop Inv-loop μ-loop
+in-loop-from-plan c = c .before .before .before
+
+abbrev at-loop-from-plan : tie.After-plan Inv-loop μ-loop → tie.At-loop Inv-loop μ-loop
+at-loop-from-plan c = in-loop-from-plan c .before
+
+abbrev start-from-put-exit-arg : tie.After-put-exit-arg Inv-loop μ-loop → tie.Start Inv-loop μ-loop
+start-from-put-exit-arg c = c .before .before .before .before
+
 end-below-requires : tie.Need-end-below-requires Inv-loop μ-loop
 end-below-requires c κs = (c .pre .0 .ruled, c .pre .1)
 
 loop-holds : tie.Need-loop-holds Inv-loop μ-loop
 unfolding exits-code
-loop-holds c = (omega arith, falling-begin (chart-of (c .before .args .chart .now)) (sound (c .before .args .chart .now) (c .before .pre .0 .ruled)) (c .before .args .s) (c .before .pre .1) (exit-code (chart-of (c .before .args .chart .now))) _ _ _ (c .end-below .ensures))
+loop-holds c = (
+  omega arith,
+  falling-begin (chart-of (c .before .args .chart .now))
+      (sound (c .before .args .chart .now) (c .before .pre .0 .ruled)) (c .before .args .s)
+      (c .before .pre .1) (exit-code (chart-of (c .before .args .chart .now))) _ _ _
+      (c .end-below .ensures),
+)
 
 add-loop : tie.Need-add-loop Inv-loop μ-loop
 add-loop c = omega (arith, c .before .before .pre .1, states-most (c .before .before .args .chart .now))
 
-sub-d : tie.Need-sub-d Inv-loop μ-loop
-sub-d c = search needs
-
 put-exit-requires : tie.Need-put-exit-requires Inv-loop μ-loop
-put-exit-requires c κs = (c .before .before .before .before .pre .0, omega (arith, c .before .loop-test .taken, c .before .before .loop .inv .0, end-inside (chart-of (c .before .before .before .before .args .chart .now)) (sound (c .before .before .before .before .args .chart .now) (c .before .before .before .before .pre .0 .ruled)) (c .before .before .before .before .args .s) (c .before .before .before .before .pre .1) (exit-code (chart-of (c .before .before .before .before .args .chart .now))) (c .before .before .before .before .args .plan .now) (c .before .before .before .before .args .at) _ (c .before .before .before .end-below .ensures)), falling-room (c .before .before .loop .inv .1) (omega arith) (c .before .before .before .before .pre .2))
+put-exit-requires c κs = (
+  start-from-put-exit-arg c .pre .0,
+  omega (
+    arith,
+    c .before .loop-test .taken,
+    c .before .before .loop .inv .0,
+    end-inside (chart-of (start-from-put-exit-arg c .args .chart .now))
+        (sound (start-from-put-exit-arg c .args .chart .now)
+        (start-from-put-exit-arg c .pre .0 .ruled)) (start-from-put-exit-arg c .args .s)
+        (start-from-put-exit-arg c .pre .1)
+        (exit-code (chart-of (start-from-put-exit-arg c .args .chart .now)))
+        (start-from-put-exit-arg c .args .plan .now) (start-from-put-exit-arg c .args .at) _
+        (c .before .before .before .end-below .ensures),
+  ),
+  falling-room (c .before .before .loop .inv .1) (omega arith) (start-from-put-exit-arg c .pre .2),
+)
 
 loop-less : tie.Need-loop-less Inv-loop μ-loop
-loop-less c = omega (arith, c .before .before .before .loop-test .taken)
+loop-less c = omega (arith, in-loop-from-plan c .loop-test .taken)
 
 loop-again : tie.Need-loop-again Inv-loop μ-loop
-loop-again c = (omega (arith, c .before .before .before .before .loop .inv .0), falling-on (c .before .before .before .before .loop .inv .1) (omega (arith, c .before .before .before .loop-test .taken)) (c .before .put-exit .ensures))
+loop-again c = (
+  omega (arith, at-loop-from-plan c .loop .inv .0),
+  falling-on (at-loop-from-plan c .loop .inv .1) (omega (arith, in-loop-from-plan c .loop-test .taken))
+      (c .before .put-exit .ensures),
+)
 
 same-length : tie.Need-same-length Inv-loop μ-loop
 same-length c = omega (arith, same-size _ _ _ _ _ _ (c .before .loop .inv .1 .owes))
@@ -51,16 +82,5 @@ returns c = falling-end (c .before .loop .inv .1) (omega (arith, c .loop-test .l
 
 pub put-exits-spec : {M : Type 1} → statement M
 put-exits-spec =
-    tie.close
-    (tie.spec
-    Inv-loop
-    μ-loop
-    end-below-requires
-    loop-holds
-    add-loop
-    sub-d
-    put-exit-requires
-    loop-less
-    loop-again
-    same-length
-    returns)
+    tie.close (tie.spec Inv-loop μ-loop end-below-requires loop-holds add-loop (λ c. search needs)
+    put-exit-requires loop-less loop-again same-length returns)

@@ -6,14 +6,15 @@ use borrow.Author.Needs.{needs}
 use Rattle.compiler.proofs.code_length.Statement.{statement}
 use Rattle.compiler.proofs.code_length.Tie as tie
 
-slice-aggregate-put-code : tie.Need-slice-aggregate-put-code
-slice-aggregate-put-code c = search needs
-
 put-code-requires : tie.Need-put-code-requires
-put-code-requires c κs = (c .before .pre .0, c .before .pre .1, omega (arith, code-most (c .before .args .chart .now) (c .before .pre .0 .ruled)))
+put-code-requires c κs = (
+  c .before .pre .0,
+  c .before .pre .1,
+  omega (arith, code-most (c .before .args .chart .now) (c .before .pre .0 .ruled)),
+)
 
 returns : tie.Need-returns
 returns c = omega (arith, emits-at _ _ _ (c .before .put-code .ensures))
 
 pub code-length-spec : {M : Type 1} → statement M
-code-length-spec = tie.close (tie.spec slice-aggregate-put-code put-code-requires returns)
+code-length-spec = tie.close (tie.spec (λ c. search needs) put-code-requires returns)

@@ -16,6 +16,18 @@ abbrev μ-loop : tie.MeasureT-loop
 μ-loop chart index order count plan₀ at p₀ j₀ plan p j =
     count - j
 
+abbrev at-loop-from-put-block-arg : tie.After-put-block-arg Inv-loop μ-loop → tie.At-loop Inv-loop μ-loop
+at-loop-from-put-block-arg c = c .before .before .before
+
+abbrev in-loop-from-plan : tie.After-plan Inv-loop μ-loop → tie.In-loop Inv-loop μ-loop
+in-loop-from-plan c = c .before .before .before .before
+
+abbrev start-from-put-block-arg : tie.After-put-block-arg Inv-loop μ-loop → tie.Start Inv-loop μ-loop
+start-from-put-block-arg c = at-loop-from-put-block-arg c .before
+
+abbrev start-from-plan : tie.After-plan Inv-loop μ-loop → tie.Start Inv-loop μ-loop
+start-from-plan c = in-loop-from-plan c .before .before
+
 loop-holds : tie.Need-loop-holds Inv-loop μ-loop
 loop-holds c = record { owes = refl }
 
@@ -26,16 +38,25 @@ element-copy-out-t : tie.Need-element-copy-out-t Inv-loop μ-loop
 element-copy-out-t c = omega (arith, c .loop-test .taken, c .before .before .pre .1 .few, c .before .before .pre .1 .size)
 
 put-block-requires : tie.Need-put-block-requires Inv-loop μ-loop
-put-block-requires c κs = (c .before .before .before .before .pre .0, order-inside (c .before .before .before .before .args .chart .now) (c .before .before .before .before .pre .0 .ruled) (c .before .before .before .before .pre .1) (c .before .before .before .loop .j) (c .before .before .loop-test .taken), blocking-room (c .before .before .before .before .pre .1) (c .before .before .before .loop .inv) (c .before .before .loop-test .taken) (c .before .before .before .before .pre .2))
+put-block-requires c κs = (
+  start-from-put-block-arg c .pre .0,
+  order-inside (start-from-put-block-arg c .args .chart .now) (start-from-put-block-arg c .pre .0 .ruled)
+      (start-from-put-block-arg c .pre .1) (at-loop-from-put-block-arg c .loop .j)
+      (c .before .before .loop-test .taken),
+  blocking-room (start-from-put-block-arg c .pre .1) (at-loop-from-put-block-arg c .loop .inv)
+      (c .before .before .loop-test .taken) (start-from-put-block-arg c .pre .2),
+)
 
 add-j : tie.Need-add-j Inv-loop μ-loop
-add-j c = omega (arith, c .before .before .before .before .loop-test .taken, c .before .before .before .before .before .before .pre .1 .few)
+add-j c = omega (arith, in-loop-from-plan c .loop-test .taken, start-from-plan c .pre .1 .few)
 
 loop-less : tie.Need-loop-less Inv-loop μ-loop
-loop-less c = omega (arith, c .before .before .before .before .loop-test .taken)
+loop-less c = omega (arith, in-loop-from-plan c .loop-test .taken)
 
 loop-again : tie.Need-loop-again Inv-loop μ-loop
-loop-again c = blocking-on (c .before .before .before .before .before .before .pre .1) (c .before .before .before .before .before .loop .inv) (c .before .before .before .before .loop-test .taken) (c .before .put-block .ensures)
+loop-again c =
+    blocking-on (start-from-plan c .pre .1) (in-loop-from-plan c .before .loop .inv)
+    (in-loop-from-plan c .loop-test .taken) (c .before .put-block .ensures)
 
 same-length : tie.Need-same-length Inv-loop μ-loop
 same-length c = omega (arith, same-size _ _ _ _ _ _ (c .before .loop .inv .owes))
@@ -45,16 +66,5 @@ returns c = blocking-end (c .before .before .pre .1) (c .before .loop .inv) (c .
 
 pub put-blocks-spec : {M : Type 1} → statement M
 put-blocks-spec =
-    tie.close
-    (tie.spec
-    Inv-loop
-    μ-loop
-    loop-holds
-    mul-t
-    element-copy-out-t
-    put-block-requires
-    add-j
-    loop-less
-    loop-again
-    same-length
-    returns)
+    tie.close (tie.spec Inv-loop μ-loop loop-holds mul-t element-copy-out-t put-block-requires add-j loop-less
+    loop-again same-length returns)

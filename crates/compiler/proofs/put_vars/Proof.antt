@@ -19,26 +19,56 @@ abbrev μ-loop : tie.MeasureT-loop
 μ-loop chart plan₀ at n p₀ v₀ plan p v =
     n - v
 
-var-count-requires : tie.Need-var-count-requires Inv-loop μ-loop
-var-count-requires c κs = search needs
+abbrev in-loop-from-struct-told3 : tie.After-struct-told3 Inv-loop μ-loop → tie.In-loop Inv-loop μ-loop
+in-loop-from-struct-told3 c = c .before .before .before .before .before
+
+abbrev var-row-from-plan : tie.After-plan Inv-loop μ-loop → tie.After-var-row Inv-loop μ-loop
+var-row-from-plan c = c .before .before .before .before .before .before
+
+abbrev in-loop-from-plan : tie.After-plan Inv-loop μ-loop → tie.In-loop Inv-loop μ-loop
+in-loop-from-plan c = var-row-from-plan c .before
+
+abbrev start-from-struct-told3 : tie.After-struct-told3 Inv-loop μ-loop → tie.Start Inv-loop μ-loop
+start-from-struct-told3 c = in-loop-from-struct-told3 c .before .before .before
+
+abbrev var-count-from-plan : tie.After-plan Inv-loop μ-loop → tie.After-var-count Inv-loop μ-loop
+var-count-from-plan c = in-loop-from-plan c .before .before
 
 loop-holds : tie.Need-loop-holds Inv-loop μ-loop
 loop-holds c = ranging-begin _ _ _
 
-var-row-requires : tie.Need-var-row-requires Inv-loop μ-loop
-var-row-requires c κs = search needs
-
 put-three-requires : tie.Need-put-three-requires Inv-loop μ-loop
-put-three-requires c κs = omega (arith, c .before .before .before .before .before .before .loop .inv .placed, c .before .before .before .before .before .loop-test .taken, c .before .before .before .before .before .before .before .var-count .ensures, vars-most (c .before .before .before .before .before .before .before .before .args .chart .now), c .before .before .before .before .before .before .before .before .pre)
+put-three-requires c κs =
+    omega (
+      arith,
+      in-loop-from-struct-told3 c .before .loop .inv .placed,
+      in-loop-from-struct-told3 c .loop-test .taken,
+      in-loop-from-struct-told3 c .before .before .var-count .ensures,
+      vars-most (start-from-struct-told3 c .args .chart .now),
+      start-from-struct-told3 c .pre,
+    )
 
 add-v : tie.Need-add-v Inv-loop μ-loop
-add-v c = omega (arith, c .before .before .before .before .before .before .before .loop-test .taken, c .before .before .before .before .before .before .before .before .before .var-count .ensures, vars-most (c .before .before .before .before .before .before .before .before .before .before .args .chart .now))
+add-v c =
+    omega (
+      arith,
+      in-loop-from-plan c .loop-test .taken,
+      var-count-from-plan c .var-count .ensures,
+      vars-most (var-count-from-plan c .before .args .chart .now),
+    )
 
 loop-less : tie.Need-loop-less Inv-loop μ-loop
-loop-less c = omega (arith, c .before .before .before .before .before .before .before .loop-test .taken)
+loop-less c = omega (arith, in-loop-from-plan c .loop-test .taken)
 
 loop-again : tie.Need-loop-again Inv-loop μ-loop
-loop-again c = let fl : SFits w32 (c .before .before .before .before .before .before .var-row .result .low) = search needs in let fh : SFits w32 (c .before .before .before .before .before .before .var-row .result .high) = search needs in let ff : SFits w32 (c .before .before .before .before .before .before .var-row .result .first) = search needs in ranging-on (c .before .before .before .before .before .before .before .before .loop .inv) (omega (arith, c .before .before .before .before .before .before .before .loop-test .taken, c .before .before .before .before .before .before .before .before .before .var-count .ensures)) _ (c .before .before .before .before .before .before .var-row .ensures) (rw (toZ-ofZ fl, toZ-ofZ fh, toZ-ofZ ff) at (c .before .put-three .ensures))
+loop-again c =
+    let fl : SFits w32 (var-row-from-plan c .var-row .result .low) = search needs in
+    let fh : SFits w32 (var-row-from-plan c .var-row .result .high) = search needs in
+    let ff : SFits w32 (var-row-from-plan c .var-row .result .first) = search needs in
+    ranging-on (in-loop-from-plan c .before .loop .inv)
+    (omega (arith, in-loop-from-plan c .loop-test .taken, var-count-from-plan c .var-count .ensures)) _
+    (var-row-from-plan c .var-row .ensures)
+    (rw (toZ-ofZ fl, toZ-ofZ fh, toZ-ofZ ff) at (c .before .put-three .ensures))
 
 same-length : tie.Need-same-length Inv-loop μ-loop
 same-length c = omega (arith, same-sized _ _ _ _ _ _ (c .before .loop .inv .owes))
@@ -48,16 +78,5 @@ returns c = ranging-end (c .before .loop .inv) (omega (arith, c .loop-test .left
 
 pub put-vars-spec : {M : Type 1} → statement M
 put-vars-spec =
-    tie.close
-    (tie.spec
-    Inv-loop
-    μ-loop
-    var-count-requires
-    loop-holds
-    var-row-requires
-    put-three-requires
-    add-v
-    loop-less
-    loop-again
-    same-length
-    returns)
+    tie.close (tie.spec Inv-loop μ-loop (λ c κs. search needs) loop-holds (λ c κs. search needs)
+    put-three-requires add-v loop-less loop-again same-length returns)

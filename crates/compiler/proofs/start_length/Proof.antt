@@ -6,9 +6,6 @@ use borrow.Author.Needs.{needs}
 use Rattle.compiler.proofs.start_length.Statement.{statement}
 use Rattle.compiler.proofs.start_length.Tie as tie
 
-slice-aggregate-put-start : tie.Need-slice-aggregate-put-start
-slice-aggregate-put-start c = search needs
-
 put-start-requires : tie.Need-put-start-requires
 put-start-requires c κs = (c .before .pre, omega (arith, start-few (c .before .args .chart .now) (c .before .pre .ruled)))
 
@@ -16,4 +13,4 @@ returns : tie.Need-returns
 returns c = omega (arith, emits-at _ _ _ (c .before .put-start .ensures))
 
 pub start-length-spec : {M : Type 1} → statement M
-start-length-spec = tie.close (tie.spec slice-aggregate-put-start put-start-requires returns)
+start-length-spec = tie.close (tie.spec (λ c. search needs) put-start-requires returns)

@@ -6,20 +6,10 @@ use borrow.Author.Needs.{needs}
 use Rattle.emitter.proofs.put.Statement.{statement}
 use Rattle.emitter.proofs.put.Tie as tie
 
-mul-z : tie.Need-mul-z
-mul-z c = search needs
-
-slice-set-from-z : tie.Need-slice-set-from-z
-slice-set-from-z c = search needs
-
-same-length : tie.Need-same-length
-same-length c = search needs
-
-returns : tie.Need-returns
-returns c = search needs
-
 returns-2 : tie.Need-returns-2
 returns-2 c = sym (set-out (c .before .args .plan .now) (c .before .args .at) (c .before .args .z) (omega arith))
 
 pub put-spec : {M : Type 1} → statement M
-put-spec = tie.close (tie.spec mul-z slice-set-from-z same-length returns returns-2)
+put-spec =
+    tie.close
+    (tie.spec (λ c. search needs) (λ c. search needs) (λ c. search needs) (λ c. search needs) returns-2)

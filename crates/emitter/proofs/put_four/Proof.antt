@@ -5,47 +5,24 @@ use borrow.Author.Needs.{needs}
 use Rattle.emitter.proofs.put_four.Statement.{statement}
 use Rattle.emitter.proofs.put_four.Tie as tie
 
-put-requires : tie.Need-put-requires
-put-requires c κs = search needs
+abbrev put3-from-plan4 : tie.After-plan4 → tie.After-put3
+put3-from-plan4 c = c .before .before .before .before
 
-add-put : tie.Need-add-put
-add-put c = search needs
-
-put-requires-2 : tie.Need-put-requires-2
-put-requires-2 c κs = search needs
-
-add-put-2 : tie.Need-add-put-2
-add-put-2 c = search needs
-
-put-requires-3 : tie.Need-put-requires-3
-put-requires-3 c κs = search needs
-
-add-put-3 : tie.Need-add-put-3
-add-put-3 c = search needs
-
-put-requires-4 : tie.Need-put-requires-4
-put-requires-4 c κs = search needs
-
-add-result : tie.Need-add-result
-add-result c = search needs
-
-same-length : tie.Need-same-length
-same-length c = search needs
+abbrev start-from-plan4 : tie.After-plan4 → tie.Start
+start-from-plan4 c = put3-from-plan4 c .before .before .before .before .before .before .before .before
 
 returns : tie.Need-returns
-returns c = four (c .before .before .before .before .before .before .before .before .before .before .before .before .args .plan .now) (c .before .before .before .before .before .before .before .before .before .before .before .before .args .at) (c .before .before .before .before .before .before .before .before .before .before .before .before .args .a) (c .before .before .before .before .before .before .before .before .before .before .before .before .args .b) (c .before .before .before .before .before .before .before .before .before .before .before .before .args .c) (c .before .before .before .before .before .before .before .before .before .before .before .before .args .d) (rw (toZ-ofZ (c .before .before .before .before .before .before .before .before .before .before .before .before .fits .a)) at (c .before .before .before .before .before .before .before .before .before .before .put .ensures)) (rw (toZ-ofZ (c .before .before .before .before .before .before .before .before .before .before .before .before .fits .b)) at (c .before .before .before .before .before .before .before .put2 .ensures)) (rw (toZ-ofZ (c .before .before .before .before .before .before .before .before .before .before .before .before .fits .c)) at (c .before .before .before .before .put3 .ensures)) (rw (toZ-ofZ (c .before .before .before .before .before .before .before .before .before .before .before .before .fits .d)) at (c .before .put4 .ensures))
+returns c =
+    four (start-from-plan4 c .args .plan .now) (start-from-plan4 c .args .at) (start-from-plan4 c .args .a)
+    (start-from-plan4 c .args .b) (start-from-plan4 c .args .c) (start-from-plan4 c .args .d)
+    (rw (toZ-ofZ (start-from-plan4 c .fits .a)) at
+    (put3-from-plan4 c .before .before .before .before .before .before .put .ensures))
+    (rw (toZ-ofZ (start-from-plan4 c .fits .b)) at (put3-from-plan4 c .before .before .before .put2 .ensures))
+    (rw (toZ-ofZ (start-from-plan4 c .fits .c)) at (put3-from-plan4 c .put3 .ensures))
+    (rw (toZ-ofZ (start-from-plan4 c .fits .d)) at (c .before .put4 .ensures))
 
 pub put-four-spec : {M : Type 1} → statement M
 put-four-spec =
-    tie.close
-    (tie.spec
-    put-requires
-    add-put
-    put-requires-2
-    add-put-2
-    put-requires-3
-    add-put-3
-    put-requires-4
-    add-result
-    same-length
+    tie.close (tie.spec (λ c κs. search needs) (λ c. search needs) (λ c κs. search needs) (λ c. search needs)
+    (λ c κs. search needs) (λ c. search needs) (λ c κs. search needs) (λ c. search needs) (λ c. search needs)
     returns)

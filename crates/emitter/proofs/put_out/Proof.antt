@@ -7,30 +7,19 @@ use borrow.Author.Needs.{needs}
 use Rattle.emitter.proofs.put_out.Statement.{statement}
 use Rattle.emitter.proofs.put_out.Tie as tie
 
-enum-told : tie.Need-enum-told
-enum-told c = search needs
-
-number-requires : tie.Need-number-requires
-number-requires c κs = search needs
-
-put-four-requires : tie.Need-put-four-requires
-put-four-requires c κs = search needs
-
-enum-known-p : tie.Need-enum-known-p
-enum-known-p c = search needs
-
 put-plain-requires : tie.Need-put-plain-requires
-put-plain-requires c κs = let o = rw (c .before .before .p .given .1) at (c .before .before .before .before .pre .1) in omega (arith, c .before .before .before .before .pre .0, c .before .before .before .before .pre .2)
-
-same-length : tie.Need-same-length
-same-length c = search needs
+put-plain-requires c κs =
+    let o = rw (c .before .before .p .given .1) at (c .before .before .before .before .pre .1) in
+    omega (arith, c .before .before .before .before .pre .0, c .before .before .before .before .pre .2)
 
 returns : tie.Need-returns
 unfolding instr-numbers slot-number
-returns c = rw (c .before .before .before .before .enum-told .given .1) (emits-one _ _ (rw (back32 (c .before .before .number .result) (c .before .before .number .ok), c .before .before .number .ensures) at (c .before .put-four .ensures)))
-
-same-length-2 : tie.Need-same-length-2
-same-length-2 c = search needs
+returns c =
+    rw (c .before .before .before .before .enum-told .given .1)
+    (emits-one _ _ (rw (
+      back32 (c .before .before .number .result) (c .before .before .number .ok),
+      c .before .before .number .ensures,
+    ) at (c .before .put-four .ensures)))
 
 returns-2 : tie.Need-returns-2
 unfolding instr-numbers slot-number
@@ -38,14 +27,5 @@ returns-2 c = rw (c .before .before .before .before .p .given .1) (emits-one _ _
 
 pub put-out-spec : {M : Type 1} → statement M
 put-out-spec =
-    tie.close
-    (tie.spec
-    enum-told
-    number-requires
-    put-four-requires
-    enum-known-p
-    put-plain-requires
-    same-length
-    returns
-    same-length-2
-    returns-2)
+    tie.close (tie.spec (λ c. search needs) (λ c κs. search needs) (λ c κs. search needs) (λ c. search needs)
+    put-plain-requires (λ c. search needs) returns (λ c. search needs) returns-2)

@@ -5,39 +5,21 @@ use borrow.Author.Needs.{needs}
 use Rattle.emitter.proofs.put_three.Statement.{statement}
 use Rattle.emitter.proofs.put_three.Tie as tie
 
-put-requires : tie.Need-put-requires
-put-requires c κs = search needs
+abbrev put2-from-plan3 : tie.After-plan3 → tie.After-put2
+put2-from-plan3 c = c .before .before .before .before
 
-add-put : tie.Need-add-put
-add-put c = search needs
-
-put-requires-2 : tie.Need-put-requires-2
-put-requires-2 c κs = search needs
-
-add-put-2 : tie.Need-add-put-2
-add-put-2 c = search needs
-
-put-requires-3 : tie.Need-put-requires-3
-put-requires-3 c κs = search needs
-
-add-result : tie.Need-add-result
-add-result c = search needs
-
-same-length : tie.Need-same-length
-same-length c = search needs
+abbrev start-from-plan3 : tie.After-plan3 → tie.Start
+start-from-plan3 c = put2-from-plan3 c .before .before .before .before .before
 
 returns : tie.Need-returns
-returns c = three (c .before .before .before .before .before .before .before .before .before .args .plan .now) (c .before .before .before .before .before .before .before .before .before .args .at) (c .before .before .before .before .before .before .before .before .before .args .a) (c .before .before .before .before .before .before .before .before .before .args .b) (c .before .before .before .before .before .before .before .before .before .args .c) (rw (toZ-ofZ (c .before .before .before .before .before .before .before .before .before .fits .a)) at (c .before .before .before .before .before .before .before .put .ensures)) (rw (toZ-ofZ (c .before .before .before .before .before .before .before .before .before .fits .b)) at (c .before .before .before .before .put2 .ensures)) (rw (toZ-ofZ (c .before .before .before .before .before .before .before .before .before .fits .c)) at (c .before .put3 .ensures))
+returns c =
+    three (start-from-plan3 c .args .plan .now) (start-from-plan3 c .args .at) (start-from-plan3 c .args .a)
+    (start-from-plan3 c .args .b) (start-from-plan3 c .args .c)
+    (rw (toZ-ofZ (start-from-plan3 c .fits .a)) at (put2-from-plan3 c .before .before .before .put .ensures))
+    (rw (toZ-ofZ (start-from-plan3 c .fits .b)) at (put2-from-plan3 c .put2 .ensures))
+    (rw (toZ-ofZ (start-from-plan3 c .fits .c)) at (c .before .put3 .ensures))
 
 pub put-three-spec : {M : Type 1} → statement M
 put-three-spec =
-    tie.close
-    (tie.spec
-    put-requires
-    add-put
-    put-requires-2
-    add-put-2
-    put-requires-3
-    add-result
-    same-length
-    returns)
+    tie.close (tie.spec (λ c κs. search needs) (λ c. search needs) (λ c κs. search needs) (λ c. search needs)
+    (λ c κs. search needs) (λ c. search needs) (λ c. search needs) returns)

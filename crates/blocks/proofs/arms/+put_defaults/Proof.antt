@@ -46,176 +46,8 @@ abbrev put-defaults-μ-loop : put-defaults-lts.MeasureT-loop
 put-defaults-μ-loop chart index s left plan₀ at next p₀ d₀ d-end plan p d =
     d-end - d
 
-put-defaults-goes-on-requires : (t : ℕ) → put-defaults-lts.Need-goes-on-requires (
-  goes-on-reads.Asked,
-  goes-on-reads.Learnt,
-  is-child-reads.Asked,
-  is-child-reads.Learnt,
-  put-visit-reads.Asked,
-  put-visit-reads.Learnt,
-  put-defaults-below t,
-  put-defaults.Post,
-) (put-defaults-at t) put-defaults.Post put-defaults-Inv-loop put-defaults-μ-loop
-put-defaults-goes-on-requires t c κs = (c .pre .1 .0 .ruled, c .pre .1 .1, defaults-on _ _)
-
-put-defaults-loop-holds : (t : ℕ) → put-defaults-lts.Need-loop-holds (
-  goes-on-reads.Asked,
-  goes-on-reads.Learnt,
-  is-child-reads.Asked,
-  is-child-reads.Learnt,
-  put-visit-reads.Asked,
-  put-visit-reads.Learnt,
-  put-defaults-below t,
-  put-defaults.Post,
-) (put-defaults-at t) put-defaults.Post put-defaults-Inv-loop put-defaults-μ-loop
-put-defaults-loop-holds t c = going-begin _ _ by-defaults defaults _ _ _ _ _ _ (defaults-way _) (c .goes-on .ensures)
-
-put-defaults-is-child-requires : (t : ℕ) → put-defaults-lts.Need-is-child-requires (
-  goes-on-reads.Asked,
-  goes-on-reads.Learnt,
-  is-child-reads.Asked,
-  is-child-reads.Learnt,
-  put-visit-reads.Asked,
-  put-visit-reads.Learnt,
-  put-defaults-below t,
-  put-defaults.Post,
-) (put-defaults-at t) put-defaults.Post put-defaults-Inv-loop put-defaults-μ-loop
-put-defaults-is-child-requires t c κs = search needs
-
-put-defaults-add-d : (t : ℕ) → put-defaults-lts.Need-add-d (
-  goes-on-reads.Asked,
-  goes-on-reads.Learnt,
-  is-child-reads.Asked,
-  is-child-reads.Learnt,
-  put-visit-reads.Asked,
-  put-visit-reads.Learnt,
-  put-defaults-below t,
-  put-defaults.Post,
-) (put-defaults-at t) put-defaults.Post put-defaults-Inv-loop put-defaults-μ-loop
-put-defaults-add-d t c = omega (arith, c .before .before .loop-test .taken, c .before .before .before .before .goes-on .ensures .within, states-most (c .before .before .before .before .before .args .chart .now))
-
-put-defaults-loop-less : (t : ℕ) → put-defaults-lts.Need-loop-less (
-  goes-on-reads.Asked,
-  goes-on-reads.Learnt,
-  is-child-reads.Asked,
-  is-child-reads.Learnt,
-  put-visit-reads.Asked,
-  put-visit-reads.Learnt,
-  put-defaults-below t,
-  put-defaults.Post,
-) (put-defaults-at t) put-defaults.Post put-defaults-Inv-loop put-defaults-μ-loop
-put-defaults-loop-less t c = omega (arith, c .before .before .loop-test .taken)
-
-put-defaults-loop-again : (t : ℕ) → put-defaults-lts.Need-loop-again (
-  goes-on-reads.Asked,
-  goes-on-reads.Learnt,
-  is-child-reads.Asked,
-  is-child-reads.Learnt,
-  put-visit-reads.Asked,
-  put-visit-reads.Learnt,
-  put-defaults-below t,
-  put-defaults.Post,
-) (put-defaults-at t) put-defaults.Post put-defaults-Inv-loop put-defaults-μ-loop
-put-defaults-loop-again t c = going-skip _ _ _ _ _ _ _ _ _ _ (c .before .before .before .loop .inv) (c .before .before .loop-test .taken) (sym (c .before .is-child .ensures) ∙ not-true _ (c .if1 .taken))
-
-put-defaults-put-visit-requires : (t : ℕ) → put-defaults-lts.Need-put-visit-requires (
-  goes-on-reads.Asked,
-  goes-on-reads.Learnt,
-  is-child-reads.Asked,
-  is-child-reads.Learnt,
-  put-visit-reads.Asked,
-  put-visit-reads.Learnt,
-  put-defaults-below t,
-  put-defaults.Post,
-) (put-defaults-at t) put-defaults.Post put-defaults-Inv-loop put-defaults-μ-loop
-put-defaults-put-visit-requires t c κs = (c .before .before .before .before .before .before .pre .1 .0, c .before .before .before .before .before .before .pre .1 .1, omega (arith, c .before .before .before .before .before .goes-on .ensures .within, c .before .before .before .loop-test .taken), going-room _ _ _ _ _ _ _ _ _ _ (c .before .before .before .before .loop .inv) (c .before .before .before .loop-test .taken) (sym (c .before .before .is-child .ensures) ∙ not-false _ (c .before .if1 .left)) (c .before .before .before .before .before .before .pre .1 .2))
-
-put-defaults-sub-put-defaults : (t : ℕ) → put-defaults-lts.Need-sub-put-defaults (
-  goes-on-reads.Asked,
-  goes-on-reads.Learnt,
-  is-child-reads.Asked,
-  is-child-reads.Learnt,
-  put-visit-reads.Asked,
-  put-visit-reads.Learnt,
-  put-defaults-below t,
-  put-defaults.Post,
-) (put-defaults-at t) put-defaults.Post put-defaults-Inv-loop put-defaults-μ-loop
-put-defaults-sub-put-defaults t c = omega (arith, c .before .before .before .before .before .before .before .goes-on .ensures .more (omega (arith, c .before .before .before .before .before .loop-test .taken, c .before .before .before .before .before .before .loop .inv .since)))
-
-put-defaults-put-defaults-requires : (t : ℕ) → put-defaults-lts.Need-put-defaults-requires (
-  goes-on-reads.Asked,
-  goes-on-reads.Learnt,
-  is-child-reads.Asked,
-  is-child-reads.Learnt,
-  put-visit-reads.Asked,
-  put-visit-reads.Learnt,
-  put-defaults-below t,
-  put-defaults.Post,
-) (put-defaults-at t) put-defaults.Post put-defaults-Inv-loop put-defaults-μ-loop
-put-defaults-put-defaults-requires t c κs = (omega (arith, c .before .before .before .before .before .before .before .before .goes-on .ensures .more (omega (arith, c .before .before .before .before .before .before .loop-test .taken, c .before .before .before .before .before .before .before .loop .inv .since))), (c .before .before .before .before .before .before .before .before .before .pre .1 .0, omega (arith, c .before .before .before .before .before .before .before .before .goes-on .ensures .within, c .before .before .before .before .before .before .loop-test .taken), going-room-below _ _ _ _ _ _ _ _ _ _ (c .before .before .before .before .before .before .before .loop .inv) (c .before .before .before .before .before .before .loop-test .taken) (sym (c .before .before .before .before .before .is-child .ensures) ∙ not-false _ (c .before .before .before .before .if1 .left)) (c .before .before .put-visit .ensures) (c .before .before .before .before .before .before .before .before .before .pre .1 .2)))
-
-put-defaults-add-d-2 : (t : ℕ) → put-defaults-lts.Need-add-d-2 (
-  goes-on-reads.Asked,
-  goes-on-reads.Learnt,
-  is-child-reads.Asked,
-  is-child-reads.Learnt,
-  put-visit-reads.Asked,
-  put-visit-reads.Learnt,
-  put-defaults-below t,
-  put-defaults.Post,
-) (put-defaults-at t) put-defaults.Post put-defaults-Inv-loop put-defaults-μ-loop
-put-defaults-add-d-2 t c = omega (arith, c .before .before .before .before .before .before .before .before .loop-test .taken, c .before .before .before .before .before .before .before .before .before .before .goes-on .ensures .within, states-most (c .before .before .before .before .before .before .before .before .before .before .before .args .chart .now))
-
-put-defaults-loop-less-2 : (t : ℕ) → put-defaults-lts.Need-loop-less-2 (
-  goes-on-reads.Asked,
-  goes-on-reads.Learnt,
-  is-child-reads.Asked,
-  is-child-reads.Learnt,
-  put-visit-reads.Asked,
-  put-visit-reads.Learnt,
-  put-defaults-below t,
-  put-defaults.Post,
-) (put-defaults-at t) put-defaults.Post put-defaults-Inv-loop put-defaults-μ-loop
-put-defaults-loop-less-2 t c = omega (arith, c .before .before .before .before .before .before .before .before .loop-test .taken)
-
-put-defaults-loop-again-2 : (t : ℕ) → put-defaults-lts.Need-loop-again-2 (
-  goes-on-reads.Asked,
-  goes-on-reads.Learnt,
-  is-child-reads.Asked,
-  is-child-reads.Learnt,
-  put-visit-reads.Asked,
-  put-visit-reads.Learnt,
-  put-defaults-below t,
-  put-defaults.Post,
-) (put-defaults-at t) put-defaults.Post put-defaults-Inv-loop put-defaults-μ-loop
-put-defaults-loop-again-2 t c = going-on _ _ _ _ _ _ _ _ _ _ (c .before .before .before .before .before .before .before .before .before .loop .inv) (c .before .before .before .before .before .before .before .before .loop-test .taken) (sym (c .before .before .before .before .before .before .before .is-child .ensures) ∙ not-false _ (c .before .before .before .before .before .before .if1 .left)) (c .before .before .before .before .put-visit .ensures) (c .before .put-defaults .ensures)
-
-put-defaults-same-length : (t : ℕ) → put-defaults-lts.Need-same-length (
-  goes-on-reads.Asked,
-  goes-on-reads.Learnt,
-  is-child-reads.Asked,
-  is-child-reads.Learnt,
-  put-visit-reads.Asked,
-  put-visit-reads.Learnt,
-  put-defaults-below t,
-  put-defaults.Post,
-) (put-defaults-at t) put-defaults.Post put-defaults-Inv-loop put-defaults-μ-loop
-put-defaults-same-length t c = omega (arith, going-size _ _ _ _ _ _ _ _ _ _ (c .before .loop .inv))
-
-put-defaults-returns : (t : ℕ) → put-defaults-lts.Need-returns (
-  goes-on-reads.Asked,
-  goes-on-reads.Learnt,
-  is-child-reads.Asked,
-  is-child-reads.Learnt,
-  put-visit-reads.Asked,
-  put-visit-reads.Learnt,
-  put-defaults-below t,
-  put-defaults.Post,
-) (put-defaults-at t) put-defaults.Post put-defaults-Inv-loop put-defaults-μ-loop
-put-defaults-returns t c = going-end _ _ _ _ _ _ _ _ _ _ (c .before .loop .inv) (c .loop-test .left)
-
-pub +put-defaults-spec : {M : Type 1} → statement M
-+put-defaults-spec = close μ-put-defaults λ t. put-defaults-lts.spec (
+abbrev put-defaults-knows : ℕ → put-defaults-lts.Claims
+put-defaults-knows t = (
   goes-on-reads.Asked,
   goes-on-reads.Learnt,
   is-child-reads.Asked,
@@ -225,21 +57,194 @@ pub +put-defaults-spec : {M : Type 1} → statement M
   put-defaults-below t,
   put-defaults.Post,
 )
-    (put-defaults-at t)
-    put-defaults.Post
-    put-defaults-Inv-loop
-    put-defaults-μ-loop
-    (put-defaults-goes-on-requires t)
-    (put-defaults-loop-holds t)
-    (put-defaults-is-child-requires t)
-    (put-defaults-add-d t)
-    (put-defaults-loop-less t)
-    (put-defaults-loop-again t)
-    (put-defaults-put-visit-requires t)
-    (put-defaults-sub-put-defaults t)
-    (put-defaults-put-defaults-requires t)
-    (put-defaults-add-d-2 t)
-    (put-defaults-loop-less-2 t)
-    (put-defaults-loop-again-2 t)
-    (put-defaults-same-length t)
-    (put-defaults-returns t)
+
+abbrev in-loop-from-put-visit-arg :
+    (t : ℕ) → put-defaults-lts.After-put-visit-arg (put-defaults-knows t) (put-defaults-at t)
+    put-defaults.Post put-defaults-Inv-loop put-defaults-μ-loop → put-defaults-lts.In-loop
+    (put-defaults-knows t) (put-defaults-at t) put-defaults.Post put-defaults-Inv-loop put-defaults-μ-loop
+in-loop-from-put-visit-arg t c = c .before .before .before
+
+abbrev else1-from-put-defaults-arg :
+    (t : ℕ) → put-defaults-lts.After-put-defaults-arg (put-defaults-knows t) (put-defaults-at t)
+    put-defaults.Post put-defaults-Inv-loop put-defaults-μ-loop → put-defaults-lts.Else1
+    (put-defaults-knows t) (put-defaults-at t) put-defaults.Post put-defaults-Inv-loop put-defaults-μ-loop
+else1-from-put-defaults-arg t c = c .before .before .before .before
+
+abbrev goes-on-from-then1 :
+    (t : ℕ) → put-defaults-lts.Then1 (put-defaults-knows t) (put-defaults-at t) put-defaults.Post
+    put-defaults-Inv-loop put-defaults-μ-loop → put-defaults-lts.After-goes-on (put-defaults-knows t)
+    (put-defaults-at t) put-defaults.Post put-defaults-Inv-loop put-defaults-μ-loop
+goes-on-from-then1 t c = c .before .before .before .before
+
+abbrev in-loop-from-put-defaults-arg :
+    (t : ℕ) → put-defaults-lts.After-put-defaults-arg (put-defaults-knows t) (put-defaults-at t)
+    put-defaults.Post put-defaults-Inv-loop put-defaults-μ-loop → put-defaults-lts.In-loop
+    (put-defaults-knows t) (put-defaults-at t) put-defaults.Post put-defaults-Inv-loop put-defaults-μ-loop
+in-loop-from-put-defaults-arg t c = else1-from-put-defaults-arg t c .before .before
+
+abbrev start-from-put-visit-arg :
+    (t : ℕ) → put-defaults-lts.After-put-visit-arg (put-defaults-knows t) (put-defaults-at t)
+    put-defaults.Post put-defaults-Inv-loop put-defaults-μ-loop → put-defaults-lts.Start
+    (put-defaults-knows t) (put-defaults-at t) put-defaults.Post put-defaults-Inv-loop put-defaults-μ-loop
+start-from-put-visit-arg t c = in-loop-from-put-visit-arg t c .before .before .before
+
+abbrev at-loop-from-put-defaults-arg :
+    (t : ℕ) → put-defaults-lts.After-put-defaults-arg (put-defaults-knows t) (put-defaults-at t)
+    put-defaults.Post put-defaults-Inv-loop put-defaults-μ-loop → put-defaults-lts.At-loop
+    (put-defaults-knows t) (put-defaults-at t) put-defaults.Post put-defaults-Inv-loop put-defaults-μ-loop
+at-loop-from-put-defaults-arg t c = in-loop-from-put-defaults-arg t c .before
+
+abbrev goes-on-from-put-defaults-arg :
+    (t : ℕ) → put-defaults-lts.After-put-defaults-arg (put-defaults-knows t) (put-defaults-at t)
+    put-defaults.Post put-defaults-Inv-loop put-defaults-μ-loop → put-defaults-lts.After-goes-on
+    (put-defaults-knows t) (put-defaults-at t) put-defaults.Post put-defaults-Inv-loop put-defaults-μ-loop
+goes-on-from-put-defaults-arg t c = at-loop-from-put-defaults-arg t c .before
+
+abbrev in-loop-from-plan2 :
+    (t : ℕ) → put-defaults-lts.After-plan2 (put-defaults-knows t) (put-defaults-at t) put-defaults.Post
+    put-defaults-Inv-loop put-defaults-μ-loop → put-defaults-lts.In-loop (put-defaults-knows t)
+    (put-defaults-at t) put-defaults.Post put-defaults-Inv-loop put-defaults-μ-loop
+in-loop-from-plan2 t c = in-loop-from-put-defaults-arg t (c .before .before)
+
+abbrev start-from-put-defaults-arg :
+    (t : ℕ) → put-defaults-lts.After-put-defaults-arg (put-defaults-knows t) (put-defaults-at t)
+    put-defaults.Post put-defaults-Inv-loop put-defaults-μ-loop → put-defaults-lts.Start
+    (put-defaults-knows t) (put-defaults-at t) put-defaults.Post put-defaults-Inv-loop put-defaults-μ-loop
+start-from-put-defaults-arg t c = goes-on-from-put-defaults-arg t c .before
+
+put-defaults-goes-on-requires :
+    (t : ℕ) → put-defaults-lts.Need-goes-on-requires (put-defaults-knows t) (put-defaults-at t)
+    put-defaults.Post put-defaults-Inv-loop put-defaults-μ-loop
+put-defaults-goes-on-requires t c κs = (c .pre .1 .0 .ruled, c .pre .1 .1, defaults-on _ _)
+
+put-defaults-loop-holds :
+    (t : ℕ) → put-defaults-lts.Need-loop-holds (put-defaults-knows t) (put-defaults-at t) put-defaults.Post
+    put-defaults-Inv-loop put-defaults-μ-loop
+put-defaults-loop-holds t c = going-begin _ _ by-defaults defaults _ _ _ _ _ _ (defaults-way _) (c .goes-on .ensures)
+
+put-defaults-add-d :
+    (t : ℕ) → put-defaults-lts.Need-add-d (put-defaults-knows t) (put-defaults-at t) put-defaults.Post
+    put-defaults-Inv-loop put-defaults-μ-loop
+put-defaults-add-d t c =
+    omega (
+      arith,
+      c .before .before .loop-test .taken,
+      goes-on-from-then1 t c .goes-on .ensures .within,
+      states-most (goes-on-from-then1 t c .before .args .chart .now),
+    )
+
+put-defaults-loop-less :
+    (t : ℕ) → put-defaults-lts.Need-loop-less (put-defaults-knows t) (put-defaults-at t) put-defaults.Post
+    put-defaults-Inv-loop put-defaults-μ-loop
+put-defaults-loop-less t c = omega (arith, c .before .before .loop-test .taken)
+
+put-defaults-loop-again :
+    (t : ℕ) → put-defaults-lts.Need-loop-again (put-defaults-knows t) (put-defaults-at t) put-defaults.Post
+    put-defaults-Inv-loop put-defaults-μ-loop
+put-defaults-loop-again t c =
+    going-skip _ _ _ _ _ _ _ _ _ _ (c .before .before .before .loop .inv)
+    (c .before .before .loop-test .taken) (sym (c .before .is-child .ensures) ∙ not-true _ (c .if1 .taken))
+
+put-defaults-put-visit-requires :
+    (t : ℕ) → put-defaults-lts.Need-put-visit-requires (put-defaults-knows t) (put-defaults-at t)
+    put-defaults.Post put-defaults-Inv-loop put-defaults-μ-loop
+put-defaults-put-visit-requires t c κs = (
+  start-from-put-visit-arg t c .pre .1 .0,
+  start-from-put-visit-arg t c .pre .1 .1,
+  omega (
+    arith,
+    in-loop-from-put-visit-arg t c .before .before .goes-on .ensures .within,
+    in-loop-from-put-visit-arg t c .loop-test .taken,
+  ),
+  going-room _ _ _ _ _ _ _ _ _ _ (in-loop-from-put-visit-arg t c .before .loop .inv)
+      (in-loop-from-put-visit-arg t c .loop-test .taken)
+      (sym (c .before .before .is-child .ensures) ∙ not-false _ (c .before .if1 .left))
+      (start-from-put-visit-arg t c .pre .1 .2),
+)
+
+put-defaults-sub-put-defaults :
+    (t : ℕ) → put-defaults-lts.Need-sub-put-defaults (put-defaults-knows t) (put-defaults-at t)
+    put-defaults.Post put-defaults-Inv-loop put-defaults-μ-loop
+put-defaults-sub-put-defaults t c =
+    omega (
+      arith,
+      in-loop-from-put-visit-arg t (c .before .before) .before .before .goes-on .ensures .more
+          (omega (
+            arith,
+            in-loop-from-put-visit-arg t (c .before .before) .loop-test .taken,
+            in-loop-from-put-visit-arg t (c .before .before) .before .loop .inv .since,
+          )),
+    )
+
+put-defaults-put-defaults-requires :
+    (t : ℕ) → put-defaults-lts.Need-put-defaults-requires (put-defaults-knows t) (put-defaults-at t)
+    put-defaults.Post put-defaults-Inv-loop put-defaults-μ-loop
+put-defaults-put-defaults-requires t c κs = (
+  omega (
+    arith,
+    goes-on-from-put-defaults-arg t c .goes-on .ensures .more
+        (omega (
+          arith,
+          in-loop-from-put-defaults-arg t c .loop-test .taken,
+          at-loop-from-put-defaults-arg t c .loop .inv .since,
+        )),
+  ),
+  (
+    start-from-put-defaults-arg t c .pre .1 .0,
+    omega (
+      arith,
+      goes-on-from-put-defaults-arg t c .goes-on .ensures .within,
+      in-loop-from-put-defaults-arg t c .loop-test .taken,
+    ),
+    going-room-below _ _ _ _ _ _ _ _ _ _ (at-loop-from-put-defaults-arg t c .loop .inv)
+        (in-loop-from-put-defaults-arg t c .loop-test .taken)
+        (sym (else1-from-put-defaults-arg t c .before .is-child .ensures) ∙ not-false _
+        (else1-from-put-defaults-arg t c .if1 .left)) (c .before .before .put-visit .ensures)
+        (start-from-put-defaults-arg t c .pre .1 .2),
+  ),
+)
+
+put-defaults-add-d-2 :
+    (t : ℕ) → put-defaults-lts.Need-add-d-2 (put-defaults-knows t) (put-defaults-at t) put-defaults.Post
+    put-defaults-Inv-loop put-defaults-μ-loop
+put-defaults-add-d-2 t c =
+    omega (
+      arith,
+      in-loop-from-plan2 t c .loop-test .taken,
+      in-loop-from-plan2 t c .before .before .goes-on .ensures .within,
+      states-most (start-from-put-defaults-arg t (c .before .before) .args .chart .now),
+    )
+
+put-defaults-loop-less-2 :
+    (t : ℕ) → put-defaults-lts.Need-loop-less-2 (put-defaults-knows t) (put-defaults-at t) put-defaults.Post
+    put-defaults-Inv-loop put-defaults-μ-loop
+put-defaults-loop-less-2 t c = omega (arith, in-loop-from-plan2 t c .loop-test .taken)
+
+put-defaults-loop-again-2 :
+    (t : ℕ) → put-defaults-lts.Need-loop-again-2 (put-defaults-knows t) (put-defaults-at t) put-defaults.Post
+    put-defaults-Inv-loop put-defaults-μ-loop
+put-defaults-loop-again-2 t c =
+    going-on _ _ _ _ _ _ _ _ _ _ (in-loop-from-plan2 t c .before .loop .inv)
+    (in-loop-from-plan2 t c .loop-test .taken)
+    (sym (else1-from-put-defaults-arg t (c .before .before) .before .is-child .ensures) ∙ not-false _
+    (else1-from-put-defaults-arg t (c .before .before) .if1 .left))
+    (c .before .before .before .before .put-visit .ensures) (c .before .put-defaults .ensures)
+
+put-defaults-same-length :
+    (t : ℕ) → put-defaults-lts.Need-same-length (put-defaults-knows t) (put-defaults-at t) put-defaults.Post
+    put-defaults-Inv-loop put-defaults-μ-loop
+put-defaults-same-length t c = omega (arith, going-size _ _ _ _ _ _ _ _ _ _ (c .before .loop .inv))
+
+put-defaults-returns :
+    (t : ℕ) → put-defaults-lts.Need-returns (put-defaults-knows t) (put-defaults-at t) put-defaults.Post
+    put-defaults-Inv-loop put-defaults-μ-loop
+put-defaults-returns t c = going-end _ _ _ _ _ _ _ _ _ _ (c .before .loop .inv) (c .loop-test .left)
+
+pub +put-defaults-spec : {M : Type 1} → statement M
++put-defaults-spec =
+    close μ-put-defaults λ t. put-defaults-lts.spec (put-defaults-knows t) (put-defaults-at t)
+    put-defaults.Post put-defaults-Inv-loop put-defaults-μ-loop (put-defaults-goes-on-requires t)
+    (put-defaults-loop-holds t) (λ c κs. search needs) (put-defaults-add-d t) (put-defaults-loop-less t)
+    (put-defaults-loop-again t) (put-defaults-put-visit-requires t) (put-defaults-sub-put-defaults t)
+    (put-defaults-put-defaults-requires t) (put-defaults-add-d-2 t) (put-defaults-loop-less-2 t)
+    (put-defaults-loop-again-2 t) (put-defaults-same-length t) (put-defaults-returns t)

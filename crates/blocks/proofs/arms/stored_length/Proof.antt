@@ -5,9 +5,6 @@ use borrow.Author.Needs.{needs}
 use Rattle.blocks.proofs.arms.stored_length.Statement.{statement}
 use Rattle.blocks.proofs.arms.stored_length.Tie as tie
 
-slice-aggregate-put-stored-arm : tie.Need-slice-aggregate-put-stored-arm
-slice-aggregate-put-stored-arm c = search needs
-
 put-stored-arm-requires : tie.Need-put-stored-arm-requires
 put-stored-arm-requires c κs = (c .before .pre .0, c .before .pre .1, c .before .pre .2)
 
@@ -15,4 +12,4 @@ returns : tie.Need-returns
 returns c = omega (arith, emits-at _ _ _ (c .before .put-stored-arm .ensures))
 
 pub stored-length-spec : {M : Type 1} → statement M
-stored-length-spec = tie.close (tie.spec slice-aggregate-put-stored-arm put-stored-arm-requires returns)
+stored-length-spec = tie.close (tie.spec (λ c. search needs) put-stored-arm-requires returns)

@@ -8,14 +8,23 @@ use borrow.Author.Needs.{needs}
 use Rattle.emitter.proofs.actions.act_count.Statement.{statement}
 use Rattle.emitter.proofs.actions.act_count.Tie as tie
 
-slice-aggregate-put-acts : tie.Need-slice-aggregate-put-acts
-slice-aggregate-put-acts c = search needs
+abbrev start-from-none2 : tie.After-none2 → tie.Start
+start-from-none2 c = c .before .before .before
 
 put-acts-requires : tie.Need-put-acts-requires
-put-acts-requires c κs = (c .before .pre .0, c .before .pre .1, omega (arith, code-few (c .before .args .chart .now) (c .before .args .owner)))
+put-acts-requires c κs = (
+  c .before .pre .0,
+  c .before .pre .1,
+  omega (arith, code-few (c .before .args .chart .now) (c .before .args .owner)),
+)
 
 returns : tie.Need-returns
-returns c = omega (arith, emits-at (code-acts (chart-of (c .before .before .before .args .chart .now)) (c .before .before .before .args .owner)) _ 0 (c .before .put-acts .ensures))
+returns c =
+    omega (
+      arith,
+      emits-at (code-acts (chart-of (start-from-none2 c .args .chart .now)) (start-from-none2 c .args .owner))
+          _ 0 (c .before .put-acts .ensures),
+    )
 
 pub act-count-spec : {M : Type 1} → statement M
-act-count-spec = tie.close (tie.spec slice-aggregate-put-acts put-acts-requires returns)
+act-count-spec = tie.close (tie.spec (λ c. search needs) put-acts-requires returns)
