@@ -1,9 +1,13 @@
-// Damaged plans run and compared (01, "A plan is well formed when"): the arguments name files of data/, one plan each, one number a line.
-// For each the program prints the plan's name and the answer that its examination gives. A file that cannot be opened prints a dash.
-// The file `stdout` has what must be printed: the table of vectors in its order, then plans at the edge of each rule.
+// Plans run and compared (01, "The plan"): the arguments name files of data/. NAME.plan is a plan, one number a line: the program prints its
+// name and the answer that its examination gives. NAME.txt is a chart, and NAME.num beside it the plan that it must give: the program
+// prints the name; answer and count of compiling it; `same` or `differs`, number by number; and the answer with one number less lent than
+// the plan has. A file that cannot be opened prints a dash. The file `stdout` has what must be printed: the table of damaged plans in its
+// order, plans at the edge of each rule, then charts, K of 01 among them.
+mod charts;
 mod lines;
 
-use examiner::examine;
+use charts::run_chart;
+use engine::plans::examine;
 use libc::STDOUT_FILENO;
 use lines::read_numbers;
 ghost use Prim.Native.Nat.{_≤_};
@@ -21,7 +25,7 @@ fn stem(named: usize) -> usize
     named - 5
 }
 
-fn print(word: &[u8]) {
+pub fn print(word: &[u8]) {
     io::write_all(STDOUT_FILENO, word);
 }
 
@@ -36,7 +40,7 @@ fn report(text: &[u8]) {
 }
 
 // One plan, by its file's name.
-fn run(path: &[u8]) {
+fn run_plan(path: &[u8]) {
     let n = stem(path.len());
     print(&path[..n]);
     let fd = os::open_read(path);
@@ -50,7 +54,19 @@ fn run(path: &[u8]) {
     report(&buf[..got]);
 }
 
-// The plan that an argument names.
+// A plan or a chart: a chart's file ends in t.
+fn run(path: &[u8]) {
+    let n = path.len();
+    if 0 < n {
+        if path[n - 1] == b't' {
+            run_chart(path);
+            return;
+        }
+    }
+    run_plan(path);
+}
+
+// The plan or the chart that an argument names.
 fn run_argument(i: usize) {
     let mut path = io::buffer();
     let n = os::arg(i, &mut path);
