@@ -118,15 +118,7 @@ pub fn enter(
     if marked.number != 0 {
         return marked;
     }
-    perform_all(
-        chart,
-        arg,
-        Owner::EntryOf(s),
-        vars,
-        queue,
-        trace,
-        marked.at,
-    )
+    perform_all(chart, arg, Owner::EntryOf(s), vars, queue, trace, marked.at)
 }
 
 // 01, "Firing": a state is left and stored in its o parent's slot; its exit actions follow at once.
@@ -148,13 +140,5 @@ pub fn leave(
     if marked.number != 0 {
         return marked;
     }
-    perform_all(
-        chart,
-        arg,
-        Owner::ExitOf(s),
-        vars,
-        queue,
-        trace,
-        marked.at,
-    )
+    perform_all(chart, arg, Owner::ExitOf(s), vars, queue, trace, marked.at)
 }
