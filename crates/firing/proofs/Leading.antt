@@ -13,7 +13,6 @@ use Rattle.sizes.specs.Sizes.{STATES}
 use Rattle.numbers.specs.Place.{placeOf}
 use Rattle.numbers.specs.declared.Place.{Place}
 use Rattle.numbers.specs.declared.Place.the-variants.{Empty as empty, At as holds}
-use Rattle.queue.specs.declared.Queue.{Queue}
 use Rattle.laws.proofs.Lists.{each-reversed, same-or}
 use Rattle.laws.proofs.Sound.{Sound-chart, parent-child}
 use Rattle.laws.proofs.Steps.{Holds}
@@ -31,7 +30,7 @@ use Rattle.meaning.specs.Steps.{ok, Step}
 use Rattle.meaning.specs.Tree.{descendants, is-child, is-o, kind-of, parent-of}
 use Rattle.meaning.specs.Widget.{Ctx, is-active, set-active, set-queue, set-slot, set-value}
 use Rattle.widget.specs.declared.Went.{Went}
-use Rattle.widget.specs.View.{ctx, tracing, said, went, Did}
+use Rattle.widget.specs.View.{Lent, Whole, ctx, tracing, said, went, Did}
 use Rattle.moves.specs.Moves.{slot-of, Led}
 
 -- the slots of a state of the chart's own (answer 6) are such
@@ -96,8 +95,7 @@ module _ (c : Chart) (h : Sound-chart c) (small : length (c .states) ≤ STATES)
 
 -- ---- after a function that did such a step
 
-pub led-after : (c : Chart) {F : Step Ctx} → Stays (Leads-on c) F → {a : List Bool} {sl v : List ℤ} {q : Queue} {t : List ℤ} {at : ℕ} {r : Went} {a₁ : List Bool} {sl₁ v₁ t₁ : List ℤ}
-    → Did F a sl v q t at r a₁ sl₁ v₁ t₁ → r .number ≡ 0 → Led c sl → Led c sl₁
+pub led-after : (c : Chart) {F : Step Ctx} → Stays (Leads-on c) F → {k : Lent} {at : ℕ} {r : Went} {k₁ : Lent} → Did F k at r k₁ → Whole k → r .number ≡ 0
+    → Led c (k .slots) → Led c (k₁ .slots)
 unfolding went said ctx tracing
-led-after c {F} f {a} {sl} {v} {q} {t} {at} {r} {a₁} {sl₁} {v₁} {t₁} d z l =
-    subst (λ x. Holds x (Leads-on c)) (sym (d .does) ∙ ap (λ n. said n (ctx a₁ sl₁ v₁ (r .queue) t₁ (r .at))) z) (f (ctx a sl v q t at) l)
+led-after c f {k} {at} {r} {k₁} d h z l = subst (λ x. Holds x (Leads-on c)) (sym (d .does h) ∙ ap (λ n. said n (ctx k₁ (r .at))) z) (f (ctx k at) l)

@@ -8,9 +8,10 @@ use mathlib.Core.List.{List, [], _++_, map}
 use lib.ListN.{length, getD, take, drop, replicate, set, length-map, length-replicate}
 use lib.Seq.{take-all}
 use lib.IntN.{ℤ, pos, negsuc}
-use Rattle.sizes.specs.Sizes.{STATES, VARIABLES}
-use Rattle.queue.specs.Queue.{empty-queue}
-use Rattle.queue.specs.declared.Queue.{Queue}
+use Rattle.sizes.specs.Sizes.{STATES, VARIABLES, QUEUE}
+use Rattle.queue.specs.Queue.{none, empty-queue}
+use Rattle.queue.specs.Numbers.{QUEUE-NUMBERS, queue-by, numbers-of}
+use Rattle.queue.proofs.Numbers.{held-lent, numbers-long}
 use Rattle.queue.proofs.Copy.{copied, copied-suc}
 use Rattle.meaning.specs.declared.State.{State}
 use Rattle.meaning.specs.declared.Called.{Called}
@@ -30,7 +31,7 @@ use Rattle.laws.proofs.Value.{getD-map}
 use Rattle.laws.proofs.Ways.{defaults-sound}
 use Rattle.walks.specs.Walks.{Ruled}
 use Rattle.walks.proofs.Passing.{sound}
-use Rattle.widget.specs.View.{ctx, tracing, widget, went, Did}
+use Rattle.widget.specs.View.{Lent, all-lent, Whole, ctx, tracing, went, Did}
 use Rattle.widget.specs.declared.Went.{Went}
 use Rattle.invariants.proofs.Good.{Good, enter-good, visit-good}
 use Rattle.invariants.proofs.GoodReaction.{below-inside}
@@ -79,26 +80,39 @@ module _ (v : List ℤ) (h : Ruled v) where
   defaults-good = each-stays (Good (chart-of v)) (visit (chart-of v) (pos 0)) (λ x. state-of x < length (chart-of v .states)) (visit-good (chart-of v) (sound v h) (sized v h) (pos 0)) (all-below (chart-of v) by-defaults 0)
       (below-inside (chart-of v) (sound v h) by-defaults (defaults-sound (chart-of v) (sound v h)) 0 root-inside)
 
--- so many levels as there are states
-pub all-of : (c : Chart) (left : ℕ) {a : List Bool} {sl vs : List ℤ} {q : Queue} {t : List ℤ} {at : ℕ} {w : Went} {a₁ : List Bool} {sl₁ v₁ t₁ : List ℤ} → left ≡ length (c .states)
-    → Did (each (visit c (pos 0)) (below c by-defaults left 0)) a sl vs q t at w a₁ sl₁ v₁ t₁ → Did (each (visit c (pos 0)) (all-below c by-defaults 0)) a sl vs q t at w a₁ sl₁ v₁ t₁
-unfolding all-below
-all-of c left {a} {sl} {vs} {q} {t} {at} {w} {a₁} {sl₁} {v₁} {t₁} e d = subst (λ n. Did (each (visit c (pos 0)) (below c by-defaults n 0)) a sl vs q t at w a₁ sl₁ v₁ t₁) e d
-
 -- ---- the fresh widget
 
+none-lent : queue-by (numbers-of empty-queue) ≡ empty-queue
+unfolding empty-queue
+none-lent = held-lent empty-queue (omega arith)
+
+none-whole : length (numbers-of empty-queue) ≡ QUEUE-NUMBERS
+unfolding empty-queue
+none-whole = numbers-long empty-queue (length-replicate QUEUE none)
+
+-- a fresh widget as it is lent
+abbrev pub fresh-lent : List ℤ → List ℤ → Lent
+fresh-lent v t = all-lent (replicate STATES false) (replicate STATES (negsuc 0)) (fresh (chart-of v) .vars) (numbers-of empty-queue) t
+
 module _ (v : List ℤ) (h : Ruled v) where
-  begins-fresh : (t : List ℤ) → begin (fresh (chart-of v)) (length t) ≡ ctx (replicate STATES false) (replicate STATES (negsuc 0)) (fresh (chart-of v) .vars) empty-queue t 0
+  begins-fresh : (t : List ℤ) → begin (fresh (chart-of v)) (length t) ≡ ctx (fresh-lent v t) 0
   unfolding begin fresh ctx tracing
-  begins-fresh t = ap {B = Ctx} (λ n. record { state = fresh (chart-of v); out = []; room = n }) (sym (sub-zero (length t)))
+  begins-fresh t =
+      ap {B = Ctx} (λ n. record { state = fresh (chart-of v); out = []; room = n }) (sym (sub-zero (length t)))
+      ∙ ap {B = Ctx} (λ q. record { state = record { started = true; active = fresh (chart-of v) .active; slots = fresh (chart-of v) .slots; vars = fresh (chart-of v) .vars; queue = q }; out = []; room = length t - 0 }) (sym none-lent)
 
-  pub fresh-ready : (t : List ℤ) → Ready v (replicate STATES false) (replicate STATES (negsuc 0)) (fresh (chart-of v) .vars) empty-queue t 0
-  fresh-ready t = record { ruled = h; good = subst (Good (chart-of v)) (begins-fresh t) (fresh-good (chart-of v) (sound v h) (sized v h) (length t)); fits = omega arith }
+  pub fresh-ready : (t : List ℤ) → Ready v (fresh-lent v t) 0
+  fresh-ready t = record {
+    ruled = h;
+    good = subst (Good (chart-of v)) (begins-fresh t) (fresh-good (chart-of v) (sound v h) (sized v h) (length t));
+    whole = none-whole;
+    fits = omega arith;
+  }
 
-  pub start-ends : (u : State) (t : List ℤ) (w : Went) (a₁ : List Bool) (sl₁ v₁ t₁ : List ℤ) (r : Called) (t₂ : List ℤ)
-      → Did (start-steps (chart-of v)) (replicate STATES false) (replicate STATES (negsuc 0)) (fresh (chart-of v) .vars) empty-queue t 0 w a₁ sl₁ v₁ t₁
-      → Ends (outcome u (went w a₁ sl₁ v₁ t₁)) t₁ r t₂ → Ends (start (chart-of v) u (length t)) t r t₂
+  pub start-ends : (u : State) (t : List ℤ) (w : Went) (k₁ : Lent) (r : Called) (t₂ : List ℤ) → Did (start-steps (chart-of v)) (fresh-lent v t) 0 w k₁
+      → Ends (outcome u (went w k₁)) (k₁ .trace) r t₂ → Ends (start (chart-of v) u (length t)) t r t₂
   unfolding start
-  start-ends u t w a₁ sl₁ v₁ t₁ r t₂ g f =
-      let y : outcome u (went w a₁ sl₁ v₁ t₁) ≡ outcome u (start-steps (chart-of v) (begin (fresh (chart-of v)) (length t))) = ap (outcome u) (g .does ∙ ap (start-steps (chart-of v)) (sym (begins-fresh t))) in
-      (f .0 ∙ ap called y, f .1 ∙ ap (λ n. lent n (outcome u (went w a₁ sl₁ v₁ t₁))) (g .kept) ∙ ap (lent (length t)) y)
+  start-ends u t w k₁ r t₂ g f =
+      let y : outcome u (went w k₁) ≡ outcome u (start-steps (chart-of v) (begin (fresh (chart-of v)) (length t))) =
+      ap (outcome u) (g .does none-whole ∙ ap (start-steps (chart-of v)) (sym (begins-fresh t))) in
+      (f .0 ∙ ap called y, f .1 ∙ ap (λ n. lent n (outcome u (went w k₁))) (g .kept) ∙ ap (lent (length t)) y)

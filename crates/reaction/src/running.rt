@@ -7,7 +7,8 @@ use calls::own::own;
 use meaning::Called;
 use meaning::State;
 use numbers::reference;
-use queue::Queue;
+use queue::lent::QUEUE_NUMBERS;
+use queue::lent::lend;
 use sizes::STATES;
 use sizes::VARIABLES;
 use widget::Went;
@@ -18,7 +19,7 @@ ghost use Rattle.meaning.specs.Reaction.{step as one-step, settle as settles};
 ghost use Rattle.meaning.specs.Calls.{called, lent, run as runs};
 ghost use Rattle.meaning.specs.Value.{chart-of};
 ghost use Rattle.walks.specs.Walks.{Ruled};
-ghost use Rattle.widget.specs.View.{Did};
+ghost use Rattle.widget.specs.View.{all-lent, Did};
 ghost use Rattle.reaction.specs.Ready.{Ready};
 
 // One step with the event, then null steps.
@@ -29,18 +30,17 @@ fn react(
     active: &mut [bool; STATES],
     slots: &mut [i32; STATES],
     vars: &mut [i32; VARIABLES],
-    queue: Queue,
+    queue: &mut [i32; QUEUE_NUMBERS],
     trace: &mut [i32],
 ) -> Went
-    requires { ⌜ Ready (now chart) (now active) (now slots) (now vars) queue (now trace) 0 ⌝ }
-    ensures { λ r. ⌜ Did (one-step (chart-of (now (chart .entry))) event arg then settles (chart-of (now (chart .entry)))) (now (active .entry)) (now (slots .entry)) (now (vars .entry)) queue (now (trace .entry)) 0 r (now (active .exit)) (now (slots .exit)) (now (vars .exit)) (now (trace .exit)) ⌝ }
+    requires { ⌜ Ready (now chart) (all-lent (now active) (now slots) (now vars) (now queue) (now trace)) 0 ⌝ }
+    ensures { λ r. ⌜ Did (one-step (chart-of (now (chart .entry))) event arg then settles (chart-of (now (chart .entry)))) (all-lent (now (active .entry)) (now (slots .entry)) (now (vars .entry)) (now (queue .entry)) (now (trace .entry))) 0 r (all-lent (now (active .exit)) (now (slots .exit)) (now (vars .exit)) (now (queue .exit)) (now (trace .exit))) ⌝ }
 {
     let went = step(chart, event, arg, active, slots, vars, queue, trace, 0);
     if went.number != 0 {
         return went;
     }
-    let waiting = went.queue;
-    settle(chart, active, slots, vars, waiting, trace, went.at)
+    settle(chart, active, slots, vars, queue, trace, went.at)
 }
 
 // "A run removes the front event and makes one step with it. Then null steps follow."
@@ -64,7 +64,8 @@ pub fn run_ruled(chart: &[i32], state: State, trace: &mut [i32]) -> Called
     let mut active = state.active;
     let mut slots = state.slots;
     let mut vars = state.vars;
-    let waiting = removed.queue;
+    let left = removed.queue;
+    let mut waiting = lend(left);
     let went = react(
         chart,
         event,
@@ -72,8 +73,8 @@ pub fn run_ruled(chart: &[i32], state: State, trace: &mut [i32]) -> Called
         &mut active,
         &mut slots,
         &mut vars,
-        waiting,
+        &mut waiting,
         trace,
     );
-    finish(state, went, active, slots, vars, trace)
+    finish(state, went, active, slots, vars, waiting, trace)
 }

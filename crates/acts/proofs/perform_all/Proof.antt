@@ -12,10 +12,11 @@ use Rattle.acts.proofs.perform_all.Statement.{statement}
 use Rattle.acts.proofs.perform_all.Tie as tie
 
 abbrev Inv-loop : tie.InvT-loop
-Inv-loop chart arg owner vars₀ trace₀ at went₀ i₀ i-end vars trace went i = Acting chart (toZ w32 arg) owner vars₀ (went₀ .queue) trace₀ (went₀ .at) i vars trace went
+Inv-loop chart arg owner vars₀ queue₀ trace₀ at went₀ i₀ i-end vars queue trace went i =
+    Acting chart (toZ w32 arg) owner vars₀ queue₀ trace₀ (went₀ .at) i vars queue trace went
 
 abbrev μ-loop : tie.MeasureT-loop
-μ-loop chart arg owner vars₀ trace₀ at went₀ i₀ i-end vars trace went i = i-end - i
+μ-loop chart arg owner vars₀ queue₀ trace₀ at went₀ i₀ i-end vars queue trace went i = i-end - i
 
 action-count-requires : tie.Need-action-count-requires Inv-loop μ-loop
 action-count-requires c κs = search needs

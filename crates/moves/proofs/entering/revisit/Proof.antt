@@ -45,7 +45,7 @@ same-length-4 : tie.Need-same-length-4
 same-length-4 c = search needs
 
 returns-4 : tie.Need-returns-4
-returns-4 c = revisit-empty _ _ _ _ (rw (toZ-ofZ (c .before .before .before .before .before .before .before .before .before .before .before .before .before .before .before .fits .arg)) at (c .before .before .before .before .before .before .before .before .before .before .enter .ensures)) (c .before .before .before .before .before .before .before .if1 .left) (c .before .before .before .before .before .before .kind-of .ensures) (c .before .before .before .before .before .is-o .ensures) (c .before .before .before .before .if2 .left) (c .before .before .before .slot-of .ensures) (c .before .enum-told .given .1)
+returns-4 c = revisit-empty _ _ _ _ (rw (toZ-ofZ (c .before .before .before .before .before .before .before .before .before .before .before .before .before .before .fits .arg)) at (c .before .before .before .before .before .before .before .before .before .enter .ensures)) (c .before .before .before .before .before .before .if1 .left) (c .before .before .before .before .before .kind-of .ensures) (c .before .before .before .before .is-o .ensures) (c .before .before .before .if2 .left) (c .before .before .slot-of .ensures) (c .enum-told .given .1)
 
 pub revisit-spec : {M : Type 1} → statement M
 revisit-spec =

@@ -15,7 +15,7 @@ same-length : tie.Need-same-length
 same-length c = search needs
 
 returns : tie.Need-returns
-returns c = visited-plain _ _ _ _ (c .before .before .before .before .before .before .by-default .ensures) (c .before .before .before .before .before .if1 .taken) (rw (toZ-ofZ (c .before .before .before .before .before .before .before .before .fits .arg)) at (c .before .enter .ensures))
+returns c = visited-plain _ _ _ _ (c .before .before .before .before .before .before .before .by-default .ensures) (c .before .before .before .before .before .before .if1 .taken) (rw (toZ-ofZ (c .before .before .before .before .before .before .before .before .fits .arg)) at (c .before .enter .ensures))
 
 perform-all-requires : tie.Need-perform-all-requires
 perform-all-requires c κs = search needs
@@ -24,7 +24,7 @@ same-length-2 : tie.Need-same-length-2
 same-length-2 c = search needs
 
 returns-2 : tie.Need-returns-2
-returns-2 c = visited-stop _ _ _ _ (c .before .before .before .before .before .before .before .by-default .ensures) (c .before .before .before .before .before .before .if1 .left) (rw (toZ-ofZ (c .before .before .before .before .before .before .before .before .before .fits .arg)) at (c .before .before .before .perform-all .ensures)) (c .if2 .taken)
+returns-2 c = visited-stop _ _ _ _ (c .before .before .before .before .before .before .before .before .by-default .ensures) (c .before .before .before .before .before .before .before .if1 .left) (rw (toZ-ofZ (c .before .before .before .before .before .before .before .before .before .fits .arg)) at (c .before .before .before .perform-all .ensures)) (c .if2 .taken)
 
 enter-requires-2 : tie.Need-enter-requires-2
 enter-requires-2 c κs = search needs
@@ -33,7 +33,7 @@ same-length-3 : tie.Need-same-length-3
 same-length-3 c = search needs
 
 returns-3 : tie.Need-returns-3
-returns-3 c = visited-on _ _ _ _ (c .before .before .before .before .before .before .before .before .before .before .before .before .before .by-default .ensures) (c .before .before .before .before .before .before .before .before .before .before .before .before .if1 .left) (rw (toZ-ofZ (c .before .before .before .before .before .before .before .before .before .before .before .before .before .before .before .fits .arg)) at (c .before .before .before .before .before .before .before .before .before .perform-all .ensures)) (c .before .before .before .before .before .before .if2 .left) (rw (toZ-ofZ (c .before .before .before .before .before .before .before .before .before .before .before .before .before .before .before .fits .arg)) at (c .before .enter2 .ensures))
+returns-3 c = visited-on _ _ _ _ (c .before .before .before .before .before .before .before .before .before .before .before .before .before .before .by-default .ensures) (c .before .before .before .before .before .before .before .before .before .before .before .before .before .if1 .left) (rw (toZ-ofZ (c .before .before .before .before .before .before .before .before .before .before .before .before .before .before .before .fits .arg)) at (c .before .before .before .before .before .before .before .before .before .perform-all .ensures)) (c .before .before .before .before .before .before .if2 .left) (rw (toZ-ofZ (c .before .before .before .before .before .before .before .before .before .before .before .before .before .before .before .fits .arg)) at (c .before .enter2 .ensures))
 
 pub visit-spec : {M : Type 1} → statement M
 visit-spec =

@@ -6,16 +6,17 @@ use mir.Facts.{toZ-ofZ}
 use mir.Syntax.{w32}
 use mir.Val.{toZ}
 use Rattle.chart.proofs.Rows.{states-most}
+use Rattle.widget.specs.View.{all-lent}
 use Rattle.moves.proofs.Falling.{Leaving, leaving-begin, leaving-skip, leaving-stop, leaving-on, leaving-end}
 use Rattle.moves.proofs.leaving.leave_below.Statement.{statement}
 use Rattle.moves.proofs.leaving.leave_below.Tie as tie
 
 abbrev Inv-loop : tie.InvT-loop
-Inv-loop chart arg s active₀ slots₀ vars₀ trace₀ at waiting₀ next₀ d₀ active slots vars trace waiting next d =
-    Leaving chart (toZ w32 arg) s active₀ slots₀ vars₀ waiting₀ trace₀ next₀ d active slots vars waiting trace next
+Inv-loop chart arg s active₀ slots₀ vars₀ queue₀ trace₀ at next₀ d₀ active slots vars queue trace next d =
+    Leaving chart (toZ w32 arg) s (all-lent active₀ slots₀ vars₀ queue₀ trace₀) next₀ d (all-lent active slots vars queue trace) next
 
 abbrev μ-loop : tie.MeasureT-loop
-μ-loop chart arg s active₀ slots₀ vars₀ trace₀ at waiting₀ next₀ d₀ active slots vars trace waiting next d =
+μ-loop chart arg s active₀ slots₀ vars₀ queue₀ trace₀ at next₀ d₀ active slots vars queue trace next d =
     d
 
 end-below-requires : tie.Need-end-below-requires Inv-loop μ-loop
@@ -40,19 +41,19 @@ loop-again : tie.Need-loop-again Inv-loop μ-loop
 loop-again c = leaving-skip (c .before .before .before .loop .inv) (omega arith) (not-true _ (c .if1 .taken))
 
 leave-requires : tie.Need-leave-requires Inv-loop μ-loop
-leave-requires c κs = (c .before .before .before .before .before .before .before .before .before .pre .0, omega (arith, states-most (c .before .before .before .before .before .before .before .before .before .args .chart .now)), c .before .before .before .before .before .before .before .loop .inv .fits)
+leave-requires c κs = (c .before .before .before .before .before .before .before .before .before .before .pre .0, omega (arith, states-most (c .before .before .before .before .before .before .before .before .before .before .args .chart .now)), c .before .before .before .before .before .before .before .before .loop .inv .fits)
 
 same-length : tie.Need-same-length Inv-loop μ-loop
 same-length c = search needs
 
 returns : tie.Need-returns Inv-loop μ-loop
-returns c = rw (toZ-ofZ (c .before .before .before .before .before .before .before .before .before .before .before .before .before .fits .arg)) at (leaving-stop (c .before .before .before .before .before .before .before .before .before .before .before .loop .inv) (omega arith) (not-false _ (c .before .before .before .before .before .before .before .before .if1 .left)) (c .before .before .before .leave .ensures) (c .if2 .taken))
+returns c = rw (toZ-ofZ (c .before .before .before .before .before .before .before .before .before .before .before .before .before .before .fits .arg)) at (leaving-stop (c .before .before .before .before .before .before .before .before .before .before .before .before .loop .inv) (omega arith) (not-false _ (c .before .before .before .before .before .before .before .before .before .if1 .left)) (c .before .before .before .leave .ensures) (c .if2 .taken))
 
 loop-less-2 : tie.Need-loop-less-2 Inv-loop μ-loop
 loop-less-2 c = search needs
 
 loop-again-2 : tie.Need-loop-again-2 Inv-loop μ-loop
-loop-again-2 c = leaving-on (c .before .before .before .before .before .before .before .before .before .before .before .before .loop .inv) (omega arith) (not-false _ (c .before .before .before .before .before .before .before .before .before .if1 .left)) (c .before .before .before .before .leave .ensures) (c .before .if2 .left)
+loop-again-2 c = leaving-on (c .before .before .before .before .before .before .before .before .before .before .before .before .loop .inv) (omega arith) (not-false _ (c .before .before .before .before .before .before .before .before .before .if1 .left)) (c .before .before .before .leave .ensures) (c .if2 .left)
 
 same-length-2 : tie.Need-same-length-2 Inv-loop μ-loop
 same-length-2 c = search needs

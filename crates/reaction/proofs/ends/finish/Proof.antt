@@ -19,23 +19,24 @@ same-length c = search needs
 
 -- src/ends.rt:41:9
 returns : tie.Need-returns
-returns c = ends-no _ _ _ _ _ _ _ _ (c .before .before .before .if1 .taken) (c .before .refuse .ensures)
+returns c = ends-no _ _ _ _ _ (c .before .before .before .if1 .taken) (c .before .refuse .ensures)
 
 -- src/ends.rt:44:5
 clear-from-requires : tie.Need-clear-from-requires
 clear-from-requires c κs = search needs
 
--- src/ends.rt:29:1
+held-requires : tie.Need-held-requires
+held-requires c κs = search needs
+
 same-length-2 : tie.Need-same-length-2
 same-length-2 c = search needs
 
 -- src/ends.rt:29:1
 returns-2 : tie.Need-returns-2
 returns-2 c =
-    let k = c .before .before .before .before in
-    ends-on _ _ _ _ _ _ _ _ (k .if1 .left) (k .before .before .pre) refl (c .before .before .clear-from .ensures)
+    ends-on _ _ _ _ _ (c .before .before .before .before .before .if1 .left) (c .before .before .before .before .before .before .before .pre) _ (c .held .ensures) refl (c .before .before .before .clear-from .ensures)
 
 pub finish-spec : {M : Type 1} → statement M
 finish-spec =
     tie.close
-    (tie.spec refuse-requires same-length returns clear-from-requires same-length-2 returns-2)
+    (tie.spec refuse-requires same-length returns clear-from-requires held-requires same-length-2 returns-2)

@@ -13,16 +13,16 @@ same-length : tie.Need-same-length
 same-length c = search needs
 
 returns : tie.Need-returns
-returns c = then-stop _ (rw (toZ-ofZ (c .before .before .before .before .before .before .before .before .fits .arg)) at (c .before .before .before .step .ensures)) (c .if1 .taken)
+returns c = then-stop _ (rw (toZ-ofZ (c .before .before .before .before .before .before .before .before .before .fits .arg)) at (c .before .before .before .step .ensures)) (c .if1 .taken)
 
 settle-requires : tie.Need-settle-requires
-settle-requires c κs = step-ready _ _ _ (c .before .before .before .before .before .before .before .before .before .before .before .before .before .pre) (c .before .before .before .before .before .before .before .before .step .ensures) (c .before .before .before .before .before .if1 .left)
+settle-requires c κs = step-ready _ _ _ (c .before .before .before .before .before .before .before .before .before .before .before .before .before .before .pre) (c .before .before .before .before .before .before .before .before .step .ensures) (c .before .before .before .before .before .if1 .left)
 
 same-length-2 : tie.Need-same-length-2
 same-length-2 c = search needs
 
 returns-2 : tie.Need-returns-2
-returns-2 c = then-on (rw (toZ-ofZ (c .before .before .before .before .before .before .before .before .before .before .before .before .before .before .before .fits .arg)) at (c .before .before .before .before .before .before .before .before .before .before .step .ensures)) (c .before .before .before .before .before .before .before .if1 .left) (c .before .settle .ensures)
+returns-2 c = then-on (rw (toZ-ofZ (c .before .before .before .before .before .before .before .before .before .before .before .before .before .before .before .before .fits .arg)) at (c .before .before .before .before .before .before .before .before .before .before .step .ensures)) (c .before .before .before .before .before .before .before .if1 .left) (c .before .settle .ensures)
 
 pub react-spec : {M : Type 1} → statement M
 react-spec =

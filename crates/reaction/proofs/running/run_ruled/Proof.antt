@@ -61,10 +61,13 @@ returns-3 c = ends-as (c .before .before .before .before .before .before .before
 reference-requires : tie.Need-reference-requires
 reference-requires c κs = search needs
 
+lend-requires : tie.Need-lend-requires
+lend-requires c κs = search needs
+
 react-requires : tie.Need-react-requires
 react-requires c κs =
-    let k = c .before .before .before .before .before .before .before .before .before .before .before .before .before .before .before .before .before .before .before .before in
-    run-ready _ (k .pre) _ (sized-of k) _ (c .before .before .before .before .before .before .before .before .before .before .before .before .before .before .remove .ensures) (not-false _ (c .before .before .before .before .before .before .before .before .before .before .before .before .before .before .before .before .before .before .if1 .left)) (sym (c .before .before .before .before .before .before .before .before .before .before .before .before .before .before .before .before .before .own .ensures) ∙ not-false _ (c .before .before .before .before .before .before .before .before .before .before .before .before .before .before .before .before .if2 .left)) (not-false _ (c .before .before .before .before .before .before .before .before .before .before .before .before .if3 .left)) _
+    let k = c .before .before .before .before .before .before .before .before .before .before .before .before .before .before .before .before .before .before .before .before .before .before in
+    run-ready _ (k .pre) _ (sized-of k) _ (c .before .before .before .before .before .before .before .before .before .before .before .before .before .before .before .before .remove .ensures) (not-false _ (c .before .before .before .before .before .before .before .before .before .before .before .before .before .before .before .before .before .before .before .before .if1 .left)) (sym (c .before .before .before .before .before .before .before .before .before .before .before .before .before .before .before .before .before .before .before .own .ensures) ∙ not-false _ (c .before .before .before .before .before .before .before .before .before .before .before .before .before .before .before .before .before .before .if2 .left)) (not-false _ (c .before .before .before .before .before .before .before .before .before .before .before .before .before .before .if3 .left)) _ (c .before .before .before .before .before .before .lend .ensures) _
 
 finish-requires : tie.Need-finish-requires
 finish-requires c κs = c .before .before .react .ensures .fits
@@ -74,11 +77,11 @@ same-length-4 c = search needs
 
 returns-4 : tie.Need-returns-4
 returns-4 c =
-    let k = c .before .before .before .before .before .before .before .before .before .before .before .before .before .before .before .before .before .before .before .before .before .before .before .before .before in
-    let fe : SFits w32 (c .before .before .before .before .before .before .before .before .before .before .before .before .before .before .before .before .before .before .before .remove .result .front .event) = search needs in
-    let fa : SFits w32 (c .before .before .before .before .before .before .before .before .before .before .before .before .before .before .before .before .before .before .before .remove .result .front .arg) = search needs in
-    run-ends _ (k .pre) _ (sized-of k) _ (c .before .before .before .before .before .before .before .before .before .before .before .before .before .before .before .before .before .before .before .remove .ensures) (not-false _ (c .before .before .before .before .before .before .before .before .before .before .before .before .before .before .before .before .before .before .before .before .before .before .before .if1 .left)) (sym (c .before .before .before .before .before .before .before .before .before .before .before .before .before .before .before .before .before .before .before .before .before .before .own .ensures) ∙ not-false _ (c .before .before .before .before .before .before .before .before .before .before .before .before .before .before .before .before .before .before .before .before .before .if2 .left)) (not-false _ (c .before .before .before .before .before .before .before .before .before .before .before .before .before .before .before .before .before .if3 .left))
-    _ _ (k .args .trace .now) _ _ _ _ _ _ _ (c .before .before .before .before .before .before .before .before .before .before .before .before .before .before .reference .ensures ∙ ap ref (toZ-ofZ fe)) (toZ-ofZ fa) (c .before .before .before .before .react .ensures) (c .before .finish .ensures)
+    let k = c .before .before .before .before .before .before .before .before .before .before .before .before .before .before .before .before .before .before .before .before .before .before .before .before .before .before .before in
+    let fe : SFits w32 (c .before .before .before .before .before .before .before .before .before .before .before .before .before .before .before .before .before .before .before .before .before .remove .result .front .event) = search needs in
+    let fa : SFits w32 (c .before .before .before .before .before .before .before .before .before .before .before .before .before .before .before .before .before .before .before .before .before .remove .result .front .arg) = search needs in
+    run-ends _ (k .pre) _ (sized-of k) _ (c .before .before .before .before .before .before .before .before .before .before .before .before .before .before .before .before .before .before .before .before .before .remove .ensures) (not-false _ (c .before .before .before .before .before .before .before .before .before .before .before .before .before .before .before .before .before .before .before .before .before .before .before .before .before .if1 .left)) (sym (c .before .before .before .before .before .before .before .before .before .before .before .before .before .before .before .before .before .before .before .before .before .before .before .before .own .ensures) ∙ not-false _ (c .before .before .before .before .before .before .before .before .before .before .before .before .before .before .before .before .before .before .before .before .before .before .before .if2 .left)) (not-false _ (c .before .before .before .before .before .before .before .before .before .before .before .before .before .before .before .before .before .before .before .if3 .left))
+    _ (c .before .before .before .before .before .before .before .before .before .before .before .lend .ensures) _ _ (k .args .trace .now) _ _ _ _ (c .before .before .before .before .before .before .before .before .before .before .before .before .before .before .before .before .reference .ensures ∙ ap ref (toZ-ofZ fe)) (toZ-ofZ fa) (c .before .before .before .before .react .ensures) (c .before .finish .ensures)
 
 pub run-ruled-spec : {M : Type 1} → statement M
 run-ruled-spec =
@@ -96,6 +99,7 @@ run-ruled-spec =
     same-length-3
     returns-3
     reference-requires
+    lend-requires
     react-requires
     finish-requires
     same-length-4

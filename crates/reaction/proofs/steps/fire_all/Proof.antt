@@ -7,6 +7,7 @@ use mir.Facts.{toZ-ofZ}
 use mir.Syntax.{w32}
 use mir.Val.{toZ}
 use Rattle.choice.specs.Choice.{picked}
+use Rattle.widget.specs.View.{all-lent}
 use Rattle.reaction.specs.Ready.{Ready, Fires}
 use Rattle.reaction.proofs.Going.{ready-led}
 use Rattle.reaction.proofs.Firing.{Firing, firing-begin, firing-end, firing-stop, firing-on, fires-long, fires-at, fires-named}
@@ -14,11 +15,11 @@ use Rattle.reaction.proofs.steps.fire_all.Statement.{statement}
 use Rattle.reaction.proofs.steps.fire_all.Tie as tie
 
 abbrev Inv-loop : tie.InvT-loop
-Inv-loop chart arg active₀ slots₀ vars₀ trace₀ at chosen waiting₀ next₀ n j₀ active slots vars trace waiting next j =
-    Firing chart (toZ w32 arg) (picked chosen) active₀ slots₀ vars₀ waiting₀ trace₀ next₀ j active slots vars waiting trace next × (j ≤ n)
+Inv-loop chart arg active₀ slots₀ vars₀ queue₀ trace₀ at chosen next₀ n j₀ active slots vars queue trace next j =
+    Firing chart (toZ w32 arg) (picked chosen) (all-lent active₀ slots₀ vars₀ queue₀ trace₀) next₀ j (all-lent active slots vars queue trace) next × (j ≤ n)
 
 abbrev μ-loop : tie.MeasureT-loop
-μ-loop chart arg active₀ slots₀ vars₀ trace₀ at chosen waiting₀ next₀ n j₀ active slots vars trace waiting next j =
+μ-loop chart arg active₀ slots₀ vars₀ queue₀ trace₀ at chosen next₀ n j₀ active slots vars queue trace next j =
     n - j
 
 loop-holds : tie.Need-loop-holds Inv-loop μ-loop
@@ -32,17 +33,17 @@ element-copy-out-pick c = omega (arith, c .before .before .pre .1 .few)
 
 fire-requires : tie.Need-fire-requires Inv-loop μ-loop
 fire-requires c κs =
-    let w = c .before .before .before .before .before .before .loop .inv .0 .ready in
-    (w .ruled, fires-named _ _ (c .before .before .before .before .before .before .before .pre .1) _ (c .before .before .before .before .before .loop-test .taken), ready-led w, w .fits)
+    let w = c .before .before .before .before .before .before .before .loop .inv .0 .ready in
+    (w .ruled, fires-named _ _ (c .before .before .before .before .before .before .before .before .pre .1) _ (c .before .before .before .before .before .before .loop-test .taken), ready-led w, w .whole, w .fits)
 
 same-length : tie.Need-same-length Inv-loop μ-loop
 same-length c = search needs
 
 returns : tie.Need-returns Inv-loop μ-loop
 returns c =
-    let f = c .before .before .before .before .before .before .before .before .before .before .before .pre .1 in
-    let l = c .before .before .before .before .before .before .before .before .before .loop-test .taken in
-    rw (toZ-ofZ (c .before .before .before .before .before .before .before .before .before .before .before .fits .arg)) at (firing-stop (c .before .before .before .before .before .before .before .before .before .before .loop .inv .0) _ (omega (arith, fires-long _ _ f, l)) (fires-at _ _ f _ l) (c .before .before .before .fire .ensures) (c .if1 .taken))
+    let f = c .before .before .before .before .before .before .before .before .before .before .before .before .pre .1 in
+    let l = c .before .before .before .before .before .before .before .before .before .before .loop-test .taken in
+    rw (toZ-ofZ (c .before .before .before .before .before .before .before .before .before .before .before .before .fits .arg)) at (firing-stop (c .before .before .before .before .before .before .before .before .before .before .before .loop .inv .0) _ (omega (arith, fires-long _ _ f, l)) (fires-at _ _ f _ l) (c .before .before .before .fire .ensures) (c .if1 .taken))
 
 add-j : tie.Need-add-j Inv-loop μ-loop
 add-j c = omega arith
@@ -54,7 +55,7 @@ loop-again : tie.Need-loop-again Inv-loop μ-loop
 loop-again c =
     let f = c .before .before .before .before .before .before .before .before .before .before .before .before .pre .1 in
     let l = c .before .before .before .before .before .before .before .before .before .before .loop-test .taken in
-    (firing-on (c .before .before .before .before .before .before .before .before .before .before .before .loop .inv .0) _ (omega (arith, fires-long _ _ f, l)) (fires-at _ _ f _ l) (c .before .before .before .before .fire .ensures) (fires-named _ _ f _ l) (c .before .if1 .left), omega arith)
+    (firing-on (c .before .before .before .before .before .before .before .before .before .before .before .loop .inv .0) _ (omega (arith, fires-long _ _ f, l)) (fires-at _ _ f _ l) (c .before .before .before .fire .ensures) (fires-named _ _ f _ l) (c .if1 .left), omega arith)
 
 same-length-2 : tie.Need-same-length-2 Inv-loop μ-loop
 same-length-2 c = search needs
