@@ -165,12 +165,12 @@ pub fn compile(chart: &[i32], plan: &mut [i32]) -> Compiled
     ensures { λ r. ⌜ Compiles (now (chart .entry)) (now (plan .entry)) r (now (plan .exit)) ⌝ }
 {
     let verdict = rules::check(chart);
-    if verdict.number != 0 {
-        clear_from(plan, 0);
-        return Compiled {
-            answer: verdict,
-            length: 0,
-        };
+    if verdict.number == 0 {
+        return compile_passed(chart, plan);
     }
-    compile_passed(chart, plan)
+    clear_from(plan, 0);
+    Compiled {
+        answer: verdict,
+        length: 0,
+    }
 }
