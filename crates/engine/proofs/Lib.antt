@@ -3,3 +3,4 @@ pub mod TextKept
 pub mod Examining
 pub mod Unique
 pub mod UniquePlans
+pub mod UniquePlanned

@@ -1,7 +1,7 @@
 -- `post` says by name what the machine says. Assumes nothing.
 use borrow.Author.Needs.{needs}
-use Rattle.engine.proofs.plans.post.Statement.{statement}
-use Rattle.engine.proofs.plans.post.Tie as tie
+use Rattle.engine.proofs.planned.post.Statement.{statement}
+use Rattle.engine.proofs.planned.post.Tie as tie
 
 returns : tie.Need-returns
 returns c = record { result = c .post .ensures }
