@@ -6,6 +6,7 @@ pub mod planned;
 pub mod plans;
 
 use calls::answers::refused;
+pub use chart::layout::VALUE;
 use checked::discard_checked;
 use checked::post_checked;
 use checked::run_checked;

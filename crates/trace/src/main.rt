@@ -2,43 +2,27 @@
 // parts; what it prints is collected and written whenever there might not be room for one more report. It reads and writes, and decides
 // nothing itself: what a text and the bytes of a part do is said by the functions that it calls. A line may have any length, and the input
 // any size.
-use chart::layout::VALUE;
 use console::Scan;
+use engine::VALUE;
+use files::LENT;
+use files::chart_text;
 use libc::STDIN_FILENO;
 use libc::STDOUT_FILENO;
 use meaning::State;
 use session::LARGEST;
 use session::Under;
-use sizes::TEXT;
 ghost use Prim.Native.Nat.{_+_, _≤_};
 ghost use lib.ListN.{length};
-ghost use Rattle.io.specs.Counts.{Counts};
 ghost use Rattle.meaning.specs.Value.{chart-of};
 ghost use Rattle.meaning.specs.Program.{turn};
 ghost use Rattle.promises.specs.Promises.{Accepted};
 ghost use Rattle.session.specs.Turned.{LARGEST as Largest, seen};
 ghost use Rattle.session.specs.Walked.{Fed};
 
-// The bytes lent for a text: one more than a text may have, so that a longer one is not cut to one that is accepted.
-const LENT: usize = TEXT + 1;
-
 // One part of the input: whether there may be more, and where the session stands.
 struct Part {
     more: bool,
     under: Under,
-}
-
-// The chart's text, and its length: 0 where the file is missing.
-fn chart_text(buffer: &mut [u8]) -> usize
-    ensures { λ r. ⌜ Counts r (now (buffer .exit)) ⌝ }
-{
-    let file = os::open_read(b"chart.txt");
-    if file < 0 {
-        return 0;
-    }
-    let n = io::read_full(file, buffer);
-    libc::close(file);
-    n
 }
 
 // Writes what was collected, up to the place.
