@@ -9,6 +9,11 @@ use answers::with_queue;
 use chart::event_count;
 use meaning::Called;
 use meaning::State;
+use meaning::answers::FOREIGN;
+use meaning::answers::NO_SUCH_EVENT;
+use meaning::answers::NOT_STARTED;
+use meaning::answers::QUEUE_EMPTY;
+use meaning::answers::QUEUE_FULL;
 use own::own;
 use widget::fits::event_fits;
 ghost use mathlib.Core.Path.{_≡_};
@@ -20,18 +25,18 @@ pub fn post_ruled(chart: &[i32], state: State, event: i32, arg: i32) -> Called
     ensures { λ r. ⌜ r ≡ called (posts (chart-of (now (chart .entry))) state event arg) ⌝ }
 {
     if !state.started {
-        return refused(7, 0, state);
+        return refused(NOT_STARTED, 0, state);
     }
     if !own(chart, state) {
-        return refused(6, 0, state);
+        return refused(FOREIGN, 0, state);
     }
     if !event_fits(event_count(chart), event, arg) {
-        return refused(10, 0, state);
+        return refused(NO_SUCH_EVENT, 0, state);
     }
     let queue = state.queue;
     let queued = queue.append(event, arg);
     if !queued.done {
-        return refused(9, 0, state);
+        return refused(QUEUE_FULL, 0, state);
     }
     let after = queued.queue;
     done(with_queue(state, after))
@@ -42,15 +47,15 @@ pub fn discard_ruled(chart: &[i32], state: State) -> Called
     ensures { λ r. ⌜ r ≡ called (discards (chart-of (now (chart .entry))) state) ⌝ }
 {
     if !state.started {
-        return refused(7, 0, state);
+        return refused(NOT_STARTED, 0, state);
     }
     if !own(chart, state) {
-        return refused(6, 0, state);
+        return refused(FOREIGN, 0, state);
     }
     let queue = state.queue;
     let removed = queue.remove();
     if !removed.done {
-        return refused(8, 0, state);
+        return refused(QUEUE_EMPTY, 0, state);
     }
     let after = removed.queue;
     done(with_queue(state, after))

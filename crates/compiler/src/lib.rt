@@ -15,6 +15,7 @@ use emitter::index::index_of;
 use emitter::put_three;
 use heads::put_heads;
 use meaning::Answer;
+use meaning::answers::PLAN_TOO_LONG;
 use meaning::plan::Compiled;
 use numbers::number;
 use order::order_of;
@@ -136,7 +137,7 @@ fn compile_passed(chart: &[i32], plan: &mut [i32]) -> Compiled
     if plan.len() < length {
         clear_from(plan, 0);
         let answer = Answer {
-            number: 4,
+            number: PLAN_TOO_LONG,
             place: 0,
         };
         return Compiled {

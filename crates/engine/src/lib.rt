@@ -15,6 +15,7 @@ pub use meaning::Answer;
 pub use meaning::Called;
 pub use meaning::State;
 pub use meaning::Written;
+use meaning::answers::RULE_FAILS;
 pub use meaning::plan::Compiled;
 use queue::Queue;
 use reaction::ends::refuse;
@@ -33,7 +34,7 @@ pub fn check(chart: &[i32]) -> Answer
 {
     if !rule_0(chart) {
         return Answer {
-            number: 3,
+            number: RULE_FAILS,
             place: 0,
         };
     }
@@ -92,7 +93,7 @@ pub fn start(chart: &[i32], state: State, trace: &mut [i32]) -> Called
 {
     let verdict = check(chart);
     if verdict.number != 0 { // "chart 3 .. first"
-        return refuse(3, verdict.place, state, trace); // before the first refusal met
+        return refuse(RULE_FAILS, verdict.place, state, trace); // before the first refusal met
     }
     start_checked(chart, state, trace)
 }
@@ -103,7 +104,7 @@ pub fn run(chart: &[i32], state: State, trace: &mut [i32]) -> Called
 {
     let verdict = check(chart);
     if verdict.number != 0 {
-        return refuse(3, verdict.place, state, trace); // before 7, 6, 8
+        return refuse(RULE_FAILS, verdict.place, state, trace); // before 7, 6, 8
     }
     run_checked(chart, state, trace)
 }
@@ -114,7 +115,7 @@ pub fn post(chart: &[i32], state: State, event: i32, arg: i32) -> Called
 {
     let verdict = check(chart);
     if verdict.number != 0 {
-        return refused(3, verdict.place, state); // before 7, 6, 10, 9
+        return refused(RULE_FAILS, verdict.place, state); // before 7, 6, 10, 9
     }
     post_checked(chart, state, event, arg)
 }
@@ -125,7 +126,7 @@ pub fn discard(chart: &[i32], state: State) -> Called
 {
     let verdict = check(chart);
     if verdict.number != 0 {
-        return refused(3, verdict.place, state); // before 7, 6, 8
+        return refused(RULE_FAILS, verdict.place, state); // before 7, 6, 8
     }
     discard_checked(chart, state)
 }

@@ -11,6 +11,7 @@ use heads::blocks_fill;
 use heads::heads_fit;
 use instructions::code_fits;
 use meaning::Answer;
+use meaning::answers::NOT_A_PLAN;
 use meaning::plan::Counts;
 use plan_rows::counts;
 use plan_rows::layout::EVENT_COUNT;
@@ -28,9 +29,6 @@ use variables::vars_keep;
 ghost use mathlib.Core.Path.{_≡_};
 ghost use Rattle.meaning.specs.WellFormed.{counts-keep, rows-well-formed, well-formed};
 ghost use Rattle.examiner.specs.Examined.{examined, Whole};
-
-// Answer 5: a plan is cut short or not well formed.
-const MALFORMED: usize = 5;
 
 // The counts keep their sizes.
 fn counts_keep(plan: &[i32]) -> bool
@@ -92,7 +90,7 @@ pub fn examine(plan: &[i32]) -> Answer
         };
     }
     Answer {
-        number: MALFORMED,
+        number: NOT_A_PLAN,
         place: 0,
     }
 }

@@ -55,7 +55,6 @@ pub record Computed : Type 0 where
       machine-to (compile chart-inside) 3000 2
       (machine-to (compile chart-inside) 3000 1 (machine-start (compile chart-inside) unstarted 3000 .after) .after)
       ≡ gives state-inside inside-entries
-
   -- a queue that fills in the middle of a reaction: 9, and the widget stays as it was, the event in front
   pub filling-pass : failing-rule chart-filling ≡ none
   pub filling : react-to chart-filling 3000 1 (start chart-filling unstarted 3000 .after) ≡ refused 9 0 state-filling

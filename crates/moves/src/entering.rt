@@ -13,6 +13,7 @@ use acts::perform_all;
 use chart::kind_of;
 use chart::tree::is_child;
 use chart::tree::is_o;
+use meaning::answers::SLOT_EMPTY;
 use meaning::chart::Owner;
 use numbers::Place;
 use queue::lent::QUEUE_NUMBERS;
@@ -85,7 +86,7 @@ fn revisit(
         return went;
     };
     Went {
-        number: 14,
+        number: SLOT_EMPTY,
         at: went.at,
     }
 }

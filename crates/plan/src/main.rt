@@ -73,11 +73,15 @@ fn put_row(plan: &[i32], from: usize, width: usize, out: &mut [u8], at: usize) -
 }
 
 // So many rows of one kind.
-fn put_rows(plan: &[i32], from: usize, count: usize, width: usize, out: &mut [u8], at: usize) -> Rows {
-    let mut rows = Rows {
-        from: from,
-        at: at,
-    };
+fn put_rows(
+    plan: &[i32],
+    from: usize,
+    count: usize,
+    width: usize,
+    out: &mut [u8],
+    at: usize,
+) -> Rows {
+    let mut rows = Rows { from: from, at: at };
     let mut i: usize = 0;
     while i < count {
         let begin = rows.from;

@@ -6,6 +6,9 @@ use super::steps::step;
 use calls::own::own;
 use meaning::Called;
 use meaning::State;
+use meaning::answers::FOREIGN;
+use meaning::answers::NOT_STARTED;
+use meaning::answers::QUEUE_EMPTY;
 use numbers::reference;
 use queue::lent::QUEUE_NUMBERS;
 use queue::lent::lend;
@@ -49,15 +52,15 @@ pub fn run_ruled(chart: &[i32], state: State, trace: &mut [i32]) -> Called
     ensures { λ r. ⌜ (r ≡ called (runs (chart-of (now (chart .entry))) state (length (now (trace .entry))))) × (now (trace .exit) ≡ lent (length (now (trace .entry))) (runs (chart-of (now (chart .entry))) state (length (now (trace .entry))))) ⌝ }
 {
     if !state.started {
-        return refuse(7, 0, state, trace);
+        return refuse(NOT_STARTED, 0, state, trace);
     }
     if !own(chart, state) {
-        return refuse(6, 0, state, trace);
+        return refuse(FOREIGN, 0, state, trace);
     }
     let queue = state.queue;
     let removed = queue.remove();
     if !removed.done {
-        return refuse(8, 0, state, trace);
+        return refuse(QUEUE_EMPTY, 0, state, trace);
     }
     let front = removed.front;
     let event = reference(front.event);

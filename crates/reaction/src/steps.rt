@@ -2,6 +2,7 @@
 use choice::Chosen;
 use choice::choose;
 use firing::fire;
+use meaning::answers::UNSETTLED;
 use queue::lent::QUEUE_NUMBERS;
 use sizes::NULL_STEPS;
 use sizes::STATES;
@@ -92,7 +93,7 @@ pub fn settle(
         }
         if turns == NULL_STEPS {
             break Went {
-                number: 12,
+                number: UNSETTLED,
                 at: next,
             };
         }

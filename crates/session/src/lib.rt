@@ -8,6 +8,7 @@ use console::LINE;
 use console::Scan;
 use meaning::Line;
 use meaning::State;
+use meaning::answers::WRONG_LINE;
 ghost use mathlib.Core.Path.{_≡_};
 ghost use lib.ListN.{length};
 ghost use Rattle.promises.specs.Promises.{Accepted};
@@ -138,7 +139,7 @@ pub fn turn(chart: &[i32], state: State, line: Line, out: &mut [u8], at: usize) 
             }
             ran(chart, after, out, at)
         }
-        Line::Wrong => refusal(1, state, out, at),
+        Line::Wrong => refusal(WRONG_LINE, state, out, at),
     }
 }
 

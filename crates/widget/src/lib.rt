@@ -3,6 +3,8 @@
 // what it leaves behind is what the definition's step gives. What a function does not touch may be anything.
 pub mod fits;
 
+use meaning::answers::NO_ROOM;
+use meaning::answers::QUEUE_FULL;
 use meaning::chart::Act;
 use meaning::chart::VarRow;
 use numbers::Place;
@@ -41,7 +43,10 @@ pub fn emit(trace: &mut [i32], at: usize, a: i32, b: i32, c: i32) -> Went
     ensures { λ r. ⌜ Noted (a ∷ b ∷ c ∷ []) (now (trace .entry)) at r (now (trace .exit)) ⌝ }
 {
     if trace.len() - at < ENTRY {
-        return Went { number: 11, at: at };
+        return Went {
+            number: NO_ROOM,
+            at: at,
+        };
     }
     trace[at] = a;
     trace[at + 1] = b;
@@ -119,7 +124,7 @@ pub fn send(
     }
     if !append(queue, event, x) {
         return Went {
-            number: 9,
+            number: QUEUE_FULL,
             at: wrote.at,
         };
     }

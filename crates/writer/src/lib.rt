@@ -5,6 +5,7 @@ pub mod rows;
 
 use meaning::Answer;
 use meaning::Written;
+use meaning::answers::TEXT_TOO_LONG;
 ghost use mathlib.Core.Path.{_≡_};
 ghost use mathlib.Core.Option.{none};
 ghost use lib.ListN.{length};
@@ -33,7 +34,7 @@ pub fn write_passed(chart: &[i32], text: &mut [u8]) -> Written
     if text.len() < end {
         clear(text);
         let answer = Answer {
-            number: 13,
+            number: TEXT_TOO_LONG,
             place: 0,
         };
         return Written {
