@@ -1,0 +1,26 @@
+-- `guard_at` reads the three numbers of a head's guard. Assumes nothing.
+use Rattle.meaning.specs.WellFormed.{head-guard-by}
+use Rattle.chart.proofs.Said.{said-of3}
+use borrow.Author.Needs.{needs}
+use Rattle.plan_rows.proofs.guard_at.Statement.{statement}
+use Rattle.plan_rows.proofs.guard_at.Tie as tie
+
+returns : tie.Need-returns
+returns c =
+    let x = c .before .before .before .read in
+    let y = c .before .before .read2 in
+    let z = c .before .read3 in
+    said-of3 head-guard-by (x .ok) (x .ensures) (y .ok) (y .ensures) (z .ok) (z .ensures) (c .head-guard-by .ensures)
+
+pub guard-at-spec : {M : Type 1} → statement M
+guard-at-spec =
+    tie.close
+    (tie.spec
+    (λ c. search needs)
+    (λ c κs. search needs)
+    (λ c. search needs)
+    (λ c κs. search needs)
+    (λ c. search needs)
+    (λ c κs. search needs)
+    (λ c κs. search needs)
+    returns)
