@@ -1,0 +1,4 @@
+pub mod Wholes
+pub mod RowTests
+pub mod Loops
+pub mod Blocks
