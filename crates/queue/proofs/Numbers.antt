@@ -120,7 +120,8 @@ unfolding numbers-of
 lend-begin q x e = rw e
 
 -- one more place is written
-pub lend-more : (q : Queue) (ns : List ℤ) (i : ℕ) (e a : ℤ) → length (q .items) ≡ QUEUE → i < QUEUE → ns ≡ copied zeros (numbers-of q) (2 * i + 1)
+pub lend-more : (q : Queue) (ns : List ℤ) (i : ℕ) (e a : ℤ) → length (q .items) ≡ QUEUE → i < QUEUE
+    → ns ≡ copied zeros (numbers-of q) (2 * i + 1)
     → e ≡ getD (q .items) i none .event → a ≡ getD (q .items) i none .arg
     → set (set ns (2 * i + 1) e) (2 * i + 1 + 1) a ≡ copied zeros (numbers-of q) (2 * (i + 1) + 1)
 unfolding numbers-of
@@ -182,7 +183,8 @@ module _ (ns : List ℤ) (l : length ns ≡ QUEUE-NUMBERS) where
 -- what `append` promises of the numbers before and after, and of its answer
 abbrev pub Appends : List ℤ → ℤ → ℤ → Bool → List ℤ → Type 0
 Appends ns e a done ms =
-    (done ≡ appended (queue-by ns) e a .done) × (length ms ≡ length ns) × (length ns ≡ QUEUE-NUMBERS → queue-by ms ≡ appended (queue-by ns) e a .queue)
+    (done ≡ appended (queue-by ns) e a .done) × (length ms ≡ length ns)
+    × (length ns ≡ QUEUE-NUMBERS → queue-by ms ≡ appended (queue-by ns) e a .queue)
 
 module _ (ns : List ℤ) (n : ℕ) (e a : ℤ) (l : n ≡ ref (getD ns 0 (pos 0))) where
   pub append-full : QUEUE ≤ n → Appends ns e a false ns
@@ -243,12 +245,14 @@ slid-more (x ∷ t) now (suc j) l h k e =
     ∙ ap (λ m. x ∷ copied t (drop 2 t) m) b
 
 -- the last place is freed
-slid-out : (t : List ℤ) (m : ℕ) → m + 2 ≡ length t → set (set (copied t (drop 2 t) m) m (pos 0)) (suc m) (pos 0) ≡ drop 2 t ++ (pos 0 ∷ pos 0 ∷ [])
+slid-out : (t : List ℤ) (m : ℕ) → m + 2 ≡ length t
+    → set (set (copied t (drop 2 t) m) m (pos 0)) (suc m) (pos 0) ≡ drop 2 t ++ (pos 0 ∷ pos 0 ∷ [])
 slid-out t m h =
     let p : length (drop 2 t) ≡ m = rw length-drop (omega arith) in
     let two : drop m t ≡ getD t m (pos 0) ∷ getD t (suc m) (pos 0) ∷ [] =
     drop-cons t m (pos 0) (omega arith)
-    ∙ ap (λ l. getD t m (pos 0) ∷ l) (drop-cons t (suc m) (pos 0) (omega arith) ∙ ap (λ l. getD t (suc m) (pos 0) ∷ l) (drop-of-length-le t {i = suc (suc m)} (omega arith))) in
+    ∙ ap (λ l. getD t m (pos 0) ∷ l) (drop-cons t (suc m) (pos 0) (omega arith)
+    ∙ ap (λ l. getD t (suc m) (pos 0) ∷ l) (drop-of-length-le t {i = suc (suc m)} (omega arith))) in
     let q : length (drop 2 t ++ (pos 0 ∷ [])) ≡ suc m = length-append (drop 2 t) (pos 0 ∷ []) ∙ omega arith in
     rw (take-all m (drop 2 t) (omega arith), two, set-at (drop 2 t) (getD t m (pos 0)) (getD t (suc m) (pos 0) ∷ []) (pos 0) m p)
     (ap (λ l. set l (suc m) (pos 0)) (sym (append-snoc (drop 2 t) (pos 0) (getD t (suc m) (pos 0) ∷ [])))
@@ -272,7 +276,8 @@ module _ (ns : List ℤ) (n : ℕ) (e : n ≡ ref (getD ns 0 (pos 0))) where
   unfolding removed queue-by
   remove-over h = rw (← e, ne-eqb n 0 (λ z. omega arith), lt-ltb QUEUE n h)
 
-pub remove-on : (ns now : List ℤ) (n i : ℕ) → n ≡ ref (getD ns 0 (pos 0)) → length ns ≡ QUEUE-NUMBERS → (n ≡ 0 → ⊥) → n ≤ QUEUE → i ≡ QUEUE-NUMBERS - 2 → now ≡ slid ns i
+pub remove-on : (ns now : List ℤ) (n i : ℕ) → n ≡ ref (getD ns 0 (pos 0)) → length ns ≡ QUEUE-NUMBERS → (n ≡ 0 → ⊥) → n ≤ QUEUE
+    → i ≡ QUEUE-NUMBERS - 2 → now ≡ slid ns i
     → removed (queue-by ns) ≡ record {
       done = true;
       front = item (getD ns 1 (pos 0)) (getD ns 2 (pos 0));
