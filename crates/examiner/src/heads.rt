@@ -89,11 +89,21 @@ fn head_fits(plan: &[i32], k: Counts, at: usize) -> bool
         return false;
     }
     let source = read(plan, at + SOURCE);
-    if !span_fits(k, source, read(plan, at + SPAN_FIRST), read(plan, at + SPAN_LAST)) {
+    if !span_fits(
+        k,
+        source,
+        read(plan, at + SPAN_FIRST),
+        read(plan, at + SPAN_LAST),
+    ) {
         return false;
     }
     let v = read(plan, at + GUARD_VAR);
-    guard_fits(k, v, read(plan, at + GUARD_SIGN), read(plan, at + GUARD_CONSTANT))
+    guard_fits(
+        k,
+        v,
+        read(plan, at + GUARD_SIGN),
+        read(plan, at + GUARD_CONSTANT),
+    )
 }
 
 pub fn heads_fit(plan: &[i32], k: Counts) -> bool

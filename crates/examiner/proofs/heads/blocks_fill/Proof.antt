@@ -42,10 +42,11 @@ loop-holds : tie.Need-loop-holds Inv-loop μ-loop
 unfolding head-rows
 loop-holds c =
     let s = c .before .before .before in
-    let a = s .args in
-    (ap (λ m. blocks-fill (a .k .instructions) (a .k .start) (chunks (a .k .heads) HEAD-ROW (drop m (a .plan .now)))) (c .heads-at .ensures) ∙ begun s,
-    omega arith,
-    omega (arith, heads-there (a .plan .now) (a .k) (s .pre), c .heads-at .ensures))
+    let a = s .args in (
+      ap (λ m. blocks-fill (a .k .instructions) (a .k .start) (chunks (a .k .heads) HEAD-ROW (drop m (a .plan .now)))) (c .heads-at .ensures) ∙ begun s,
+      omega arith,
+      omega (arith, heads-there (a .plan .now) (a .k) (s .pre), c .heads-at .ensures),
+    )
 
 add-named : tie.Need-add-named Inv-loop μ-loop
 add-named c = search needs
@@ -95,11 +96,12 @@ loop-again c =
     let s = c .before .before .before .before .before .before .before .before .before .before in
     let w = c .before .before .before .before .before .before .loop in
     let f = c .before .before .before .before .named in
-    let l = c .before .before .named2 in
-    (fill-next (s .args .k .instructions) (w .end) (w .at) (w .left) (s .args .plan .now) (f .result) (l .result) (f .ensures) (l .ensures) (omega arith)
-    (whole-few (s .args .plan .now) (s .args .k) (s .pre)) (w .inv .1) (c .before .before .before .if2 .left) (w .inv .0),
-    omega arith,
-    omega arith)
+    let l = c .before .before .named2 in (
+      fill-next (s .args .k .instructions) (w .end) (w .at) (w .left) (s .args .plan .now) (f .result) (l .result) (f .ensures) (l .ensures) (omega arith)
+          (whole-few (s .args .plan .now) (s .args .k) (s .pre)) (w .inv .1) (c .before .before .before .if2 .left) (w .inv .0),
+      omega arith,
+      omega arith,
+    )
 
 returns-4 : tie.Need-returns-4 Inv-loop μ-loop
 returns-4 c =

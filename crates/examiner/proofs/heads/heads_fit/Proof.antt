@@ -25,9 +25,10 @@ heads-at-requires c κs = whole-sized (c .args .plan .now) (c .args .k) (c .pre)
 loop-holds : tie.Need-loop-holds Inv-loop μ-loop
 unfolding head-rows
 loop-holds c =
-    let a = c .before .args in
-    (ap (λ m. every (head-fits (a .k)) (chunks (a .k .heads) HEAD-ROW (drop m (a .plan .now)))) (c .heads-at .ensures),
-    omega (arith, heads-there (a .plan .now) (a .k) (c .before .pre), c .heads-at .ensures))
+    let a = c .before .args in (
+      ap (λ m. every (head-fits (a .k)) (chunks (a .k .heads) HEAD-ROW (drop m (a .plan .now)))) (c .heads-at .ensures),
+      omega (arith, heads-there (a .plan .now) (a .k) (c .before .pre), c .heads-at .ensures),
+    )
 
 head-fits-requires : tie.Need-head-fits-requires Inv-loop μ-loop
 head-fits-requires c κs =
@@ -52,9 +53,10 @@ loop-less c = omega arith
 loop-again : tie.Need-loop-again Inv-loop μ-loop
 loop-again c =
     let a = c .before .before .before .before .before .args in
-    let w = c .before .before .before .loop in
-    (each-next (head-fits (a .k)) HEAD-ROW (w .at) (w .left) (a .plan .now) (omega arith) (held (c .before .head-fits .ensures) (c .if1 .left)) (w .inv .0),
-    omega arith)
+    let w = c .before .before .before .loop in (
+      each-next (head-fits (a .k)) HEAD-ROW (w .at) (w .left) (a .plan .now) (omega arith) (held (c .before .head-fits .ensures) (c .if1 .left)) (w .inv .0),
+      omega arith,
+    )
 
 returns-2 : tie.Need-returns-2 Inv-loop μ-loop
 returns-2 c =

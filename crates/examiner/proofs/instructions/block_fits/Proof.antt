@@ -43,10 +43,11 @@ loop-less c = omega arith
 loop-again : tie.Need-loop-again Inv-loop μ-loop
 loop-again c =
     let a = c .before .before .before .before .args in
-    let w = c .before .before .before .loop in
-    (block-next (a .k) (w .at) (w .left) (a .plan .now) (omega arith) (held (c .before .instr-fits .ensures) (c .if1 .left)) (w .inv .0),
-    omega arith,
-    omega arith)
+    let w = c .before .before .before .loop in (
+      block-next (a .k) (w .at) (w .left) (a .plan .now) (omega arith) (held (c .before .instr-fits .ensures) (c .if1 .left)) (w .inv .0),
+      omega arith,
+      omega arith,
+    )
 
 returns-2 : tie.Need-returns-2 Inv-loop μ-loop
 returns-2 c =

@@ -57,10 +57,9 @@ loop-holds : tie.Need-loop-holds Inv-loop μ-loop
 unfolding head-rows
 loop-holds c =
     let s = c .before .before .before .before in
-    let a = s .args in
-    (
+    let a = s .args in (
       rw (blocks-start (a .k) (a .plan .now), ← c .before .before .before .code-at .ensures)
-      (rw (held (c .before .before .block-fits .ensures) (c .before .if1 .left), c .heads-at .ensures)),
+          (rw (held (c .before .before .block-fits .ensures) (c .before .if1 .left), c .heads-at .ensures)),
       rw (c .heads-at .ensures) (begun s),
       omega (arith, heads-there (a .plan .now) (a .k) (s .pre .0), c .heads-at .ensures),
     )
@@ -92,8 +91,7 @@ block-fits-requires-2 : tie.Need-block-fits-requires-2 Inv-loop μ-loop
 block-fits-requires-2 c κs =
     let s = start-from-named c in
     let z = whole-sized (s .args .plan .now) (s .args .k) (s .pre .0) in
-    let i = inside c in
-    (
+    let i = inside c in (
       z,
       omega arith,
       omega (arith, code-there (s .args .plan .now) (s .args .k) (s .pre .0), c .before .before .before .before .before .before .code-at .ensures),
@@ -127,10 +125,9 @@ loop-again c =
     let d = c .before .before in
     let a = start-from-named d .args in
     let w = d .before .before .loop in
-    let b = d .before .before .before .before .before .before .code-at .result in
-    (
+    let b = d .before .before .before .before .before .before .code-at .result in (
       blocks-next (a .k) b (w .done) (w .left) (w .head) (a .plan .now) (d .named .result) (d .named .ensures) (omega arith)
-      (held (c .before .block-fits2 .ensures) (c .if2 .left)) (w .inv .0),
+          (held (c .before .block-fits2 .ensures) (c .if2 .left)) (w .inv .0),
       filled-on (a .k) b (w .done) (w .left) (w .head) (a .plan .now) (d .named .result) (d .named .ensures) (omega arith) (a .k .instructions) (w .inv .1),
       omega arith,
     )
