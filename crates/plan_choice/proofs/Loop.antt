@@ -35,7 +35,7 @@ unfolding with-rest gone-after chosen-heads
 choosing-begin l = record { owes = refl; named = λ j q. absurd (omega arith); size = l; few = omega arith }
 
 -- the j-th of the chosen
-picked-at : {A : Type 0} (f : ℕ → A) (picks : List ℕ) (count j : ℕ) (d : A) → count ≤ length picks → j < count
+pub picked-at : {A : Type 0} (f : ℕ → A) (picks : List ℕ) (count j : ℕ) (d : A) → count ≤ length picks → j < count
     → getD (map f (take count picks)) j d ≡ f (getD picks j 0)
 picked-at f picks count j d l q =
     getD-map f (take count picks) j d 0 (subst (λ n. j < n) (sym (length-take-le count picks l)) q) ∙ ap f (getD-take count picks j 0 q)
