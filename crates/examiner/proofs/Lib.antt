@@ -2,3 +2,4 @@ pub mod Wholes
 pub mod RowTests
 pub mod Loops
 pub mod Blocks
+pub mod Verdict

@@ -1,21 +1,17 @@
+-- `examine` answers 0 for a well-formed plan, else 5. Assumes nothing.
+use mathlib.Core.Path.{sym, _∙_}
+use Rattle.examiner.specs.Examined.{examined}
 use borrow.Author.Needs.{needs}
 use Rattle.examiner.proofs.examine.Statement.{statement}
 use Rattle.examiner.proofs.examine.Tie as tie
-use Rattle.examiner.proofs.examine.Reads as reads
-use Rattle.examiner.proofs.examine.Lts as lts
-use Rattle.examiner.proofs.well_formed.Reads as well-formed-reads
 
--- src/lib.rt:89:8
-well-formed-requires : tie.Need-well-formed-requires
-well-formed-requires c κs = search needs
-
--- src/lib.rt:90:9
 returns : tie.Need-returns
-returns c = ?
+unfolding examined
+returns c = rw (sym (c .before .well-formed .ensures) ∙ c .if1 .taken)
 
--- src/lib.rt:86:1
 returns-2 : tie.Need-returns-2
-returns-2 c = ?
+unfolding examined
+returns-2 c = rw (sym (c .before .well-formed .ensures) ∙ c .if1 .left)
 
 pub examine-spec : {M : Type 1} → statement M
-examine-spec = tie.close (tie.spec well-formed-requires returns returns-2)
+examine-spec = tie.close (tie.spec (λ c κs. search needs) returns returns-2)

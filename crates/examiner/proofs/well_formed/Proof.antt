@@ -1,49 +1,47 @@
+-- `well_formed` tests the counts, the length, the rows. Assumes nothing.
+use mathlib.Core.Path.{_≡_, sym, ap, _∙_}
+use Prim.Native.Nat.{_≤_}
+use native.Mathlib.Omega.{arith}
+use lib.ListN.{length}
+use Rattle.meaning.specs.WellFormed.{plan-end, rows-well-formed}
+use Rattle.plan_rows.specs.Rows.{Sized}
+use Rattle.plan_rows.proofs.Rows.{sized}
+use Rattle.rules.proofs.Tests.{refuted, held}
+use Rattle.examiner.proofs.Verdict.{well-counts, well-cut, well-rows}
 use borrow.Author.Needs.{needs}
 use Rattle.examiner.proofs.well_formed.Statement.{statement}
 use Rattle.examiner.proofs.well_formed.Tie as tie
-use Rattle.examiner.proofs.well_formed.Reads as reads
-use Rattle.examiner.proofs.well_formed.Lts as lts
-use Rattle.examiner.proofs.counts_keep.Reads as counts-keep-reads
-use Rattle.examiner.proofs.rows_well_formed.Reads as rows-well-formed-reads
-use Rattle.plan_rows.proofs.counts.Reads as counts-reads
-use Rattle.plan_rows.proofs.plan_end.Reads as plan-end-reads
 
--- src/lib.rt:75:9
-counts-keep-requires : tie.Need-counts-keep-requires
-counts-keep-requires c κs = search needs
-
--- src/lib.rt:76:9
 returns : tie.Need-returns
-returns c = ?
+returns c = well-counts (c .before .before .args .plan .now) (refuted (c .before .counts-keep .ensures) (c .if1 .taken))
 
--- src/lib.rt:78:9
-counts-requires : tie.Need-counts-requires
-counts-requires c κs = search needs
-
--- src/lib.rt:79:21
 plan-end-requires : tie.Need-plan-end-requires
-plan-end-requires c κs = ?
+plan-end-requires c κs = rw (c .counts .ensures) (sized (c .before .before .before .args .plan .now))
 
--- src/lib.rt:80:9
 returns-2 : tie.Need-returns-2
-returns-2 c = ?
+returns-2 c =
+    let k = c .before .before in
+    let s = k .before .before in
+    well-cut (s .before .args .plan .now) (held (s .counts-keep .ensures) (k .before .if1 .left))
+    (omega (arith, c .before .plan-end .ensures ∙ ap plan-end (k .counts .ensures)))
 
--- src/lib.rt:82:5
-rows-well-formed-requires : tie.Need-rows-well-formed-requires
-rows-well-formed-requires c κs = search needs
-
--- src/lib.rt:72:1
 returns-3 : tie.Need-returns-3
-returns-3 c = ?
+returns-3 c =
+    let k = c .before .before .before in
+    let s = k .before .before in
+    let e = c .before .before .plan-end .ensures ∙ ap plan-end (k .counts .ensures) in
+    c .rows-well-formed .ensures
+    ∙ ap (rows-well-formed (s .before .args .plan .now)) (k .counts .ensures)
+    ∙ well-rows (s .before .args .plan .now) (held (s .counts-keep .ensures) (k .before .if1 .left)) (omega arith)
 
 pub well-formed-spec : {M : Type 1} → statement M
 well-formed-spec =
     tie.close
     (tie.spec
-    counts-keep-requires
+    (λ c κs. search needs)
     returns
-    counts-requires
+    (λ c κs. search needs)
     plan-end-requires
     returns-2
-    rows-well-formed-requires
+    (λ c κs. search needs)
     returns-3)
