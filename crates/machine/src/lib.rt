@@ -10,6 +10,7 @@ use ends::refuse;
 use examiner::examine;
 use meaning::Called;
 use meaning::State;
+use meaning::answers::NOT_A_PLAN;
 use plan_rows::counts;
 use running::run_examined;
 use starting::start_examined;
@@ -26,7 +27,7 @@ pub fn start(plan: &[i32], state: State, trace: &mut [i32]) -> Called
 {
     let verdict = examine(plan);
     if verdict.number != 0 {
-        return refuse(5, state, trace);
+        return refuse(NOT_A_PLAN, state, trace);
     }
     start_examined(plan, counts(plan), state, trace)
 }
@@ -37,7 +38,7 @@ pub fn run(plan: &[i32], state: State, trace: &mut [i32]) -> Called
 {
     let verdict = examine(plan);
     if verdict.number != 0 {
-        return refuse(5, state, trace);
+        return refuse(NOT_A_PLAN, state, trace);
     }
     run_examined(plan, counts(plan), state, trace)
 }
@@ -48,7 +49,7 @@ pub fn post(plan: &[i32], state: State, event: i32, arg: i32) -> Called
 {
     let verdict = examine(plan);
     if verdict.number != 0 {
-        return refused(5, 0, state);
+        return refused(NOT_A_PLAN, 0, state);
     }
     post_examined(plan, counts(plan), state, event, arg)
 }
@@ -59,7 +60,7 @@ pub fn discard(plan: &[i32], state: State) -> Called
 {
     let verdict = examine(plan);
     if verdict.number != 0 {
-        return refused(5, 0, state);
+        return refused(NOT_A_PLAN, 0, state);
     }
     discard_examined(plan, counts(plan), state)
 }

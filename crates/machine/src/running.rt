@@ -3,6 +3,9 @@ use super::ends::finish;
 use super::ends::refuse;
 use meaning::Called;
 use meaning::State;
+use meaning::answers::FOREIGN;
+use meaning::answers::NOT_STARTED;
+use meaning::answers::QUEUE_EMPTY;
 use meaning::plan::Counts;
 use numbers::reference;
 use plan_own::own;
@@ -66,15 +69,15 @@ pub fn run_examined(plan: &[i32], k: Counts, state: State, trace: &mut [i32]) ->
     ensures { λ r. ⌜ (r ≡ called (plan-run (plan-by (now (plan .entry))) state (length (now (trace .entry))))) × (now (trace .exit) ≡ lent (length (now (trace .entry))) (plan-run (plan-by (now (plan .entry))) state (length (now (trace .entry))))) ⌝ }
 {
     if !state.started {
-        return refuse(7, state, trace);
+        return refuse(NOT_STARTED, state, trace);
     }
     if !own(plan, k, state) {
-        return refuse(6, state, trace);
+        return refuse(FOREIGN, state, trace);
     }
     let queue = state.queue;
     let removed = queue.remove();
     if !removed.done {
-        return refuse(8, state, trace);
+        return refuse(QUEUE_EMPTY, state, trace);
     }
     let front = removed.front;
     let event = reference(front.event);

@@ -4,6 +4,11 @@ use calls::answers::refused;
 use calls::answers::with_queue;
 use meaning::Called;
 use meaning::State;
+use meaning::answers::FOREIGN;
+use meaning::answers::NO_SUCH_EVENT;
+use meaning::answers::NOT_STARTED;
+use meaning::answers::QUEUE_EMPTY;
+use meaning::answers::QUEUE_FULL;
 use meaning::plan::Counts;
 use plan_own::own;
 use widget::fits::event_fits;
@@ -19,18 +24,18 @@ pub fn post_examined(plan: &[i32], k: Counts, state: State, event: i32, arg: i32
     ensures { λ r. ⌜ r ≡ called (plan-post (plan-by (now (plan .entry))) state event arg) ⌝ }
 {
     if !state.started {
-        return refused(7, 0, state);
+        return refused(NOT_STARTED, 0, state);
     }
     if !own(plan, k, state) {
-        return refused(6, 0, state);
+        return refused(FOREIGN, 0, state);
     }
     if !event_fits(k.events, event, arg) {
-        return refused(10, 0, state);
+        return refused(NO_SUCH_EVENT, 0, state);
     }
     let queue = state.queue;
     let queued = queue.append(event, arg);
     if !queued.done {
-        return refused(9, 0, state);
+        return refused(QUEUE_FULL, 0, state);
     }
     let after = queued.queue;
     done(with_queue(state, after))
@@ -42,15 +47,15 @@ pub fn discard_examined(plan: &[i32], k: Counts, state: State) -> Called
     ensures { λ r. ⌜ r ≡ called (plan-discard (plan-by (now (plan .entry))) state) ⌝ }
 {
     if !state.started {
-        return refused(7, 0, state);
+        return refused(NOT_STARTED, 0, state);
     }
     if !own(plan, k, state) {
-        return refused(6, 0, state);
+        return refused(FOREIGN, 0, state);
     }
     let queue = state.queue;
     let removed = queue.remove();
     if !removed.done {
-        return refused(8, 0, state);
+        return refused(QUEUE_EMPTY, 0, state);
     }
     let after = removed.queue;
     done(with_queue(state, after))

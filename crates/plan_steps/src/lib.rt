@@ -1,5 +1,6 @@
 // Steps of the plan machine (01, "One reaction" and "The plan"): a head fires, all chosen heads fire, one step, null steps.
 // What is lent is what the chart's runner works on, and the picks: the heads that the current step fires.
+use meaning::answers::UNSETTLED;
 use meaning::plan::Counts;
 use plan_choice::choose;
 use plan_code::run_block;
@@ -160,7 +161,7 @@ pub fn settle(
         }
         if turns == NULL_STEPS {
             break Went {
-                number: 12,
+                number: UNSETTLED,
                 at: next,
             };
         }
