@@ -22,7 +22,6 @@ use pieces::put_visit;
 use walks::end_below;
 use walks::scope;
 ghost use mathlib.Core.Path.{_≡_};
-ghost use mathlib.Core.List.{_++_};
 ghost use Prim.Native.Nat.{_<_};
 ghost use lib.ListN.{length};
 ghost use Rattle.meaning.specs.Compile.{exits-code, block, start-block};

@@ -205,9 +205,6 @@ building-begin c n e = record {
 }
 
 module _ (c : Chart) (m : ℕ) (index : List ℕ) (h : Building c (suc m) index) (few : length (c .actions) ≤ ACTIONS) (w : Owner) (fw : Fits w) (ew : w ≡ getD (c .actions) m no-action .owner) where
-  after : List ℕ
-  after = set (set index (OWNERS + m) (getD index (key w) 0)) (key w) m
-
   at-row : drop m (c .actions) ≡ getD (c .actions) m no-action ∷ drop (suc m) (c .actions)
   at-row = drop-cons (c .actions) m no-action (omega (arith, h .within))
 
