@@ -1,5 +1,5 @@
 -- The rules come first: what the verdict says of a chart value, and of a call on it. Assumes nothing.
-use mathlib.Core.Path.{_≡_, refl, sym, ap, _∙_, subst}
+use mathlib.Core.Path.{_≡_, refl, subst}
 use Prim.Native.Nat.{ℕ}
 use mathlib.Core.List.{List}
 use mathlib.Core.Option.{Option, none, some}
@@ -8,7 +8,7 @@ use Rattle.meaning.specs.declared.State.{State}
 use Rattle.meaning.specs.declared.Answer.{Answer}
 use Rattle.meaning.specs.Value.{chart-of}
 use Rattle.meaning.specs.Rules.{failing-rule-of, verdict}
-use Rattle.meaning.specs.Calls.{Outcome, refused, start, run, start-of, run-of}
+use Rattle.meaning.specs.Calls.{refused, start, run, start-of, run-of}
 use Rattle.rules.proofs.Verdicts.{failed}
 use Rattle.walks.specs.Walks.{Ruled}
 
