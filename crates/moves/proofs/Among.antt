@@ -2,10 +2,9 @@
 use mathlib.Core.Path.{_≡_, refl, sym, ap, subst, _∙_}
 use Prim.Native.Nat.{ℕ, zero, suc, _+_, _-_, _≤_, _<_}
 use mathlib.Core.Bool.{Bool, true, false, cond}
-use mathlib.Core.List.{List, [], _∷_, _++_, append-nil}
+use mathlib.Core.List.{List, [], _∷_, append-nil}
 use native.Mathlib.Omega.{arith}
 use lib.ListN.{length, getD}
-use lib.Dec.{eqb}
 use lib.IntN.{ℤ, pos, negsuc}
 use borrow.Author.Tests.{eq-eqb, ne-eqb}
 use Rattle.sizes.specs.Sizes.{STATES}
@@ -49,7 +48,8 @@ from-none g p d = let n : d - d ≡ 0 = omega arith in rw n
 record Goes (c : Chart) (way : Way) (s first end : ℕ) : Type 0 where
   pub within : end ≤ length (c .states)
   pub goes : (deep : ℕ → List Visit)
-      → goes-on c deep s (kind-of c s) way ≡ concat-map (λ d. visit-as (defaulting (kind-of c s) way) s d ∷ deep d) (keep (is-child c s) (from first (end - first)))
+      → goes-on c deep s (kind-of c s) way ≡ concat-map
+      (λ d. visit-as (defaulting (kind-of c s) way) s d ∷ deep d) (keep (is-child c s) (from first (end - first)))
 
 -- that level is what is entered first
 kids-of : (c : Chart) (next : Way) (s first end : ℕ) → s < length (c .states) → Goes c next s first end → Kids c next s first end
@@ -64,15 +64,18 @@ module _ (c : Chart) (s : ℕ) (way : Way) where
   kids-one d k w t l = record {
     within = omega arith;
     goes = λ deep. ap (λ x. goes-on c deep s x way) k ∙ ap (goes-on c deep s kind-o) w
-        ∙ sym (from-one (λ x. visit-as (defaulting (kind-of c s) way) s x ∷ deep x) (is-child c s) d t ∙ ap (λ x. visit-as (defaulting x way) s d ∷ deep d) k ∙ ap (λ x. visit-as (defaulting kind-o x) s d ∷ deep d) w);
+        ∙ sym (from-one (λ x. visit-as (defaulting (kind-of c s) way) s x ∷ deep x) (is-child c s) d t
+        ∙ ap (λ x. visit-as (defaulting x way) s d ∷ deep d) k ∙ ap (λ x. visit-as (defaulting kind-o x) s d ∷ deep d) w);
   }
 
-  kids-default : kind-of c s ≡ kind-o → way ≡ defaults → is-child c s (default-child c s) ≡ true → default-child c s < length (c .states) → Goes c way s (default-child c s) (default-child c s + 1)
+  kids-default : kind-of c s ≡ kind-o → way ≡ defaults → is-child c s (default-child c s) ≡ true
+      → default-child c s < length (c .states) → Goes c way s (default-child c s) (default-child c s + 1)
   unfolding goes-on defaulting
   kids-default k w t l = record {
     within = omega arith;
     goes = λ deep. ap (λ x. goes-on c deep s x way) k ∙ ap (goes-on c deep s kind-o) w
-        ∙ sym (from-one (λ x. visit-as (defaulting (kind-of c s) way) s x ∷ deep x) (is-child c s) (default-child c s) t ∙ ap (λ x. visit-as (defaulting x way) s (default-child c s) ∷ deep (default-child c s)) k
+        ∙ sym (from-one (λ x. visit-as (defaulting (kind-of c s) way) s x ∷ deep x) (is-child c s) (default-child c s) t
+        ∙ ap (λ x. visit-as (defaulting x way) s (default-child c s) ∷ deep (default-child c s)) k
         ∙ ap (λ x. visit-as (defaulting kind-o x) s (default-child c s) ∷ deep (default-child c s)) w);
   }
 
@@ -80,14 +83,16 @@ module _ (c : Chart) (s : ℕ) (way : Way) where
   unfolding goes-on
   kids-stop k w l = record {
     within = omega arith;
-    goes = λ deep. ap (λ x. goes-on c deep s x way) k ∙ ap (goes-on c deep s kind-o) w ∙ sym (from-none (λ x. visit-as (defaulting (kind-of c s) way) s x ∷ deep x) (is-child c s) s);
+    goes = λ deep. ap (λ x. goes-on c deep s x way) k ∙ ap (goes-on c deep s kind-o) w
+        ∙ sym (from-none (λ x. visit-as (defaulting (kind-of c s) way) s x ∷ deep x) (is-child c s) s);
   }
 
   kids-none : kind-of c s ≡ kind-b → s < length (c .states) → Goes c way s s s
   unfolding goes-on
   kids-none k l = record {
     within = omega arith;
-    goes = λ deep. ap (λ x. goes-on c deep s x way) k ∙ sym (from-none (λ x. visit-as (defaulting (kind-of c s) way) s x ∷ deep x) (is-child c s) s);
+    goes = λ deep. ap (λ x. goes-on c deep s x way) k
+        ∙ sym (from-none (λ x. visit-as (defaulting (kind-of c s) way) s x ∷ deep x) (is-child c s) s);
   }
 
   children-after : Sound-chart c → s < length (c .states) → children c s ≡ keep (is-child c s) (from (s + 1) (length (c .states) - (s + 1)))
@@ -95,38 +100,46 @@ module _ (c : Chart) (s : ℕ) (way : Way) where
   children-after h l =
       let n : length (c .states) ≡ (s + 1) + (length (c .states) - (s + 1)) = omega arith in
       ap (λ k. keep (is-child c s) (from 0 k)) n
-      ∙ keep-cut (is-child c s) (s + 1) (length (c .states) - (s + 1)) (λ x m. is-false _ (λ t. omega (arith, child-later c (h .ordered) s x t)))
+      ∙ keep-cut (is-child c s) (s + 1) (length (c .states) - (s + 1)) (λ x m. is-false _
+      (λ t. omega (arith, child-later c (h .ordered) s x t)))
 
   kids-all : Sound-chart c → kind-of c s ≡ kind-a → s < length (c .states) → Goes c way s (s + 1) (length (c .states))
   unfolding goes-on defaulting
   kids-all h k l = record {
     within = omega arith;
     goes = λ deep. ap (λ x. goes-on c deep s x way) k ∙ ap (concat-map (λ d. plain d ∷ deep d)) (children-after h l)
-        ∙ ap (λ x. concat-map (λ d. visit-as (defaulting x way) s d ∷ deep d) (keep (is-child c s) (from (s + 1) (length (c .states) - (s + 1))))) (sym k);
+        ∙ ap (λ x. concat-map
+        (λ d. visit-as (defaulting x way) s d ∷ deep d) (keep (is-child c s) (from (s + 1) (length (c .states) - (s + 1))))) (sym k);
   }
 
 -- ---- as `goes_on` has them
 
-module _ (v : List ℤ) (r : Ruled v) (s : ℕ) (l : s < length (chart-of v .states)) (next : Next) (f : On-child (chart-of v) s (way-by next)) (kind : Kind) (e : kind ≡ kind-of (chart-of v) s) where
+module _ (v : List ℤ) (r : Ruled v) (s : ℕ) (l : s < length (chart-of v .states)) (next : Next) (f : On-child (chart-of v) s
+    (way-by next)) (kind : Kind) (e : kind ≡ kind-of (chart-of v) s) where
   pub on-inside : (d : ℕ) → kind ≡ kind-o → next ≡ OnTo d → d < length (chart-of v .states)
   on-inside d k n = f d (sym e ∙ k) (ap way-by n) .1
 
   pub among-one : (d : ℕ) → kind ≡ kind-o → next ≡ OnTo d → Kids (chart-of v) (way-by next) s d (d + 1)
-  among-one d k n = let g = f d (sym e ∙ k) (ap way-by n) in kids-of _ _ _ _ _ l (kids-one (chart-of v) s (way-by next) d (sym e ∙ k) (ap way-by n) (g .0) (g .1))
+  among-one d k n = let g = f d (sym e ∙ k) (ap way-by n) in kids-of _ _ _ _ _ l (kids-one (chart-of v) s (way-by next) d (sym e
+      ∙ k) (ap way-by n) (g .0) (g .1))
 
   pub default-inside : (d : ℕ) → kind ≡ kind-o → d ≡ default-child (chart-of v) s → d < length (chart-of v .states)
   default-inside d k q = omega (arith, sound v r .default s (sym e ∙ k) .1)
 
-  pub among-default : (d : ℕ) → kind ≡ kind-o → next ≡ Defaults → d ≡ default-child (chart-of v) s → Kids (chart-of v) (way-by next) s d (d + 1)
+  pub among-default : (d : ℕ) → kind ≡ kind-o → next ≡ Defaults → d ≡ default-child (chart-of v) s
+      → Kids (chart-of v) (way-by next) s d (d + 1)
   among-default d k n q =
       let g = sound v r .default s (sym e ∙ k) in
-      kids-of _ _ _ _ _ l (subst (λ x. Goes (chart-of v) (way-by next) s x (x + 1)) (sym q) (kids-default (chart-of v) s (way-by next) (sym e ∙ k) (ap way-by n) (g .0) (g .1)))
+      kids-of _ _ _ _ _ l (subst
+      (λ x. Goes (chart-of v) (way-by next) s x (x + 1)) (sym q) (kids-default (chart-of v) s (way-by next) (sym e
+      ∙ k) (ap way-by n) (g .0) (g .1)))
 
   pub among-stop : kind ≡ kind-o → next ≡ Stops → Kids (chart-of v) (way-by next) s s s
   among-stop k n = kids-of _ _ _ _ _ l (kids-stop (chart-of v) s (way-by next) (sym e ∙ k) (ap way-by n) l)
 
   pub among-all : kind ≡ kind-a → (n : ℕ) → n ≡ length (chart-of v .states) → Kids (chart-of v) (way-by next) s (s + 1) n
-  among-all k n q = kids-of _ _ _ _ _ l (subst (Goes (chart-of v) (way-by next) s (s + 1)) (sym q) (kids-all (chart-of v) s (way-by next) (sound v r) (sym e ∙ k) l))
+  among-all k n q = kids-of _ _ _ _ _ l (subst (Goes (chart-of v) (way-by next) s (s + 1)) (sym q) (kids-all (chart-of v) s
+      (way-by next) (sound v r) (sym e ∙ k) l))
 
   pub among-none : kind ≡ kind-b → Kids (chart-of v) (way-by next) s s s
   among-none k = kids-of _ _ _ _ _ l (kids-none (chart-of v) s (way-by next) (sym e ∙ k) l)
@@ -134,7 +147,8 @@ module _ (v : List ℤ) (r : Ruled v) (s : ℕ) (l : s < length (chart-of v .sta
 -- ---- by default or not
 
 module _ (c : Chart) (s : ℕ) (next : Next) (kind : Kind) (e : kind ≡ kind-of c s) where
-  pub by-default-is : (k : Kind) (n : Next) → kind ≡ k → next ≡ n → (b : Bool) → b ≡ defaulting k (way-by n) → b ≡ defaulting (kind-of c s) (way-by next)
+  pub by-default-is : (k : Kind) (n : Next) → kind ≡ k → next ≡ n → (b : Bool) → b ≡ defaulting k (way-by n)
+      → b ≡ defaulting (kind-of c s) (way-by next)
   by-default-is k n p q b f = f ∙ sym (ap (λ x. defaulting x (way-by next)) (sym e ∙ p) ∙ ap (λ x. defaulting k (way-by x)) q)
 
 -- ---- the ways
@@ -145,7 +159,8 @@ getD-any (x ∷ xs) zero d e h = refl
 getD-any (x ∷ xs) (suc i) d e h = getD-any xs i d e (omega arith)
 
 -- what the code reads of a slot is what the definition reads
-pub slot-read : (slots : List ℤ) (s : ℕ) → s < STATES → length slots ≡ STATES → (z : ℤ) → z ≡ getD slots s (pos 0) → (p : Place) → p ≡ placeOf z → p ≡ placeOf (getD slots s (negsuc 0))
+pub slot-read : (slots : List ℤ) (s : ℕ) → s < STATES → length slots ≡ STATES → (z : ℤ) → z ≡ getD slots s (pos 0) → (p : Place)
+    → p ≡ placeOf z → p ≡ placeOf (getD slots s (negsuc 0))
 slot-read slots s l n z e p q = q ∙ ap placeOf (e ∙ getD-any slots s (pos 0) (negsuc 0) (omega arith))
 
 pub stored-on : (slots : List ℤ) (s d : ℕ) (p : Place) → p ≡ placeOf (getD slots s (negsuc 0)) → p ≡ holds d → on-to d ≡ stored-way slots s
@@ -158,7 +173,8 @@ stored-stop slots s p e q = rw (← e, q)
 
 way-of-path : (c : Chart) (t s : ℕ) (p : Place) → path-child c s t ≡ p → towards c t s ≡ elim p [ empty ↦ defaults | holds d ↦ on-to d ]
 unfolding path-child towards
-way-of-path c t s p e = go (has s (ancestors c t)) (first-that (is-child c s) (t ∷ ancestors c t)) ∙ ap (λ x. elim x [ empty ↦ defaults | holds d ↦ on-to d ]) e
+way-of-path c t s p e = go (has s (ancestors c t)) (first-that (is-child c s) (t ∷ ancestors c t))
+    ∙ ap (λ x. elim x [ empty ↦ defaults | holds d ↦ on-to d ]) e
   where
     go : (b : Bool) (x : ℕ) → cond b (on-to x) defaults ≡ elim (cond b (holds x) empty) [ empty ↦ defaults | holds d ↦ on-to d ]
     go true x = refl
@@ -196,11 +212,13 @@ unfolding slot-way
 held-on empty d e = let z : _≡_ {A = ℕ} 0 1 = cc in absurd (omega arith)
 held-on (holds x) d e = let z : x ≡ d = cc in ap holds z
 
-pub stored-child : (c : Chart) (slots : List ℤ) (s : ℕ) (next : Next) → way-by next ≡ stored-way slots s → Led c slots → On-child c s (way-by next)
+pub stored-child : (c : Chart) (slots : List ℤ) (s : ℕ) (next : Next) → way-by next ≡ stored-way slots s → Led c slots
+    → On-child c s (way-by next)
 unfolding stored-way
 stored-child c slots s next e h d k q = h .holding s d (held-on (slot-of slots s) d (sym e ∙ q))
 
-pub stored-kids : (c : Chart) (slots : List ℤ) (s first end : ℕ) (next : Next) → way-by next ≡ stored-way slots s → Kids c (way-by next) s first end → Kids c (stored-way slots s) s first end
+pub stored-kids : (c : Chart) (slots : List ℤ) (s first end : ℕ) (next : Next) → way-by next ≡ stored-way slots s
+    → Kids c (way-by next) s first end → Kids c (stored-way slots s) s first end
 stored-kids c slots s first end next e k = subst (λ w. Kids c w s first end) e k
 
 not-defaults : (p : Place) → slot-way p ≡ defaults → ⊥
@@ -228,7 +246,8 @@ stored-plain slots s k = never k (slot-of slots s)
     never kind-a p = refl
     never kind-b p = refl
 
-pub goal-child : (v : List ℤ) → Ruled v → (goal : Goal) → Inside (chart-of v) goal → (s : ℕ) (next : Next) → way-by next ≡ goal-way (chart-of v) goal s → On-child (chart-of v) s (way-by next)
+pub goal-child : (v : List ℤ) → Ruled v → (goal : Goal) → Inside (chart-of v) goal → (s : ℕ) (next : Next)
+    → way-by next ≡ goal-way (chart-of v) goal s → On-child (chart-of v) s (way-by next)
 goal-child v r (Target t) l s next e d k q = towards-sound (chart-of v) (sound v r) t l .on s d k (sym e ∙ q)
 goal-child v r (Owner b) l s next e d k q = owner-sound (chart-of v) (sound v r) b l .on s d k (sym e ∙ q)
 
@@ -236,5 +255,6 @@ pub goal-sound : (v : List ℤ) → Ruled v → (goal : Goal) → Inside (chart-
 goal-sound v r (Target t) l = towards-sound (chart-of v) (sound v r) t l
 goal-sound v r (Owner b) l = owner-sound (chart-of v) (sound v r) b l
 
-pub goal-kids : (c : Chart) (goal : Goal) (s first end : ℕ) (next : Next) → way-by next ≡ goal-way c goal s → Kids c (way-by next) s first end → Kids c (goal-way c goal s) s first end
+pub goal-kids : (c : Chart) (goal : Goal) (s first end : ℕ) (next : Next) → way-by next ≡ goal-way c goal s
+    → Kids c (way-by next) s first end → Kids c (goal-way c goal s) s first end
 goal-kids c goal s first end next e k = subst (λ w. Kids c w s first end) e k

@@ -1,23 +1,22 @@
 -- The restore at the owner of a history, and entering a state on the way to a goal: the laws that `restore` and `arrive` cite.
 -- Assumes nothing.
 use mathlib.Core.Path.{_≡_, refl, sym, ap, subst, fun-ext, _∙_}
-use Prim.Native.Nat.{ℕ, _≤_, _<_}
+use Prim.Native.Nat.{ℕ}
 use mathlib.Core.Bool.{Bool, true, false}
 use mathlib.Core.List.{List}
 use lib.Dec.{eqb}
-use lib.ListN.{length}
 use lib.IntN.{ℤ}
 use borrow.Author.Tests.{eq-eqb, ne-eqb}
 use Rattle.numbers.specs.declared.Place.{Place}
 use Rattle.numbers.specs.declared.Place.the-variants.{Empty as empty, At as holds}
 use Rattle.meaning.specs.declared.State.{State}
 use Rattle.meaning.specs.Chart.{Chart}
-use Rattle.meaning.specs.Entry.{Visit, state-of, below, all-below, by-defaults, by-slots, slot-way, visit, revisit, restore, restore-by, visit-towards}
-use Rattle.meaning.specs.Steps.{ok, Step, _then_, when, each}
+use Rattle.meaning.specs.Entry.{Visit, state-of, all-below, by-defaults, by-slots, visit, revisit, restore, restore-by, visit-towards}
+use Rattle.meaning.specs.Steps.{Step, _then_, when, each}
 use Rattle.meaning.specs.Tree.{kind-of}
 use Rattle.meaning.specs.Widget.{Ctx, slot}
 use Rattle.widget.specs.declared.Went.{Went}
-use Rattle.widget.specs.View.{Lent, all-lent, ctx, tracing, widget, Within, Did}
+use Rattle.widget.specs.View.{Lent, all-lent, ctx, tracing, widget, Did}
 use Rattle.widget.proofs.Going.{then-on, then-stop, then-none}
 use Rattle.widget.proofs.Loops.{look-at, when-on}
 use Rattle.moves.specs.Moves.{way-by, slot-of, stored-way, goal-way, goal-visit, defaulting, visit-as}
@@ -36,17 +35,21 @@ module _ (c : Chart) (arg : ℤ) (b : ℕ) {p : Place} {a : List Bool} {sl v q t
     (h : p ≡ slot-of sl b) {r : Went} {a₁ : List Bool} {v₁ q₁ t₁ : List ℤ} where
   -- what a restore does is said by the slot
   restored : {D : Step Ctx} {o : Place} → p ≡ o → D ≡ restore-by c arg b (widget (all-lent a sl v q t)) o
-      → Did D (all-lent a sl v q t) at r (all-lent a₁ sl v₁ q₁ t₁) → Did (restore c arg b) (all-lent a sl v q t) at r (all-lent a₁ sl v₁ q₁ t₁)
+      → Did D (all-lent a sl v q t) at r (all-lent a₁ sl v₁ q₁ t₁)
+      → Did (restore c arg b) (all-lent a sl v q t) at r (all-lent a₁ sl v₁ q₁ t₁)
   unfolding restore slot ctx tracing
   restored e f g = look-at _
-      (subst (λ D. Did D (all-lent a sl v q t) at r (all-lent a₁ sl v₁ q₁ t₁)) (f ∙ ap (restore-by c arg b (widget (all-lent a sl v q t))) (sym e ∙ h)) g)
+      (subst (λ D. Did D (all-lent a sl v q t) at r (all-lent a₁ sl v₁ q₁ t₁)) (f
+      ∙ ap (restore-by c arg b (widget (all-lent a sl v q t))) (sym e ∙ h)) g)
 
-  pub restored-stored : {d : ℕ} → p ≡ holds d → Did (each (revisit c arg) (all-below c (stored-way sl) b)) (all-lent a sl v q t) at r (all-lent a₁ sl v₁ q₁ t₁)
+  pub restored-stored : {d : ℕ} → p ≡ holds d
+      → Did (each (revisit c arg) (all-below c (stored-way sl) b)) (all-lent a sl v q t) at r (all-lent a₁ sl v₁ q₁ t₁)
       → Did (restore c arg b) (all-lent a sl v q t) at r (all-lent a₁ sl v₁ q₁ t₁)
   unfolding restore-by
   restored-stored e g = restored e (ap (λ w. each (revisit c arg) (all-below c w b)) (sym (by-slots-is (widget (all-lent a sl v q t))))) g
 
-  pub restored-default : p ≡ empty → Did (each (visit c arg) (all-below c by-defaults b)) (all-lent a sl v q t) at r (all-lent a₁ sl v₁ q₁ t₁)
+  pub restored-default : p ≡ empty
+      → Did (each (visit c arg) (all-below c by-defaults b)) (all-lent a sl v q t) at r (all-lent a₁ sl v₁ q₁ t₁)
       → Did (restore c arg b) (all-lent a sl v q t) at r (all-lent a₁ sl v₁ q₁ t₁)
   unfolding restore-by
   restored-default e g = restored e refl g
@@ -70,7 +73,8 @@ module _ (c : Chart) (arg : ℤ) (goal : Goal) (p s : ℕ) (next : Next) (e : wa
       subst (λ x. Did (visit c arg (visit-as (defaulting (kind-of c p) x) p s)) (all-lent a sl v q t) at r (all-lent a₁ sl v₁ q₁ t₁)) e
       (w .1 (all-lent a sl v q t))
 
-  as-goal : (g : Goal) → goal ≡ g → {y : Went} {k : Lent} → Did (goal-visit c arg g here) (all-lent a sl v q t) at y k → Did (goal-visit c arg goal here) (all-lent a sl v q t) at y k
+  as-goal : (g : Goal) → goal ≡ g → {y : Went} {k : Lent} → Did (goal-visit c arg g here) (all-lent a sl v q t) at y k
+      → Did (goal-visit c arg goal here) (all-lent a sl v q t) at y k
   as-goal g o {y} {k} d = subst (λ x. Did (goal-visit c arg x here) (all-lent a sl v q t) at y k) (sym o) d
 
   pub arrived-stop : (r .number ≡ 0 → ⊥) → Did (goal-visit c arg goal here) (all-lent a sl v q t) at r (all-lent a₁ sl v₁ q₁ t₁)

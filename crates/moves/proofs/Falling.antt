@@ -1,8 +1,8 @@
 -- The laws by which `leave_below` meets its promise: the descendants of a state are left from the last number down. Assumes nothing.
 use mathlib.Core.Path.{_≡_, refl, sym, ap, subst, _∙_}
-use Prim.Native.Nat.{ℕ, zero, suc, _+_, _-_, _≤_, _<_}
-use mathlib.Core.Bool.{Bool, true, false}
-use mathlib.Core.List.{List, [], _∷_, _++_, reverse, reverse-append}
+use Prim.Native.Nat.{ℕ, suc, _+_, _-_, _≤_, _<_}
+use mathlib.Core.Bool.{true, false}
+use mathlib.Core.List.{List, _∷_, reverse, reverse-append}
 use native.Mathlib.Omega.{arith}
 use lib.ListN.{length, getD}
 use lib.IntN.{ℤ}
@@ -18,8 +18,8 @@ use Rattle.meaning.specs.Value.{chart-of}
 use Rattle.meaning.specs.Widget.{Ctx, is-active}
 use Rattle.widget.specs.declared.Went.{Went}
 use Rattle.widget.specs.View.{Lent, ctx, tracing, Did, Owes}
-use Rattle.widget.proofs.Going.{owes-all, owes-as, owes-last}
-use Rattle.widget.proofs.Loops.{each-none, each-next, each-ends, look-at, when-on, when-off}
+use Rattle.widget.proofs.Going.{owes-all, owes-as}
+use Rattle.widget.proofs.Loops.{each-none, each-next, each-ends, look-at, when-on}
 use Rattle.walks.specs.Walks.{Ruled}
 use Rattle.walks.proofs.On.{end-within}
 use Rattle.walks.proofs.Passing.{sound}
@@ -53,7 +53,8 @@ module _ (c : Chart) (arg : ℤ) (x : ℕ) where
   unfolding leave-active look when is-active ctx tracing
   leaves-none k at e = rw e
 
-  pub leaves-one : {k : Lent} {at : ℕ} {r : Went} {k₁ : Lent} → getD (k .active) x false ≡ true → Did (leave c arg x) k at r k₁ → Did (leave-active c arg x) k at r k₁
+  pub leaves-one : {k : Lent} {at : ℕ} {r : Went} {k₁ : Lent} → getD (k .active) x false ≡ true → Did (leave c arg x) k at r k₁
+      → Did (leave-active c arg x) k at r k₁
   unfolding leave-active is-active ctx tracing
   leaves-one e d = look-at _ (when-on e d)
 
@@ -64,10 +65,12 @@ pub record Leaving (v : List ℤ) (arg : ℤ) (s : ℕ) (k : Lent) (at : ℕ) (d
   pub top : d ≤ length (chart-of v .states)
   pub fits : at₁ ≤ length (k₁ .trace)
   pub kept : length (k₁ .trace) ≡ length (k .trace)
-  pub owes : Owes (leave-all (chart-of v) arg (descendants (chart-of v) s)) k at (each (leave-active (chart-of v) arg) (reverse (from (suc s) (d - suc s)))) k₁ at₁
+  pub owes : Owes (leave-all (chart-of v) arg (descendants (chart-of v) s)) k at (each (leave-active (chart-of v) arg) (reverse (from
+      (suc s) (d - suc s)))) k₁ at₁
 
 module _ {v : List ℤ} {arg : ℤ} {s : ℕ} {k : Lent} {at : ℕ} where
-  pub leaving-begin : Ruled v → s < length (chart-of v .states) → at ≤ length (k .trace) → {d : ℕ} → d ≡ suc s + length (descendants (chart-of v) s)
+  pub leaving-begin : Ruled v → s < length (chart-of v .states) → at ≤ length (k .trace) → {d : ℕ}
+      → d ≡ suc s + length (descendants (chart-of v) s)
       → Leaving v arg s k at d k at
   unfolding leave-all
   leaving-begin r h f {d} e =
@@ -77,7 +80,9 @@ module _ {v : List ℤ} {arg : ℤ} {s : ℕ} {k : Lent} {at : ℕ} where
         top = omega (arith, end-within (chart-of v) (sound v r .ordered) s h);
         fits = f;
         kept = refl;
-        owes = owes-as _ (owes-all f) (ap (λ l. each (leave-active (chart-of v) arg) (reverse l) (ctx k at)) (sym (descendants-range (chart-of v) (sound v r) s h ∙ ap (from (suc s)) n)));
+        owes = owes-as _ (owes-all f) (ap
+            (λ l. each (leave-active (chart-of v) arg) (reverse l) (ctx k at)) (sym (descendants-range (chart-of v) (sound v r) s h
+            ∙ ap (from (suc s)) n)));
       }
 
   module _ {d : ℕ} {k₁ : Lent} {at₁ : ℕ} (h : Leaving v arg s k at d k₁ at₁) where
@@ -85,11 +90,15 @@ module _ {v : List ℤ} {arg : ℤ} {s : ℕ} {k : Lent} {at : ℕ} where
     unfolding from
     leaving-end l =
         let n : d - suc s ≡ 0 = omega arith in
-        each-none (leave-active (chart-of v) arg) (subst (λ n. Owes (leave-all (chart-of v) arg (descendants (chart-of v) s)) k at (each (leave-active (chart-of v) arg) (reverse (from (suc s) n))) k₁ at₁) n (h .owes))
+        each-none (leave-active (chart-of v) arg) (subst
+        (λ n. Owes (leave-all (chart-of v) arg (descendants (chart-of v) s)) k at (each (leave-active (chart-of v) arg) (reverse
+        (from (suc s) n))) k₁ at₁) n (h .owes))
 
     module _ (l : suc s < d) where
-      due : Owes (leave-all (chart-of v) arg (descendants (chart-of v) s)) k at (each (leave-active (chart-of v) arg) ((d - 1) ∷ reverse (from (suc s) ((d - 1) - suc s)))) k₁ at₁
-      due = subst (λ n. Owes (leave-all (chart-of v) arg (descendants (chart-of v) s)) k at (each (leave-active (chart-of v) arg) n) k₁ at₁) (falls-by s d l) (h .owes)
+      due : Owes (leave-all (chart-of v) arg (descendants (chart-of v) s)) k at (each (leave-active (chart-of v) arg)
+          ((d - 1) ∷ reverse (from (suc s) ((d - 1) - suc s)))) k₁ at₁
+      due = subst (λ n. Owes (leave-all (chart-of v) arg (descendants (chart-of v) s)) k at (each (leave-active
+          (chart-of v) arg) n) k₁ at₁) (falls-by s d l) (h .owes)
 
       pub leaving-skip : getD (k₁ .active) (d - 1) false ≡ false → Leaving v arg s k at (d - 1) k₁ at₁
       leaving-skip e = record {
@@ -97,10 +106,12 @@ module _ {v : List ℤ} {arg : ℤ} {s : ℕ} {k : Lent} {at : ℕ} where
         top = omega (arith, h .top);
         fits = h .fits;
         kept = h .kept;
-        owes = each-pass (leave-active (chart-of v) arg) (d - 1) (reverse (from (suc s) ((d - 1) - suc s))) due (leaves-none (chart-of v) arg (d - 1) k₁ at₁ e);
+        owes = each-pass (leave-active (chart-of v) arg) (d - 1) (reverse (from (suc s) ((d - 1) - suc s))) due (leaves-none
+            (chart-of v) arg (d - 1) k₁ at₁ e);
       }
 
-      module _ {r : Went} {k₂ : Lent} (e : getD (k₁ .active) (d - 1) false ≡ true) (g : Did (leave (chart-of v) arg (d - 1)) k₁ at₁ r k₂) where
+      module _ {r : Went} {k₂ : Lent} (e : getD (k₁ .active) (d - 1) false ≡ true) (g : Did (leave (chart-of v) arg
+          (d - 1)) k₁ at₁ r k₂) where
         pub leaving-stop : (r .number ≡ 0 → ⊥) → Did (leave-all (chart-of v) arg (descendants (chart-of v) s)) k at r k₂
         leaving-stop z = each-ends (leave-active (chart-of v) arg) (d - 1) _ due (leaves-one (chart-of v) arg (d - 1) e g) z
 

@@ -79,4 +79,5 @@ pub record Led (c : Chart) (slots : List ℤ) : Type 0 where
 pub record Kids (c : Chart) (next : Way) (s first end : ℕ) : Type 0 where
   pub within : end ≤ length (c .states)
   pub goes : (way : ℕ → Way) → Sound c way → way s ≡ next
-      → all-below c way s ≡ concat-map (λ d. visit-as (defaulting (kind-of c s) next) s d ∷ all-below c way d) (keep (is-child c s) (from first (end - first)))
+      → all-below c way s ≡ concat-map
+      (λ d. visit-as (defaulting (kind-of c s) next) s d ∷ all-below c way d) (keep (is-child c s) (from first (end - first)))

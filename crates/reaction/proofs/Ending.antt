@@ -1,9 +1,10 @@
--- How a call ends, as laws over plain variables: a refusal zeroes the lent numbers; what was done stands in front of zeros. Assumes nothing.
-use mathlib.Core.Path.{_≡_, refl, sym, ap, _∙_, subst}
+-- How a call ends, as laws over plain variables: a refusal zeroes the lent numbers; what was done stands in front of zeros.
+-- Assumes nothing.
+use mathlib.Core.Path.{_≡_, refl, sym, subst}
 use Prim.Native.Nat.{ℕ, zero, suc, _-_, _/_, _≤_}
 use native.Mathlib.Omega.{arith}
-use mathlib.Core.Bool.{Bool, true}
-use mathlib.Core.List.{List, [], _++_}
+use mathlib.Core.Bool.{true}
+use mathlib.Core.List.{List, _++_}
 use lib.ListN.{length, take, replicate}
 use lib.Seq.{length-take-le}
 use lib.IntN.{ℤ, pos}
@@ -12,7 +13,6 @@ use Rattle.queue.specs.declared.Queue.{Queue}
 use Rattle.meaning.specs.declared.State.{State}
 use Rattle.meaning.specs.declared.Called.{Called}
 use Rattle.meaning.specs.Lists.{padded}
-use Rattle.meaning.specs.Steps.{Res, ok, refuse}
 use Rattle.meaning.specs.Widget.{Ctx, ENTRY}
 use Rattle.meaning.specs.Calls.{Outcome, refused, outcome, called, lent}
 use Rattle.widget.specs.View.{Lent, ctx, tracing, said, went}
@@ -25,7 +25,8 @@ Ends o t r t₁ = (r ≡ called o) × (t₁ ≡ lent (length t) o)
 pub ends-as : {o p : Outcome} (t : List ℤ) {r : Called} {t₁ : List ℤ} → p ≡ o → Ends o t r t₁ → Ends p t r t₁
 ends-as t {r} {t₁} e h = subst (λ x. Ends x t r t₁) (sym e) h
 
-pub cleared : (n p : ℕ) (u : State) (t t₁ : List ℤ) → t₁ ≡ take 0 t ++ replicate (length t - 0) (pos 0) → t₁ ≡ lent (length t) (refused n p u)
+pub cleared : (n p : ℕ) (u : State) (t t₁ : List ℤ) → t₁ ≡ take 0 t ++ replicate (length t - 0) (pos 0)
+    → t₁ ≡ lent (length t) (refused n p u)
 unfolding lent refused padded
 cleared n p u t t₁ e = e
 
@@ -34,7 +35,8 @@ unfolding outcome said
 outcome-no zero k u z = absurd (z refl)
 outcome-no (suc n) k u z = refl
 
-outcome-on : (n : ℕ) (k : Ctx) (u : State) → n ≡ 0 → outcome u (said n k) ≡ record { number = 0; place = 0; after = k .state; trace = k .out }
+outcome-on : (n : ℕ) (k : Ctx) (u : State) → n ≡ 0
+    → outcome u (said n k) ≡ record { number = 0; place = 0; after = k .state; trace = k .out }
 unfolding outcome said
 outcome-on zero k u z = refl
 outcome-on (suc n) k u z = absurd (omega arith)

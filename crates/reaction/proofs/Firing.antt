@@ -2,18 +2,15 @@
 use mathlib.Core.Path.{_≡_, refl, sym, ap, _∙_, subst}
 use Prim.Native.Nat.{ℕ, _+_, _≤_, _<_}
 use native.Mathlib.Omega.{arith}
-use mathlib.Core.Bool.{Bool}
 use mathlib.Core.List.{List}
 use lib.ListN.{length, getD, drop, take, length-map}
 use lib.Seq.{length-take-le, getD-take}
 use lib.IntN.{ℤ}
-use Rattle.sizes.specs.Sizes.{TRANSITIONS}
-use Rattle.meaning.specs.Steps.{Step, _then_, each}
+use Rattle.meaning.specs.Steps.{_then_, each}
 use Rattle.meaning.specs.Chart.{Chart}
 use Rattle.meaning.specs.Reaction.{fire}
 use Rattle.meaning.specs.Value.{chart-of}
-use Rattle.meaning.specs.Widget.{Ctx}
-use Rattle.laws.proofs.Lists.{Each, each-at}
+use Rattle.laws.proofs.Lists.{each-at}
 use Rattle.laws.proofs.Value.{getD-map}
 use Rattle.walks.proofs.Passing.{sound}
 use Rattle.widget.specs.View.{Lent, ctx, Did, Owes}
@@ -28,15 +25,22 @@ use Rattle.reaction.proofs.Going.{sized, ready-next}
 -- how many fire, and which is the j-th
 module _ (c : Chart) (r : Chosen) (f : Fires c r) where
   pub fires-long : length (picked r) ≡ r .count
-  fires-long = length-map (take (r .count) (r .picks)) (λ p. p .transition) ∙ length-take-le (r .count) (r .picks) (omega (arith, f .few, f .size))
+  fires-long = length-map (take (r .count) (r .picks)) (λ p. p .transition)
+      ∙ length-take-le (r .count) (r .picks) (omega (arith, f .few, f .size))
 
   pub fires-at : (j : ℕ) → j < r .count → getD (picked r) j 0 ≡ getD (r .picks) j no-pick .transition
   fires-at j l =
-      let q : j < length (take (r .count) (r .picks)) = omega (arith, length-take-le (r .count) (r .picks) (omega (arith, f .few, f .size))) in
-      getD-map (λ p. p .transition) (take (r .count) (r .picks)) j 0 no-pick q ∙ ap (λ p. p .transition) (getD-take (r .count) (r .picks) j no-pick l)
+      let q : j < length (take (r .count) (r .picks)) = omega (
+        arith,
+        length-take-le (r .count) (r .picks) (omega
+            (arith, f .few, f .size)),
+      ) in
+      getD-map (λ p. p .transition) (take (r .count) (r .picks)) j 0 no-pick q
+      ∙ ap (λ p. p .transition) (getD-take (r .count) (r .picks) j no-pick l)
 
   pub fires-named : (j : ℕ) → j < r .count → getD (r .picks) j no-pick .transition < length (c .transitions)
-  fires-named j l = subst (λ t. t < length (c .transitions)) (fires-at j l) (each-at (λ t. t < length (c .transitions)) (picked r) (f .named) j (omega (arith, fires-long)) 0)
+  fires-named j l = subst (λ t. t < length (c .transitions)) (fires-at j l) (each-at
+      (λ t. t < length (c .transitions)) (picked r) (f .named) j (omega (arith, fires-long)) 0)
 
 pub record Firing (v : List ℤ) (arg : ℤ) (ps : List ℕ) (k : Lent) (at : ℕ) (j : ℕ) (k₁ : Lent) (at₁ : ℕ) : Type 0 where
   pub ready : Ready v k₁ at₁
@@ -54,7 +58,8 @@ module _ {v : List ℤ} {arg : ℤ} {ps : List ℕ} {k : Lent} {at : ℕ} where
     module _ {r : Went} {k₂ : Lent} (x : ℕ) (l : j < length ps) (e : getD ps j 0 ≡ x) (d : Did (fire (chart-of v) arg x) k₁ at₁ r k₂) where
       due : Owes (each (fire (chart-of v) arg) ps) k at (fire (chart-of v) arg x then each (fire (chart-of v) arg) (drop (j + 1) ps)) k₁ at₁
       due = going.owes-as (fire (chart-of v) arg x then each (fire (chart-of v) arg) (drop (j + 1) ps)) (h .owes)
-          (sym (going.each-at (fire (chart-of v) arg) ps j 0 _ l ∙ ap (λ y. (fire (chart-of v) arg y then each (fire (chart-of v) arg) (drop (j + 1) ps)) (ctx k₁ at₁)) e))
+          (sym (going.each-at (fire (chart-of v) arg) ps j 0 _ l
+          ∙ ap (λ y. (fire (chart-of v) arg y then each (fire (chart-of v) arg) (drop (j + 1) ps)) (ctx k₁ at₁)) e))
 
       pub firing-stop : (r .number ≡ 0 → ⊥) → Did (each (fire (chart-of v) arg) ps) k at r k₂
       firing-stop z = going.owes-stop (each (fire (chart-of v) arg) (drop (j + 1) ps)) due d z

@@ -1,24 +1,21 @@
 -- A step function that went on leaves a widget that is ready for the next: what its step keeps holds of what it left. Assumes nothing.
-use mathlib.Core.Path.{_≡_, refl, sym, ap, _∙_, subst}
-use Prim.Native.Nat.{ℕ, zero, suc, _≤_, _<_}
-use native.Mathlib.Omega.{arith}
-use mathlib.Core.Bool.{Bool, true}
+use mathlib.Core.Path.{_≡_, sym, _∙_, subst}
+use Prim.Native.Nat.{ℕ, _<_}
+use mathlib.Core.Bool.{true}
 use mathlib.Core.List.{List}
 use lib.ListN.{length, getD}
 use lib.IntN.{ℤ, negsuc}
 use Rattle.numbers.specs.Place.{placeOf}
 use Rattle.numbers.specs.declared.Place.the-variants.{At as holds}
-use Rattle.meaning.specs.Steps.{Res, ok, refuse, Step}
-use Rattle.meaning.specs.Chart.{Chart}
+use Rattle.meaning.specs.Steps.{ok, Step}
 use Rattle.meaning.specs.Tree.{is-child}
 use Rattle.meaning.specs.Value.{chart-of}
 use Rattle.meaning.specs.Widget.{Ctx}
 use Rattle.laws.proofs.Steps.{Holds}
-use Rattle.laws.proofs.Sound.{Sound-chart}
 use Rattle.laws.proofs.Value.{Sized-chart, sized-chart}
 use Rattle.laws.proofs.Stays.{Stays}
 use Rattle.walks.specs.Walks.{Ruled}
-use Rattle.walks.proofs.Passing.{sound, rules-passed}
+use Rattle.walks.proofs.Passing.{rules-passed}
 use Rattle.widget.specs.View.{Lent, Whole, ctx, went, Did}
 use Rattle.widget.specs.declared.Went.{Went}
 use Rattle.widget.proofs.Going.{said-ok}
@@ -50,7 +47,8 @@ module _ {F : Step Ctx} {k : Lent} {at : ℕ} {r : Went} {k₁ : Lent} where
 pub ready-led : {v : List ℤ} {k : Lent} {at : ℕ} → Ready v k at → Led (chart-of v) (k .slots)
 ready-led {v} {k} {at} h = record { long = unfold ctx in h .good .sized .slots; holding = holding }
   where
-    holding : (s d : ℕ) → placeOf (getD (k .slots) s (negsuc 0)) ≡ holds d → (is-child (chart-of v) s d ≡ true) × (d < length (chart-of v .states))
+    holding : (s d : ℕ) → placeOf (getD (k .slots) s (negsuc 0)) ≡ holds d
+        → (is-child (chart-of v) s d ≡ true) × (d < length (chart-of v .states))
     holding s d e =
         let q = slot-child (chart-of v) (k .slots) (unfold ctx in h .good .slots) s d e in
         (q .1, q .2)

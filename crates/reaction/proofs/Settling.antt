@@ -7,7 +7,7 @@ use mathlib.Core.List.{List, [], _∷_}
 use lib.ListN.{length}
 use lib.IntN.{ℤ, pos}
 use Rattle.sizes.specs.Sizes.{NULL-STEPS}
-use Rattle.meaning.specs.Steps.{Res, ok, refuse, Step, bind, _then_, skip, look, each}
+use Rattle.meaning.specs.Steps.{ok, refuse, Step, bind, _then_, skip, look, each}
 use Rattle.meaning.specs.Chart.{Chart}
 use Rattle.meaning.specs.Reaction.{fire, chosen, step, if-any, settle-in, settle}
 use Rattle.meaning.specs.Value.{chart-of}
@@ -72,7 +72,8 @@ module _ (c : Chart) (k : Ctx) (ps : List ℕ) (e : chosen c 0 (k .state) ≡ ps
 
     one-more : (n : ℕ) → settle-in c (suc n) k ≡ (each (fire c (pos 0)) ps then settle-in c n) k
     unfolding settle-in look step _then_
-    one-more n = any-some (chosen c 0 (k .state)) _ k (λ q. z (sym (ap length e) ∙ q)) ∙ ap (λ ts. bind (each (fire c (pos 0)) ts k) (settle-in c n)) e
+    one-more n = any-some (chosen c 0 (k .state)) _ k (λ q. z (sym (ap length e) ∙ q))
+        ∙ ap (λ ts. bind (each (fire c (pos 0)) ts k) (settle-in c n)) e
 
 pub record Settling (v : List ℤ) (k : Lent) (at : ℕ) (turns : ℕ) (k₁ : Lent) (at₁ : ℕ) : Type 0 where
   pub ready : Ready v k₁ at₁
@@ -102,7 +103,8 @@ module _ {v : List ℤ} {k : Lent} {at : ℕ} where
       settling-full e =
           let n : NULL-STEPS - turns ≡ 0 = omega arith in
           record {
-            does = λ l. sym (ap (λ m. settle-in (chart-of v) m (ctx k₁ at₁)) n ∙ too-many (chart-of v) (ctx k₁ at₁) (picked r) here (λ y. z (sym long ∙ y))) ∙ h .owes .gives l;
+            does = λ l. sym (ap (λ m. settle-in (chart-of v) m (ctx k₁ at₁)) n
+                ∙ too-many (chart-of v) (ctx k₁ at₁) (picked r) here (λ y. z (sym long ∙ y))) ∙ h .owes .gives l;
             fits = h .ready .fits;
             kept = h .kept;
             whole = h .owes .whole;
@@ -110,11 +112,13 @@ module _ {v : List ℤ} {k : Lent} {at : ℕ} where
 
       module _ (m : turns ≡ NULL-STEPS → ⊥) {w : Went} {k₂ : Lent}
           (d : Did (each (fire (chart-of v) (pos 0)) (picked r)) k₁ at₁ w k₂) where
-        due : Owes (settle (chart-of v)) k at (each (fire (chart-of v) (pos 0)) (picked r) then settle-in (chart-of v) (NULL-STEPS - (turns + 1))) k₁ at₁
+        due : Owes (settle (chart-of v)) k at (each (fire (chart-of v) (pos 0)) (picked r) then settle-in (chart-of v) (NULL-STEPS -
+            (turns + 1))) k₁ at₁
         due =
             let l = h .few in
             let n : NULL-STEPS - turns ≡ suc (NULL-STEPS - (turns + 1)) = omega arith in
-            going.owes-as _ (h .owes) (sym (ap (λ x. settle-in (chart-of v) x (ctx k₁ at₁)) n ∙ one-more (chart-of v) (ctx k₁ at₁) (picked r) here (λ y. z (sym long ∙ y)) (NULL-STEPS - (turns + 1))))
+            going.owes-as _ (h .owes) (sym (ap (λ x. settle-in (chart-of v) x (ctx k₁ at₁)) n
+            ∙ one-more (chart-of v) (ctx k₁ at₁) (picked r) here (λ y. z (sym long ∙ y)) (NULL-STEPS - (turns + 1))))
 
         pub settling-stop : (w .number ≡ 0 → ⊥) → Did (settle (chart-of v)) k at w k₂
         settling-stop y = going.owes-stop (settle-in (chart-of v) (NULL-STEPS - (turns + 1))) due d y
@@ -123,7 +127,9 @@ module _ {v : List ℤ} {k : Lent} {at : ℕ} where
         settling-on y =
             let l = h .few in
             record {
-              ready = ready-next v (each-stays (Good (chart-of v)) (fire (chart-of v) (pos 0)) (λ x. x < length (chart-of v .transitions)) (fire-good (chart-of v) (sound v (h .ready .ruled)) (sized v (h .ready .ruled)) (pos 0)) (picked r) (chose-fires g .named)) d y (h .ready);
+              ready = ready-next v (each-stays (Good (chart-of v)) (fire (chart-of v) (pos 0))
+                  (λ x. x < length (chart-of v .transitions)) (fire-good (chart-of v) (sound v (h .ready .ruled)) (sized v
+                  (h .ready .ruled)) (pos 0)) (picked r) (chose-fires g .named)) d y (h .ready);
               few = omega arith;
               kept = d .kept ∙ h .kept;
               owes = going.owes-on (settle-in (chart-of v) (NULL-STEPS - (turns + 1))) due d y;

@@ -2,10 +2,9 @@
 -- and a place in the trace. Assumes nothing.
 use mathlib.Core.Path.{_≡_}
 use Prim.Native.Nat.{ℕ, _<_, _≤_}
-use mathlib.Core.Bool.{Bool, true}
 use mathlib.Core.List.{List}
-use lib.ListN.{length, getD}
-use lib.IntN.{ℤ, negsuc}
+use lib.ListN.{length}
+use lib.IntN.{ℤ}
 use Rattle.sizes.specs.Sizes.{TRANSITIONS}
 use Rattle.meaning.specs.Chart.{Chart}
 use Rattle.meaning.specs.Value.{chart-of}

@@ -91,10 +91,10 @@ module _ {k : Lent} {at : ℕ} {w : Went} {t′ : List ℤ} where
   unfolding mark-left numbers change set-active store-in ctx tracing
   left-alone {p} {i} d z e = notes-on (left i) (change (λ u. store-in p i (set-active i false u))) d z refl refl (λ l. rw e)
 
-  pub left-in : {p : Slot} {o i : ℕ} → Noted (pos 2 ∷ pos i ∷ pos 0 ∷ []) (k .trace) at w t′ → w .number ≡ 0 → p ≡ holds o
-      → Did (mark-left p i) k at w (with-active (set (k .active) i false) (with-slots (set (k .slots) o (pos i)) (with-trace t′ k)))
+  pub left-in : {p : Slot} {o i : ℕ} {x : ℤ} → Noted (pos 2 ∷ pos i ∷ pos 0 ∷ []) (k .trace) at w t′ → w .number ≡ 0 → p ≡ holds o → x ≡ pos i
+      → Did (mark-left p i) k at w (with-active (set (k .active) i false) (with-slots (set (k .slots) o x) (with-trace t′ k)))
   unfolding mark-left numbers change set-active set-slot store-in ctx tracing
-  left-in {p} {o} {i} d z e = notes-on (left i) (change (λ u. store-in p i (set-active i false u))) d z refl refl (λ l. rw e)
+  left-in {p} {o} {i} d z e f = notes-on (left i) (change (λ u. store-in p i (set-active i false u))) d z refl refl (λ l. rw (e, f))
 
   pub entered-stop : {i : ℕ} → Noted (pos 3 ∷ pos i ∷ pos 0 ∷ []) (k .trace) at w t′ → (w .number ≡ 0 → ⊥)
       → Did (mark-entered i) k at w (with-trace t′ k)

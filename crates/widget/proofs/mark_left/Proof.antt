@@ -1,4 +1,5 @@
 -- `mark_left` writes the entry of a state left, clears its mark and stores it in the slot of its o parent, where it has one. Assumes nothing.
+use mathlib.Core.Path.{_∙_}
 use native.Mathlib.Omega.{arith}
 use Rattle.numbers.proofs.Laws.{back32}
 use Rattle.widget.proofs.Effects.{left-stop, left-alone, left-in}
@@ -35,23 +36,16 @@ mul-named c =
 
 element-set-from-named : tie.Need-element-set-from-named
 element-set-from-named c =
-    rw (c .before .p .given .1) at
-    (c .before .before .before .before .before .before .before .before .before .pre .0)
+    let o = rw (c .before .p .given .1) at
+    (c .before .before .before .before .before .before .before .before .before .pre .0) in omega arith
 
 returns-3 : tie.Need-returns-3
-returns-3 c = (
-  search needs,
-  λ k. rw (
-    back32 (c .before .before .before .before .before .before .before .before .number .result)
-        (c .before .before .before .before .before .before .before .before .number .ok),
-    c .before .before .before .before .before .before .before .before .number .ensures,
-  ) (left-in (rw (
-    back32 (c .before .before .before .before .before .before .before .before .number .result)
-        (c .before .before .before .before .before .before .before .before .number .ok),
-    c .before .before .before .before .before .before .before .before .number .ensures,
-  ) at (c .before .before .before .before .before .before .emit .ensures))
-      (c .before .before .before .if1 .left) (c .before .p .given .1)),
-)
+returns-3 c =
+    let n = c .before .before .before .before .before .before .before .before .number in (
+      search needs,
+      λ k. left-in (rw (back32 (n .result) (n .ok), n .ensures) at (c .before .before .before .before .before .before .emit .ensures))
+          (c .before .before .before .if1 .left) (c .before .p .given .1) (back32 (n .result) (n .ok) ∙ n .ensures),
+    )
 
 pub mark-left-spec : {M : Type 1} → statement M
 mark-left-spec =
