@@ -14,7 +14,8 @@ use Rattle.meaning.specs.declared.plan.Instr.{Instr}
 use Rattle.meaning.specs.Lists.{concat-map, from, keep}
 use Rattle.meaning.specs.Tree.{kind-of, is-child, descendants}
 use Rattle.meaning.specs.Entry.{Visit, Way, below}
-use Rattle.moves.specs.Moves.{defaulting, visit-as, Kids}
+use Rattle.moves.specs.Moves.{defaulting, visit-as}
+use Rattle.blocks.specs.Kids.{Kids-left}
 use Rattle.moves.proofs.Descending.{range-none, range-next, range-skip, range-take}
 use Rattle.moves.proofs.Falling.{falls-by}
 use Rattle.walks.proofs.On.{end-within}
@@ -52,7 +53,7 @@ pub record Going (f : Visit → List Instr) (c : Chart) (way : ℕ → Way) (nex
   pub owes : emits (due f c way next s left end i) (pen l₁ p) ≡ emits (concat-map f (below c way left s)) (pen l at)
 
 module _ (f : Visit → List Instr) (c : Chart) (way : ℕ → Way) (next : Way) (s left first end : ℕ) (l : List ℤ) (at : ℕ) where
-  pub going-begin : way s ≡ next → Kids c next s left first end → Going f c way next s left first end l at first l at
+  pub going-begin : way s ≡ next → Kids-left c next s left first end → Going f c way next s left first end l at first l at
   unfolding due
   going-begin e k = record { since = omega arith; owes = ap (λ xs. emits (concat-map f xs) (pen l at)) (sym (k .goes way e)) }
 

@@ -1,5 +1,6 @@
 // The two arms after a history's owner (01, "A block"): all below it by default, and all below it by the slots. `left` is how many
 // states there can be below this one: it falls with every level.
+use super::kids::kids_within;
 use super::pieces::put_stored;
 use super::pieces::put_visit;
 use chart::state_count;
@@ -9,7 +10,6 @@ use emitter::index::INDEX;
 use emitter::put_instr;
 use meaning::plan::Instr;
 use moves::ways::Next;
-use moves::ways::goes_on;
 use walks::end_below;
 ghost use mathlib.Core.Path.{_≡_};
 ghost use Prim.Native.Nat.{_<_};
@@ -34,7 +34,7 @@ pub fn put_defaults(
     ensures { λ r. ⌜ pen (now (plan .exit)) r ≡ emits (concat-map (visit-code (chart-of (now (chart .entry)))) (below (chart-of (now (chart .entry))) by-defaults left s)) (pen (now (plan .entry)) at) ⌝ }
 {
     let next = Next::Defaults;
-    let kids = goes_on(chart, s, next, left);
+    let kids = kids_within(chart, s, next, left);
     let mut p = at;
     for d in kids.first..kids.end {
         if !is_child(chart, s, d) {

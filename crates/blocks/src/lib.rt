@@ -1,6 +1,7 @@
 // The blocks (01, "A block"): the states left, the way to a target or to the owner of a history, the block of a transition, and the
 // start block.
 pub mod arms;
+pub mod kids;
 pub mod pieces;
 
 use arms::put_arms;
@@ -11,10 +12,10 @@ use chart::tree::is_child;
 use emitter::WIDTH;
 use emitter::actions::put_acts;
 use emitter::index::INDEX;
+use kids::kids_within;
 use meaning::chart::Owner;
 use meaning::chart::Target;
 use moves::ways::Goal;
-use moves::ways::goes_on;
 use moves::ways::next_of;
 use pieces::put_enter;
 use pieces::put_exit;
@@ -85,7 +86,7 @@ fn put_towards(
     requires { ⌜ Ready (now chart) (now index) × Inside (chart-of (now chart)) goal × (s < length (chart-of (now chart) .states)) × Room (concat-map (goal-code (chart-of (now chart)) goal) (below (chart-of (now chart)) (goal-way (chart-of (now chart)) goal) left s)) at ⌝ }
     ensures { λ r. ⌜ pen (now (plan .exit)) r ≡ emits (concat-map (goal-code (chart-of (now (chart .entry))) goal) (below (chart-of (now (chart .entry))) (goal-way (chart-of (now (chart .entry))) goal) left s)) (pen (now (plan .entry)) at) ⌝ }
 {
-    let kids = goes_on(chart, s, next_of(chart, goal, s), left);
+    let kids = kids_within(chart, s, next_of(chart, goal, s), left);
     let mut p = at;
     for d in kids.first..kids.end {
         if !is_child(chart, s, d) {

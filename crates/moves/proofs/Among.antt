@@ -55,6 +55,7 @@ record Goes (c : Chart) (way : Way) (s first end : ℕ) : Type 0 where
 kids-of : (c : Chart) (next : Way) (s first end : ℕ) → s < length (c .states) → Goes c next s first end → Kids c next s first end
 kids-of c next s first end l g = record {
   within = g .within;
+  level = g .goes;
   goes = λ way h q. all-goes c way h s l ∙ ap (goes-on c (all-below c way) s (kind-of c s)) q ∙ g .goes (all-below c way);
 }
 

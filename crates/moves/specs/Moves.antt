@@ -18,7 +18,7 @@ use Rattle.meaning.specs.Lists.{concat-map, from, keep}
 use Rattle.meaning.specs.Steps.{Step}
 use Rattle.meaning.specs.Tree.{kind-of, is-child}
 use Rattle.meaning.specs.Widget.{Ctx}
-use Rattle.meaning.specs.Entry.{Visit, plain, by-default, Way, on-to, defaults, stops, all-below, slot-way, towards, towards-owner, visit, visit-towards}
+use Rattle.meaning.specs.Entry.{Visit, plain, by-default, Way, on-to, defaults, stops, goes-on, all-below, slot-way, towards, towards-owner, visit, visit-towards}
 use Rattle.moves.specs.declared.ways.Next.{Next}
 use Rattle.moves.specs.declared.ways.Next.the-variants.{OnTo, Defaults, Stops}
 use Rattle.moves.specs.declared.ways.Goal.{Goal}
@@ -75,9 +75,12 @@ pub record Led (c : Chart) (slots : List ℤ) : Type 0 where
   pub holding : (s d : ℕ) → slot-of slots s ≡ holds d → (is-child c s d ≡ true) × (d < length (c .states))
 
 -- what is entered below s, on a way that goes on so there, are those of the numbers from first up to below end that are its children, each
--- with what is below it
+-- with what is below it; level: the same of one level, whatever is entered below the children
 pub record Kids (c : Chart) (next : Way) (s first end : ℕ) : Type 0 where
   pub within : end ≤ length (c .states)
+  pub level : (deep : ℕ → List Visit)
+      → goes-on c deep s (kind-of c s) next ≡ concat-map
+      (λ d. visit-as (defaulting (kind-of c s) next) s d ∷ deep d) (keep (is-child c s) (from first (end - first)))
   pub goes : (way : ℕ → Way) → Sound c way → way s ≡ next
       → all-below c way s ≡ concat-map
       (λ d. visit-as (defaulting (kind-of c s) next) s d ∷ all-below c way d) (keep (is-child c s) (from first (end - first)))

@@ -5,7 +5,8 @@ use Prim.Native.Nat.{_-_}
 use borrow.Author.Tests.{not-true, not-false}
 use Rattle.meaning.specs.Value.{chart-of}
 use Rattle.moves.specs.Moves.{goal-way}
-use Rattle.moves.proofs.Among.{goal-child, goal-kids}
+use Rattle.moves.proofs.Among.{goal-child}
+use Rattle.blocks.proofs.KidsLeft.{goal-kids-left}
 use Rattle.blocks.specs.Parts.{goal-code}
 use Rattle.blocks.proofs.Descent.{Going, going-begin, going-skip, going-room, going-room-below, going-on, going-size, going-end}
 use borrow.Author.Needs.{needs}
@@ -18,7 +19,7 @@ use Rattle.blocks.proofs.put_towards.Kinds as put-towards-kinds
 use Rattle.blocks.proofs.+put_towards.Lts-put_towards as put-towards-lts
 use Rattle.blocks.proofs.put_arrival.Reads as put-arrival-reads
 use Rattle.chart.proofs.tree.is_child.Reads as is-child-reads
-use Rattle.moves.proofs.ways.goes_on.Reads as goes-on-reads
+use Rattle.blocks.proofs.kids.kids_within.Reads as kids-within-reads
 use Rattle.moves.proofs.ways.next_of.Reads as next-of-reads
 use Rattle.blocks.proofs.+put_towards.{statement}
 use Rattle.blocks.proofs.+put_towards.Tie.{close}
@@ -52,8 +53,8 @@ abbrev put-towards-knows : ℕ → put-towards-lts.Claims
 put-towards-knows t = (
   next-of-reads.Asked,
   next-of-reads.Learnt,
-  goes-on-reads.Asked,
-  goes-on-reads.Learnt,
+  kids-within-reads.Asked,
+  kids-within-reads.Learnt,
   is-child-reads.Asked,
   is-child-reads.Learnt,
   put-arrival-reads.Asked,
@@ -74,11 +75,11 @@ abbrev else1-from-put-towards-arg :
     put-towards.Post put-towards-Inv-loop put-towards-μ-loop
 else1-from-put-towards-arg t c = c .before .before .before .before
 
-abbrev goes-on-from-then1 :
+abbrev kids-within-from-then1 :
     (t : ℕ) → put-towards-lts.Then1 (put-towards-knows t) (put-towards-at t) put-towards.Post
-    put-towards-Inv-loop put-towards-μ-loop → put-towards-lts.After-goes-on (put-towards-knows t)
+    put-towards-Inv-loop put-towards-μ-loop → put-towards-lts.After-kids-within (put-towards-knows t)
     (put-towards-at t) put-towards.Post put-towards-Inv-loop put-towards-μ-loop
-goes-on-from-then1 t c = c .before .before .before .before
+kids-within-from-then1 t c = c .before .before .before .before
 
 abbrev in-loop-from-put-towards-arg :
     (t : ℕ) → put-towards-lts.After-put-towards-arg (put-towards-knows t) (put-towards-at t) put-towards.Post
@@ -98,11 +99,11 @@ abbrev start-from-put-arrival-arg :
     put-towards.Post put-towards-Inv-loop put-towards-μ-loop
 start-from-put-arrival-arg t c = in-loop-from-put-arrival-arg t c .before .before .before .before
 
-abbrev goes-on-from-put-towards-arg :
+abbrev kids-within-from-put-towards-arg :
     (t : ℕ) → put-towards-lts.After-put-towards-arg (put-towards-knows t) (put-towards-at t) put-towards.Post
-    put-towards-Inv-loop put-towards-μ-loop → put-towards-lts.After-goes-on (put-towards-knows t)
+    put-towards-Inv-loop put-towards-μ-loop → put-towards-lts.After-kids-within (put-towards-knows t)
     (put-towards-at t) put-towards.Post put-towards-Inv-loop put-towards-μ-loop
-goes-on-from-put-towards-arg t c = at-loop-from-put-towards-arg t c .before
+kids-within-from-put-towards-arg t c = at-loop-from-put-towards-arg t c .before
 
 abbrev in-loop-from-plan2 :
     (t : ℕ) → put-towards-lts.After-plan2 (put-towards-knows t) (put-towards-at t) put-towards.Post
@@ -114,17 +115,17 @@ abbrev start-from-put-towards-arg :
     (t : ℕ) → put-towards-lts.After-put-towards-arg (put-towards-knows t) (put-towards-at t) put-towards.Post
     put-towards-Inv-loop put-towards-μ-loop → put-towards-lts.Start (put-towards-knows t) (put-towards-at t)
     put-towards.Post put-towards-Inv-loop put-towards-μ-loop
-start-from-put-towards-arg t c = goes-on-from-put-towards-arg t c .before .before
+start-from-put-towards-arg t c = kids-within-from-put-towards-arg t c .before .before
 
 put-towards-next-of-requires :
     (t : ℕ) → put-towards-lts.Need-next-of-requires (put-towards-knows t) (put-towards-at t) put-towards.Post
     put-towards-Inv-loop put-towards-μ-loop
 put-towards-next-of-requires t c κs = c .pre .1 .0 .ruled
 
-put-towards-goes-on-requires :
-    (t : ℕ) → put-towards-lts.Need-goes-on-requires (put-towards-knows t) (put-towards-at t) put-towards.Post
+put-towards-kids-within-requires :
+    (t : ℕ) → put-towards-lts.Need-kids-within-requires (put-towards-knows t) (put-towards-at t) put-towards.Post
     put-towards-Inv-loop put-towards-μ-loop
-put-towards-goes-on-requires t c κs = (
+put-towards-kids-within-requires t c κs = (
   c .before .pre .1 .0 .ruled,
   c .before .pre .1 .2,
   goal-child _ (c .before .pre .1 .0 .ruled) (c .before .args .goal) (c .before .pre .1 .1) _
@@ -137,8 +138,8 @@ put-towards-loop-holds :
 put-towards-loop-holds t c =
     going-begin _ _
     (goal-way (chart-of (c .before .before .args .chart .now)) (c .before .before .args .goal)) _ _ _ _ _ _ _
-    refl (goal-kids _ (c .before .before .args .goal) _ _ _ _ (c .before .next-of .result)
-    (c .before .next-of .ensures) (c .goes-on .ensures))
+    refl (goal-kids-left _ (c .before .before .args .goal) _ _ _ _ (c .before .next-of .result)
+    (c .before .next-of .ensures) (c .kids-within .ensures))
 
 put-towards-add-d :
     (t : ℕ) → put-towards-lts.Need-add-d (put-towards-knows t) (put-towards-at t) put-towards.Post
@@ -147,8 +148,8 @@ put-towards-add-d t c =
     omega (
       arith,
       c .before .before .loop-test .taken,
-      goes-on-from-then1 t c .goes-on .ensures .within,
-      states-most (goes-on-from-then1 t c .before .before .args .chart .now),
+      kids-within-from-then1 t c .kids-within .ensures .within,
+      states-most (kids-within-from-then1 t c .before .before .args .chart .now),
     )
 
 put-towards-loop-less :
@@ -171,7 +172,7 @@ put-towards-put-arrival-requires t c κs = (
   start-from-put-arrival-arg t c .pre .1 .2,
   omega (
     arith,
-    in-loop-from-put-arrival-arg t c .before .before .goes-on .ensures .within,
+    in-loop-from-put-arrival-arg t c .before .before .kids-within .ensures .within,
     in-loop-from-put-arrival-arg t c .loop-test .taken,
   ),
   going-room _ _ _ _ _ _ _ _ _ _ (in-loop-from-put-arrival-arg t c .before .loop .inv)
@@ -186,7 +187,7 @@ put-towards-sub-put-towards :
 put-towards-sub-put-towards t c =
     omega (
       arith,
-      in-loop-from-put-arrival-arg t (c .before .before) .before .before .goes-on .ensures .more
+      in-loop-from-put-arrival-arg t (c .before .before) .before .before .kids-within .ensures .more
           (omega (
             arith,
             in-loop-from-put-arrival-arg t (c .before .before) .loop-test .taken,
@@ -200,7 +201,7 @@ put-towards-put-towards-requires :
 put-towards-put-towards-requires t c κs = (
   omega (
     arith,
-    goes-on-from-put-towards-arg t c .goes-on .ensures .more
+    kids-within-from-put-towards-arg t c .kids-within .ensures .more
         (omega (
           arith,
           in-loop-from-put-towards-arg t c .loop-test .taken,
@@ -212,7 +213,7 @@ put-towards-put-towards-requires t c κs = (
     start-from-put-towards-arg t c .pre .1 .1,
     omega (
       arith,
-      goes-on-from-put-towards-arg t c .goes-on .ensures .within,
+      kids-within-from-put-towards-arg t c .kids-within .ensures .within,
       in-loop-from-put-towards-arg t c .loop-test .taken,
     ),
     going-room-below _ _ _ _ _ _ _ _ _ _ (at-loop-from-put-towards-arg t c .loop .inv)
@@ -230,7 +231,7 @@ put-towards-add-d-2 t c =
     omega (
       arith,
       in-loop-from-plan2 t c .loop-test .taken,
-      in-loop-from-plan2 t c .before .before .goes-on .ensures .within,
+      in-loop-from-plan2 t c .before .before .kids-within .ensures .within,
       states-most (start-from-put-towards-arg t (c .before .before) .args .chart .now),
     )
 
@@ -262,7 +263,7 @@ put-towards-returns t c = going-end _ _ _ _ _ _ _ _ _ _ (c .before .loop .inv) (
 pub +put-towards-spec : {M : Type 1} → statement M
 +put-towards-spec =
     close μ-put-towards λ t. put-towards-lts.spec (put-towards-knows t) (put-towards-at t) put-towards.Post
-    put-towards-Inv-loop put-towards-μ-loop (put-towards-next-of-requires t) (put-towards-goes-on-requires t)
+    put-towards-Inv-loop put-towards-μ-loop (put-towards-next-of-requires t) (put-towards-kids-within-requires t)
     (put-towards-loop-holds t) (λ c κs. search needs) (put-towards-add-d t) (put-towards-loop-less t)
     (put-towards-loop-again t) (put-towards-put-arrival-requires t) (put-towards-sub-put-towards t)
     (put-towards-put-towards-requires t) (put-towards-add-d-2 t) (put-towards-loop-less-2 t)

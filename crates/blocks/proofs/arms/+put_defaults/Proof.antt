@@ -18,7 +18,7 @@ use Rattle.blocks.proofs.arms.put_defaults.Kinds as put-defaults-kinds
 use Rattle.blocks.proofs.arms.+put_defaults.Lts-put_defaults as put-defaults-lts
 use Rattle.blocks.proofs.pieces.put_visit.Reads as put-visit-reads
 use Rattle.chart.proofs.tree.is_child.Reads as is-child-reads
-use Rattle.moves.proofs.ways.goes_on.Reads as goes-on-reads
+use Rattle.blocks.proofs.kids.kids_within.Reads as kids-within-reads
 use Rattle.blocks.proofs.arms.+put_defaults.{statement}
 use Rattle.blocks.proofs.arms.+put_defaults.Tie.{close}
 
@@ -48,8 +48,8 @@ put-defaults-μ-loop chart index s left plan₀ at next p₀ d₀ d-end plan p d
 
 abbrev put-defaults-knows : ℕ → put-defaults-lts.Claims
 put-defaults-knows t = (
-  goes-on-reads.Asked,
-  goes-on-reads.Learnt,
+  kids-within-reads.Asked,
+  kids-within-reads.Learnt,
   is-child-reads.Asked,
   is-child-reads.Learnt,
   put-visit-reads.Asked,
@@ -70,11 +70,11 @@ abbrev else1-from-put-defaults-arg :
     (put-defaults-knows t) (put-defaults-at t) put-defaults.Post put-defaults-Inv-loop put-defaults-μ-loop
 else1-from-put-defaults-arg t c = c .before .before .before .before
 
-abbrev goes-on-from-then1 :
+abbrev kids-within-from-then1 :
     (t : ℕ) → put-defaults-lts.Then1 (put-defaults-knows t) (put-defaults-at t) put-defaults.Post
-    put-defaults-Inv-loop put-defaults-μ-loop → put-defaults-lts.After-goes-on (put-defaults-knows t)
+    put-defaults-Inv-loop put-defaults-μ-loop → put-defaults-lts.After-kids-within (put-defaults-knows t)
     (put-defaults-at t) put-defaults.Post put-defaults-Inv-loop put-defaults-μ-loop
-goes-on-from-then1 t c = c .before .before .before .before
+kids-within-from-then1 t c = c .before .before .before .before
 
 abbrev in-loop-from-put-defaults-arg :
     (t : ℕ) → put-defaults-lts.After-put-defaults-arg (put-defaults-knows t) (put-defaults-at t)
@@ -94,11 +94,11 @@ abbrev at-loop-from-put-defaults-arg :
     (put-defaults-knows t) (put-defaults-at t) put-defaults.Post put-defaults-Inv-loop put-defaults-μ-loop
 at-loop-from-put-defaults-arg t c = in-loop-from-put-defaults-arg t c .before
 
-abbrev goes-on-from-put-defaults-arg :
+abbrev kids-within-from-put-defaults-arg :
     (t : ℕ) → put-defaults-lts.After-put-defaults-arg (put-defaults-knows t) (put-defaults-at t)
-    put-defaults.Post put-defaults-Inv-loop put-defaults-μ-loop → put-defaults-lts.After-goes-on
+    put-defaults.Post put-defaults-Inv-loop put-defaults-μ-loop → put-defaults-lts.After-kids-within
     (put-defaults-knows t) (put-defaults-at t) put-defaults.Post put-defaults-Inv-loop put-defaults-μ-loop
-goes-on-from-put-defaults-arg t c = at-loop-from-put-defaults-arg t c .before
+kids-within-from-put-defaults-arg t c = at-loop-from-put-defaults-arg t c .before
 
 abbrev in-loop-from-plan2 :
     (t : ℕ) → put-defaults-lts.After-plan2 (put-defaults-knows t) (put-defaults-at t) put-defaults.Post
@@ -110,17 +110,17 @@ abbrev start-from-put-defaults-arg :
     (t : ℕ) → put-defaults-lts.After-put-defaults-arg (put-defaults-knows t) (put-defaults-at t)
     put-defaults.Post put-defaults-Inv-loop put-defaults-μ-loop → put-defaults-lts.Start
     (put-defaults-knows t) (put-defaults-at t) put-defaults.Post put-defaults-Inv-loop put-defaults-μ-loop
-start-from-put-defaults-arg t c = goes-on-from-put-defaults-arg t c .before
+start-from-put-defaults-arg t c = kids-within-from-put-defaults-arg t c .before
 
-put-defaults-goes-on-requires :
-    (t : ℕ) → put-defaults-lts.Need-goes-on-requires (put-defaults-knows t) (put-defaults-at t)
+put-defaults-kids-within-requires :
+    (t : ℕ) → put-defaults-lts.Need-kids-within-requires (put-defaults-knows t) (put-defaults-at t)
     put-defaults.Post put-defaults-Inv-loop put-defaults-μ-loop
-put-defaults-goes-on-requires t c κs = (c .pre .1 .0 .ruled, c .pre .1 .1, defaults-on _ _)
+put-defaults-kids-within-requires t c κs = (c .pre .1 .0 .ruled, c .pre .1 .1, defaults-on _ _)
 
 put-defaults-loop-holds :
     (t : ℕ) → put-defaults-lts.Need-loop-holds (put-defaults-knows t) (put-defaults-at t) put-defaults.Post
     put-defaults-Inv-loop put-defaults-μ-loop
-put-defaults-loop-holds t c = going-begin _ _ by-defaults defaults _ _ _ _ _ _ (defaults-way _) (c .goes-on .ensures)
+put-defaults-loop-holds t c = going-begin _ _ by-defaults defaults _ _ _ _ _ _ (defaults-way _) (c .kids-within .ensures)
 
 put-defaults-add-d :
     (t : ℕ) → put-defaults-lts.Need-add-d (put-defaults-knows t) (put-defaults-at t) put-defaults.Post
@@ -129,8 +129,8 @@ put-defaults-add-d t c =
     omega (
       arith,
       c .before .before .loop-test .taken,
-      goes-on-from-then1 t c .goes-on .ensures .within,
-      states-most (goes-on-from-then1 t c .before .args .chart .now),
+      kids-within-from-then1 t c .kids-within .ensures .within,
+      states-most (kids-within-from-then1 t c .before .args .chart .now),
     )
 
 put-defaults-loop-less :
@@ -153,7 +153,7 @@ put-defaults-put-visit-requires t c κs = (
   start-from-put-visit-arg t c .pre .1 .1,
   omega (
     arith,
-    in-loop-from-put-visit-arg t c .before .before .goes-on .ensures .within,
+    in-loop-from-put-visit-arg t c .before .before .kids-within .ensures .within,
     in-loop-from-put-visit-arg t c .loop-test .taken,
   ),
   going-room _ _ _ _ _ _ _ _ _ _ (in-loop-from-put-visit-arg t c .before .loop .inv)
@@ -168,7 +168,7 @@ put-defaults-sub-put-defaults :
 put-defaults-sub-put-defaults t c =
     omega (
       arith,
-      in-loop-from-put-visit-arg t (c .before .before) .before .before .goes-on .ensures .more
+      in-loop-from-put-visit-arg t (c .before .before) .before .before .kids-within .ensures .more
           (omega (
             arith,
             in-loop-from-put-visit-arg t (c .before .before) .loop-test .taken,
@@ -182,7 +182,7 @@ put-defaults-put-defaults-requires :
 put-defaults-put-defaults-requires t c κs = (
   omega (
     arith,
-    goes-on-from-put-defaults-arg t c .goes-on .ensures .more
+    kids-within-from-put-defaults-arg t c .kids-within .ensures .more
         (omega (
           arith,
           in-loop-from-put-defaults-arg t c .loop-test .taken,
@@ -193,7 +193,7 @@ put-defaults-put-defaults-requires t c κs = (
     start-from-put-defaults-arg t c .pre .1 .0,
     omega (
       arith,
-      goes-on-from-put-defaults-arg t c .goes-on .ensures .within,
+      kids-within-from-put-defaults-arg t c .kids-within .ensures .within,
       in-loop-from-put-defaults-arg t c .loop-test .taken,
     ),
     going-room-below _ _ _ _ _ _ _ _ _ _ (at-loop-from-put-defaults-arg t c .loop .inv)
@@ -211,7 +211,7 @@ put-defaults-add-d-2 t c =
     omega (
       arith,
       in-loop-from-plan2 t c .loop-test .taken,
-      in-loop-from-plan2 t c .before .before .goes-on .ensures .within,
+      in-loop-from-plan2 t c .before .before .kids-within .ensures .within,
       states-most (start-from-put-defaults-arg t (c .before .before) .args .chart .now),
     )
 
@@ -243,7 +243,7 @@ put-defaults-returns t c = going-end _ _ _ _ _ _ _ _ _ _ (c .before .loop .inv) 
 pub +put-defaults-spec : {M : Type 1} → statement M
 +put-defaults-spec =
     close μ-put-defaults λ t. put-defaults-lts.spec (put-defaults-knows t) (put-defaults-at t)
-    put-defaults.Post put-defaults-Inv-loop put-defaults-μ-loop (put-defaults-goes-on-requires t)
+    put-defaults.Post put-defaults-Inv-loop put-defaults-μ-loop (put-defaults-kids-within-requires t)
     (put-defaults-loop-holds t) (λ c κs. search needs) (put-defaults-add-d t) (put-defaults-loop-less t)
     (put-defaults-loop-again t) (put-defaults-put-visit-requires t) (put-defaults-sub-put-defaults t)
     (put-defaults-put-defaults-requires t) (put-defaults-add-d-2 t) (put-defaults-loop-less-2 t)
