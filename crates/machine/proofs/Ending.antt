@@ -28,7 +28,8 @@ Ends o t r t₁ = (r ≡ called o) × (t₁ ≡ lent (length t) o)
 pub ends-as : {o p : Outcome} (t : List ℤ) {r : Called} {t₁ : List ℤ} → p ≡ o → Ends o t r t₁ → Ends p t r t₁
 ends-as t {r} {t₁} e h = subst (λ x. Ends x t r t₁) (sym e) h
 
-pub cleared : (n p : ℕ) (u : State) (t t₁ : List ℤ) → t₁ ≡ take 0 t ++ replicate (length t - 0) (pos 0) → t₁ ≡ lent (length t) (refused n p u)
+pub cleared : (n p : ℕ) (u : State) (t t₁ : List ℤ) → t₁ ≡ take 0 t ++ replicate (length t - 0) (pos 0)
+    → t₁ ≡ lent (length t) (refused n p u)
 unfolding lent refused padded
 cleared n p u t t₁ e = e
 
@@ -37,7 +38,8 @@ unfolding outcome said
 outcome-no zero k u z = absurd (z refl)
 outcome-no (suc n) k u z = refl
 
-outcome-on : (n : ℕ) (k : Ctx) (u : State) → n ≡ 0 → outcome u (said n k) ≡ record { number = 0; place = 0; after = k .state; trace = k .out }
+outcome-on : (n : ℕ) (k : Ctx) (u : State) → n ≡ 0
+    → outcome u (said n k) ≡ record { number = 0; place = 0; after = k .state; trace = k .out }
 unfolding outcome said
 outcome-on zero k u z = refl
 outcome-on (suc n) k u z = absurd (omega arith)
@@ -60,7 +62,8 @@ module _ (u : State) (w : Went) (k : Lent) (r : Called) (t₁ : List ℤ) where
       subst (λ o. Ends o (k .trace) r t₁) (sym (outcome-on (w .number) _ u z)) (rw (n, ← h) e, rw n f)
 
 -- a call whose outcome is that of its steps, from what is lent before them
-pub ends-steps : (u : State) {D : Step Ctx} {k : Lent} {w : Went} {k₁ : Lent} (o : Outcome) (r : Called) (t₂ : List ℤ) → Whole k → Did D k 0 w k₁
+pub ends-steps : (u : State) {D : Step Ctx} {k : Lent} {w : Went} {k₁ : Lent} (o : Outcome) (r : Called) (t₂ : List ℤ)
+    → Whole k → Did D k 0 w k₁
     → o ≡ outcome u (D (begin (widget k) (length (k .trace)))) → Ends (outcome u (went w k₁)) (k₁ .trace) r t₂ → Ends o (k .trace) r t₂
 ends-steps u {D} {k} {w} {k₁} o r t₂ l d e f =
     let y : outcome u (went w k₁) ≡ o = ap (outcome u) (d .does l ∙ ap D (begins k)) ∙ sym e in

@@ -13,7 +13,8 @@ use Rattle.meaning.specs.Steps.{Res, ok, refuse, Step, bind, _then_, require}
 use Rattle.meaning.specs.Widget.{Ctx}
 use Rattle.meaning.specs.Foreign.{plan-own}
 use Rattle.meaning.specs.Calls.{Outcome, refused}
-use Rattle.meaning.specs.Machine.{plan-start, plan-run, plan-post, plan-discard, plan-tests, machine-start, machine-run, machine-post, machine-discard}
+use Rattle.meaning.specs.Machine.{plan-start, plan-run, plan-post, plan-discard}
+use Rattle.meaning.specs.Machine.{plan-tests, machine-start, machine-run, machine-post, machine-discard}
 use Rattle.meaning.specs.WellFormed.{counts-of, plan-by, well-formed}
 use Rattle.examiner.specs.Examined.{examined}
 use Rattle.plan_choice.specs.Heads.{Examined}
@@ -25,7 +26,8 @@ module _ (ns : List ℤ) {a : Answer} (e : a ≡ examined ns) where
   answer-by true f z = refl
   answer-by false f z = let y = ap (λ (x : Answer). x .number) f in absurd (omega (arith, y, z))
 
-  answer-no : (b : Bool) → a ≡ cond b (record { number = 0; place = 0 }) (record { number = 5; place = 0 }) → (a .number ≡ 0 → ⊥) → b ≡ false
+  answer-no : (b : Bool) → a ≡ cond b (record { number = 0; place = 0 }) (record { number = 5; place = 0 }) → (a .number ≡ 0
+      → ⊥) → b ≡ false
   answer-no true f z = absurd (z (ap (λ (x : Answer). x .number) f))
   answer-no false f z = refl
 
@@ -41,19 +43,23 @@ module _ (ns : List ℤ) {a : Answer} (e : a ≡ examined ns) where
   was-examined z q = record { formed = passed z; counted = q }
 
   module _ (u : State) where
-    by-start : (b : Bool) (n : ℕ) → well-formed ns ≡ b → machine-start ns u n ≡ elim b [ true ↦ plan-start (plan-by ns) u n | false ↦ refused 5 0 u ]
+    by-start : (b : Bool) (n : ℕ) → well-formed ns ≡ b
+        → machine-start ns u n ≡ elim b [ true ↦ plan-start (plan-by ns) u n | false ↦ refused 5 0 u ]
     unfolding machine-start
     by-start b n f = subst (λ d. machine-start ns u n ≡ elim d [ true ↦ plan-start (plan-by ns) u n | false ↦ refused 5 0 u ]) f refl
 
-    by-run : (b : Bool) (n : ℕ) → well-formed ns ≡ b → machine-run ns u n ≡ elim b [ true ↦ plan-run (plan-by ns) u n | false ↦ refused 5 0 u ]
+    by-run : (b : Bool) (n : ℕ) → well-formed ns ≡ b
+        → machine-run ns u n ≡ elim b [ true ↦ plan-run (plan-by ns) u n | false ↦ refused 5 0 u ]
     unfolding machine-run
     by-run b n f = subst (λ d. machine-run ns u n ≡ elim d [ true ↦ plan-run (plan-by ns) u n | false ↦ refused 5 0 u ]) f refl
 
-    by-post : (b : Bool) (x y : ℤ) → well-formed ns ≡ b → machine-post ns u x y ≡ elim b [ true ↦ plan-post (plan-by ns) u x y | false ↦ refused 5 0 u ]
+    by-post : (b : Bool) (x y : ℤ) → well-formed ns ≡ b
+        → machine-post ns u x y ≡ elim b [ true ↦ plan-post (plan-by ns) u x y | false ↦ refused 5 0 u ]
     unfolding machine-post
     by-post b x y f = subst (λ d. machine-post ns u x y ≡ elim d [ true ↦ plan-post (plan-by ns) u x y | false ↦ refused 5 0 u ]) f refl
 
-    by-discard : (b : Bool) → well-formed ns ≡ b → machine-discard ns u ≡ elim b [ true ↦ plan-discard (plan-by ns) u | false ↦ refused 5 0 u ]
+    by-discard : (b : Bool) → well-formed ns ≡ b
+        → machine-discard ns u ≡ elim b [ true ↦ plan-discard (plan-by ns) u | false ↦ refused 5 0 u ]
     unfolding machine-discard
     by-discard b f = subst (λ d. machine-discard ns u ≡ elim d [ true ↦ plan-discard (plan-by ns) u | false ↦ refused 5 0 u ]) f refl
 

@@ -38,7 +38,8 @@ module _ (p : Plan) (e : ℕ) (a : ℤ) {before : Lent} {w : Went} {after : Lent
   pub react-stop : (w .number ≡ 0 → ⊥) → Ran (plan-step p e a then plan-settle p) before 0 w after
   react-stop z = record { did = going.then-stop _ (d .did) z; slotted = λ y. absurd (z y) }
 
-  pub react-on : w .number ≡ 0 → {r : Went} {after₂ : Lent} → Ran (plan-settle p) after (w .at) r after₂ → Ran (plan-step p e a then plan-settle p) before 0 r after₂
+  pub react-on : w .number ≡ 0 → {r : Went} {after₂ : Lent} → Ran (plan-settle p) after (w .at) r after₂
+      → Ran (plan-step p e a then plan-settle p) before 0 r after₂
   react-on z g = record { did = going.then-on (d .did) z (g .did); slotted = λ y. g .slotted y ∙ d .slotted z }
 
 -- ---- the tests in turn
@@ -70,12 +71,14 @@ module _ (p : Plan) (u : State) (n : ℕ) where
           ∙ none-waits _ _ (removed (u .queue) .done) (begin u n) (ap (λ y. y .done) (sym x) ∙ e))
 
       pub run-on : m .done ≡ true
-          → plan-run p u n ≡ outcome u ((plan-step p (ref (m .front .event)) (m .front .arg) then plan-settle p) (begin (set-queue (m .queue) u) n))
+          → plan-run p u n ≡ outcome u ((plan-step p (ref (m .front .event)) (m .front .arg) then plan-settle p) (begin
+          (set-queue (m .queue) u) n))
       unfolding plan-run plan-react take-front change bind begin
       run-on e =
           ap (outcome u) (tests-on p u (plan-react p (removed (u .queue))) (begin u n) s o
           ∙ one-waits _ _ (removed (u .queue) .done) (begin u n) (ap (λ y. y .done) (sym x) ∙ e))
-          ∙ ap (λ y. outcome u ((plan-step p (ref (y .front .event)) (y .front .arg) then plan-settle p) (begin (set-queue (y .queue) u) n))) (sym x)
+          ∙ ap (λ y. outcome u ((plan-step p (ref (y .front .event)) (y .front .arg) then plan-settle p) (begin (set-queue
+          (y .queue) u) n))) (sym x)
 
 -- ---- the widget at the start of a run
 
@@ -95,7 +98,15 @@ removed-few q l = go (eqb (q .len) 0) (ltb QUEUE (q .len))
   where
     go : (a b : Bool) → cond {A = Removed} a (record { done = false; front = none; queue = q })
         (cond b (record { done = false; front = none; queue = q })
-        (record { done = true; front = getD (q .items) 0 none; queue = record { len = q .len - 1; items = shifted (q .items) } })) .queue .len ≤ QUEUE
+        (record {
+          done = true;
+          front = getD (q .items) 0 none;
+          queue = record {
+            len = q .len - 1;
+            items = shifted
+                (q .items);
+          };
+        })) .queue .len ≤ QUEUE
     go true b = l
     go false true = l
     go false false = omega arith
@@ -107,15 +118,18 @@ widget-is u ns t q s e =
     ap {B = State} (λ b. record { started = b; active = u .active; slots = u .slots; vars = u .vars; queue = queue-by ns }) (sym s)
     ∙ ap {B = State} (λ r. record { started = u .started; active = u .active; slots = u .slots; vars = u .vars; queue = r }) e
 
-module _ (p : Plan) (u : State) (long : length (u .queue .items) ≡ QUEUE) (m : Removed) (x : m ≡ removed (u .queue)) (s : u .started ≡ true) (o : owns p u ≡ true)
+module _ (p : Plan) (u : State) (long : length (u .queue .items) ≡ QUEUE) (m : Removed) (x : m ≡ removed (u .queue))
+    (s : u .started ≡ true) (o : owns p u ≡ true)
     (d : m .done ≡ true) (ns : List ℤ) (l : ns ≡ numbers-of (m .queue)) where
   says : queue-by ns ≡ m .queue
   says = ap queue-by l ∙ held-lent (m .queue) (subst (λ y. y .queue .len ≤ QUEUE) (sym x) (removed-few (u .queue) (own-few p u o)))
 
   whole : length ns ≡ QUEUE-NUMBERS
-  whole = ap length l ∙ numbers-long (m .queue) (ap (λ y. length (y .queue .items)) x ∙ removed-long (u .queue) (omega (arith, long)) ∙ long)
+  whole = ap length l ∙ numbers-long (m .queue) (ap (λ y. length (y .queue .items)) x
+      ∙ removed-long (u .queue) (omega (arith, long)) ∙ long)
 
-  pub run-ends : {e : ℕ} {a : ℤ} (t : List ℤ) {w : Went} {k₁ : Lent} (r : Called) (t₂ : List ℤ) → e ≡ ref (m .front .event) → a ≡ m .front .arg
+  pub run-ends : {e : ℕ} {a : ℤ} (t : List ℤ) {w : Went} {k₁ : Lent} (r : Called) (t₂ : List ℤ) → e ≡ ref (m .front .event)
+      → a ≡ m .front .arg
       → Ran (plan-step p e a then plan-settle p) (all-lent (u .active) (u .slots) (u .vars) ns t) 0 w k₁
       → Ends (outcome u (went w k₁)) (k₁ .trace) r t₂ → Ends (plan-run p u (length t)) t r t₂
   run-ends {e} {a} t r t₂ i j g f =

@@ -44,7 +44,8 @@ firsts vs = map (λ r. r .first) vs
 abbrev pub zeros : List ℤ
 zeros = replicate VARIABLES (pos 0)
 
-pub filled-more : (vs : List VarRow) (now : List ℤ) (v : ℕ) (x : ℤ) → now ≡ copied zeros (firsts vs) v → v < length vs → length vs ≤ VARIABLES → x ≡ var-row vs v .first
+pub filled-more : (vs : List VarRow) (now : List ℤ) (v : ℕ) (x : ℤ) → now ≡ copied zeros (firsts vs) v → v < length vs
+    → length vs ≤ VARIABLES → x ≡ var-row vs v .first
     → set now v x ≡ copied zeros (firsts vs) (v + 1)
 unfolding var-row
 filled-more vs now v x e l m q =
@@ -61,11 +62,13 @@ pub filled-all : (vs : List VarRow) (now : List ℤ) (v : ℕ) → now ≡ copie
 unfolding fresh-by padded
 filled-all vs now v e q =
     let n : length (firsts vs) ≡ length vs = length-map vs (λ (r : VarRow). r .first) in
-    e ∙ ap (λ k. take k (firsts vs) ++ drop k zeros) (q ∙ sym n) ∙ rw (take-all (length (firsts vs)) (firsts vs) (omega arith), drop-zeros (length (firsts vs)) VARIABLES)
+    e ∙ ap (λ k. take k (firsts vs) ++ drop k zeros) (q ∙ sym n)
+    ∙ rw (take-all (length (firsts vs)) (firsts vs) (omega arith), drop-zeros (length (firsts vs)) VARIABLES)
 
 -- ---- the start block, then null steps
 
-module _ (ns : List ℤ) {k : Counts} (x : Examined ns k) {before : Lent} {w : Went} {after : Lent} (d : Ran (block-of ns (pos 0) 0 (k .start)) before 0 w after) where
+module _ (ns : List ℤ) {k : Counts} (x : Examined ns k) {before : Lent} {w : Went} {after : Lent} (d : Ran (block-of ns
+    (pos 0) 0 (k .start)) before 0 w after) where
   begun : Ran (run-block (plan-by ns .vars) (pos 0) (take (plan-by ns .start-length) (plan-by ns .code))) before 0 w after
   unfolding plan-by
   begun = subst (λ c. Ran (run-block (plan-by ns .vars) (pos 0) (take (c .start) (plan-by ns .code))) before 0 w after) (x .counted) d
@@ -74,7 +77,8 @@ module _ (ns : List ℤ) {k : Counts} (x : Examined ns k) {before : Lent} {w : W
   unfolding plan-start-steps
   begin-stop z = record { did = going.then-stop _ (begun .did) z; slotted = λ y. absurd (z y) }
 
-  pub begin-on : w .number ≡ 0 → {r : Went} {after₂ : Lent} → Ran (plan-settle (plan-by ns)) after (w .at) r after₂ → Ran (plan-start-steps (plan-by ns)) before 0 r after₂
+  pub begin-on : w .number ≡ 0 → {r : Went} {after₂ : Lent} → Ran (plan-settle (plan-by ns)) after (w .at) r after₂
+      → Ran (plan-start-steps (plan-by ns)) before 0 r after₂
   unfolding plan-start-steps
   begin-on z g = record { did = going.then-on (begun .did) z (g .did); slotted = λ y. g .slotted y ∙ begun .slotted z }
 
@@ -95,9 +99,17 @@ fresh-lent vs t = all-lent (replicate STATES false) (replicate STATES (negsuc 0)
 fresh-is : (vs : List VarRow) (t : List ℤ) → widget (fresh-lent vs t) ≡ fresh-by vs
 unfolding fresh-by
 fresh-is vs t =
-    ap {B = State} (λ q. record { started = true; active = replicate STATES false; slots = replicate STATES (negsuc 0); vars = padded VARIABLES (pos 0) (firsts vs); queue = q }) none-lent
+    ap {B = State} (λ q. record {
+      started = true;
+      active = replicate STATES false;
+      slots = replicate STATES
+          (negsuc 0);
+      vars = padded VARIABLES (pos 0) (firsts vs);
+      queue = q;
+    }) none-lent
 
-pub start-ends : (p : Plan) (u : State) (t : List ℤ) {w : Went} {k₁ : Lent} (r : Called) (t₂ : List ℤ) → Ran (plan-start-steps p) (fresh-lent (p .vars) t) 0 w k₁
+pub start-ends : (p : Plan) (u : State) (t : List ℤ) {w : Went} {k₁ : Lent} (r : Called) (t₂ : List ℤ)
+    → Ran (plan-start-steps p) (fresh-lent (p .vars) t) 0 w k₁
     → Ends (outcome u (went w k₁)) (k₁ .trace) r t₂ → Ends (plan-start p u (length t)) t r t₂
 unfolding plan-start
 start-ends p u t r t₂ g f =

@@ -36,7 +36,8 @@ module _ (p : Plan) (u : State) where
       module _ (o : owns p u ≡ true) {n : ℕ} (k : n ≡ p .events) where
         pub post-10 : event-fits n e a ≡ false → called (refused 10 0 u) ≡ called (plan-post p u e a)
         unfolding plan-post rest
-        post-10 f = refusing u (tests-on p u rest (begin u 0) s o ∙ require-no 10 (enqueue e a) (begin u 0) (ap (λ x. event-fits x e a) (sym k) ∙ f))
+        post-10 f = refusing u (tests-on p u rest (begin u 0) s o
+            ∙ require-no 10 (enqueue e a) (begin u 0) (ap (λ x. event-fits x e a) (sym k) ∙ f))
 
         module _ (f : event-fits n e a ≡ true) {q : Queued} (g : q ≡ appended (u .queue) e a) where
           to-queue : (plan-tests p u then rest) (begin u 0) ≡ take-queue q (begin u 0)

@@ -21,8 +21,10 @@ use Rattle.meaning.specs.Value.{num, count-fits}
 use Rattle.meaning.specs.declared.plan.Counts.{Counts}
 use Rattle.meaning.specs.declared.plan.Head.{Head}
 use Rattle.meaning.specs.declared.chart.Guard.{Guard}
-use Rattle.meaning.specs.WellFormed.{HEAD-ROW, counts-of, counts-keep, heads-at, plan-end, var-rows, head-rows, head-guard-by, head-by, plan-by}
-use Rattle.meaning.specs.WellFormed.{var-keeps, one-of, head-guard-fits, span-fits, head-fits, all-blocks-fill, code-fits, left-in-blocks, code-at}
+use Rattle.meaning.specs.WellFormed.{HEAD-ROW, counts-of, counts-keep, heads-at, plan-end}
+use Rattle.meaning.specs.WellFormed.{var-rows, head-rows, head-guard-by, head-by, plan-by}
+use Rattle.meaning.specs.WellFormed.{var-keeps, one-of, head-guard-fits, span-fits}
+use Rattle.meaning.specs.WellFormed.{head-fits, all-blocks-fill, code-fits, left-in-blocks, code-at}
 use Rattle.meaning.specs.WellFormed.{rows-well-formed, is-whole, well-formed}
 use Rattle.plan_rows.specs.Rows.{row, Sized}
 use Rattle.plan_rows.proofs.Rows.{sized, head-rows-length, head-rows-at, head-of-plan, head-there}
@@ -78,7 +80,8 @@ reads-by k v g c l e = ⊎-elim absent there (or-cases (eqZ v (negsuc 0) && (eqZ
         rw z tt
 
     signed : (a b d : Bool) → ref v < VARIABLES
-        → Reads (cond a (head-guard-by v (pos 1) c) (cond b (head-guard-by v (pos 2) c) (cond d (head-guard-by v (pos 3) c) (head-guard-by v (pos 0) c))))
+        → Reads (cond a (head-guard-by v (pos 1) c) (cond b (head-guard-by v (pos 2) c) (cond d (head-guard-by v (pos 3) c)
+        (head-guard-by v (pos 0) c))))
     signed true b d h = h
     signed false true d h = h
     signed false false true h = h
@@ -111,7 +114,8 @@ module _ {ns : List ℤ} {k : Counts} (x : Examined ns k) (h : ℕ) (l : h < k .
       (every-at (head-fits k) (head-rows ns k) (passes x .heads) h (subst (λ n. h < n) (sym (head-rows-length ns k)) l) [])
 
   -- what it names is there
-  pub head-names : (head-of ns (heads-at k) h .source < STATES) × Reads (head-of ns (heads-at k) h .guard) × (head-of ns (heads-at k) h .transition < TRANSITIONS)
+  pub head-names : (head-of ns (heads-at k) h .source < STATES) × Reads (head-of ns (heads-at k) h .guard)
+      × (head-of ns (heads-at k) h .transition < TRANSITIONS)
   head-names = head-said k (row HEAD-ROW (heads-at k) h ns) (counts-sized x .states) (counts-sized x .vars) fits
 
   -- it is the head of this number of the plan

@@ -20,7 +20,8 @@ use Rattle.plan_rows.proofs.Rows.{heads-length}
 use Rattle.choice.specs.Choice.{seen}
 use Rattle.plan_choice.specs.Heads.{Examined, head-of, picked, Picks, Chose}
 use Rattle.plan_choice.proofs.Facts.{counts-sized, head-is}
-use Rattle.plan_choice.proofs.Thin.{gone-after, gone-hit, gone-none, with-rest, rest-off, rest-clash, rest-take, rest-end, picked-more, named-more}
+use Rattle.plan_choice.proofs.Thin.{gone-after, gone-hit, gone-none, with-rest, rest-off}
+use Rattle.plan_choice.proofs.Thin.{rest-clash, rest-take, rest-end, picked-more, named-more}
 
 -- after h heads: the chosen so far, with what the rest adds, are the chosen of all
 pub record Choosing (ns : List ℤ) (base heads e : ℕ) (u : State) (h : ℕ) (picks : List ℕ) (count : ℕ) : Type 0 where
@@ -43,7 +44,8 @@ picked-at f picks count j d l q =
 pub picked-long : {A : Type 0} (f : ℕ → A) (picks : List ℕ) (count : ℕ) → count ≤ length picks → length (map f (take count picks)) ≡ count
 picked-long f picks count l = length-map (take count picks) f ∙ length-take-le count picks l
 
-module _ {ns : List ℤ} {k : Counts} (x : Examined ns k) {base e : ℕ} (b : base ≡ heads-at k) {u : State} {h : ℕ} {picks : List ℕ} {count : ℕ}
+module _ {ns : List ℤ} {k : Counts} (x : Examined ns k) {base e : ℕ}
+    (b : base ≡ heads-at k) {u : State} {h : ℕ} {picks : List ℕ} {count : ℕ}
     (w : Choosing ns base (k .heads) e u h picks count) where
   long : length (plan-by ns .heads) ≡ k .heads
   long = subst (λ q. length (plan-by ns .heads) ≡ q .heads) (sym (x .counted)) (heads-length ns)
@@ -53,7 +55,8 @@ module _ {ns : List ℤ} {k : Counts} (x : Examined ns k) {base e : ℕ} (b : ba
     within = omega (arith, long, l)
 
     is-head : getD (plan-by ns .heads) h (head-of ns base h) ≡ head-of ns base h
-    is-head = subst (λ a. getD (plan-by ns .heads) h (head-of ns a h) ≡ head-of ns a h) (sym b) (head-is x h l (head-of ns (heads-at k) h))
+    is-head = subst (λ a. getD (plan-by ns .heads) h (head-of ns a h) ≡ head-of ns a h) (sym b) (head-is x h l (head-of ns
+        (heads-at k) h))
 
     room : count < TRANSITIONS
     room = omega (arith, counts-sized x .heads, w .few, l)
@@ -101,9 +104,11 @@ module _ {ns : List ℤ} {k : Counts} (x : Examined ns k) {base e : ℕ} (b : ba
               let q′ : j < count = omega (arith, q, picked-long (head-of ns base) picks count (omega (arith, in-array))) in
               rw (picked-at (head-of ns base) picks count j (head-of ns base 0) (omega (arith, in-array)) q′) (m j q′)
 
-  pub choosing-end : k .heads ≤ h → h ≤ k .heads → {active : List Bool} {vars : List ℤ} → seen active vars ≡ u → Chose ns k e active vars count picks
+  pub choosing-end : k .heads ≤ h → h ≤ k .heads → {active : List Bool} {vars : List ℤ} → seen active vars ≡ u
+      → Chose ns k e active vars count picks
   choosing-end l g {active} {vars} v = record {
     is = subst (λ a. picked ns a count picks ≡ chosen-heads (plan-by ns) e (seen active vars)) b
-        (sym (rest-end e u (plan-by ns .heads) h (picked ns base count picks) (omega (arith, long, l))) ∙ w .owes ∙ ap (chosen-heads (plan-by ns) e) (sym v));
+        (sym (rest-end e u (plan-by ns .heads) h (picked ns base count picks) (omega (arith, long, l))) ∙ w .owes
+        ∙ ap (chosen-heads (plan-by ns) e) (sym v));
     stands = record { named = w .named; few = omega (arith, w .few, g, counts-sized x .heads); size = w .size };
   }

@@ -63,10 +63,12 @@ module _ (ns : List ℤ) (at e : ℕ) (u : State) where
   unfolding head-enabled
   off-trigger q n = rw (ne-eqb (head-at ns at .trigger) e (λ z. n (q ∙ trigger-is ns at ∙ z)))
 
-  pub off-source : {s : ℕ} → s ≡ ref (getD ns (at + 1) (pos 0)) → getD (u .active) s false ≡ false → false ≡ head-enabled e u (head-at ns at)
+  pub off-source : {s : ℕ} → s ≡ ref (getD ns (at + 1) (pos 0)) → getD (u .active) s false ≡ false
+      → false ≡ head-enabled e u (head-at ns at)
   unfolding head-enabled is-active
   off-source {s} q n =
-      let m : getD (u .active) (head-at ns at .source) false ≡ false = subst (λ x. getD (u .active) x false ≡ false) (q ∙ source-is ns at) n in
+      let m : getD (u .active) (head-at ns at .source) false ≡ false = subst (λ x. getD (u .active) x false ≡ false) (q
+      ∙ source-is ns at) n in
       rw m (sym (and-false (eqb (head-at ns at .trigger) e)))
 
   pub on-guard : {t s : ℕ} {g : Guard} {b : Bool} (w : State) → t ≡ ref (getD ns (at + 2) (pos 0)) → t ≡ e
@@ -89,7 +91,8 @@ module _ (ns : List ℤ) (at other : ℕ) where
   apart p q l = rw (lt-leb (head-at ns at .first) (head-at ns other .last) (omega (arith, p ∙ last-is ns other, q ∙ first-is ns at, l)))
 
   pub meeting : {a b c d : ℕ} → a ≡ ref (getD ns (other + 7) (pos 0)) → b ≡ ref (getD ns (at + 6) (pos 0)) → b ≤ a
-      → c ≡ ref (getD ns (other + 6) (pos 0)) → d ≡ ref (getD ns (at + 7) (pos 0)) → leb c d ≡ spans-meet (head-at ns at) (head-at ns other)
+      → c ≡ ref (getD ns (other + 6) (pos 0)) → d ≡ ref (getD ns (at + 7) (pos 0))
+      → leb c d ≡ spans-meet (head-at ns at) (head-at ns other)
   unfolding spans-meet
   meeting p q l r s =
       rw (

@@ -81,7 +81,14 @@ module _ (e : ℕ) (u : State) (all : List Head) (i : ℕ) (d h : Head) (l : i <
         → with-rest e u (drop (i + 1) all) (ps ++ (h ∷ [])) ≡ with-rest e u (drop i all) ps
     unfolding with-rest keep
     rest-take m =
-        rw (here, f, by-meeting (gone-after [] ps) h (keep (head-enabled e u) (drop (i + 1) all)) false m, gone-snoc [] ps h, append-assoc)
+        rw (
+          here,
+          f,
+          by-meeting (gone-after [] ps) h (keep (head-enabled e u) (drop
+              (i + 1) all)) false m,
+          gone-snoc [] ps h,
+          append-assoc,
+        )
 
 pub rest-end : (e : ℕ) (u : State) (all : List Head) (i : ℕ) (ps : List Head) → length all ≤ i → with-rest e u (drop i all) ps ≡ ps
 unfolding with-rest keep thin-heads

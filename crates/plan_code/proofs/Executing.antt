@@ -21,7 +21,8 @@ use Rattle.meaning.specs.Steps.{Res, ok, refuse, Step, bind, _then_, require}
 use Rattle.meaning.specs.Chart.{no-var}
 use Rattle.meaning.specs.Tree.{var-row}
 use Rattle.meaning.specs.Effects.{mark-left, mark-entered, act-on, act-var, perform, store-in}
-use Rattle.meaning.specs.Widget.{Ctx, ENTRY, is-active, slot, is-empty, is-filled, set-active, set-slot, change, written, emit, numbers, left}
+use Rattle.meaning.specs.Widget.{Ctx, ENTRY, is-active, slot, is-empty, is-filled}
+use Rattle.meaning.specs.Widget.{set-active, set-slot, change, written, emit, numbers, left}
 use Rattle.meaning.specs.Machine.{Mach, passing, go-on, on-if, holds-it, exec-now}
 use Rattle.meaning.specs.Value.{VAR-ROW, var-by}
 use Rattle.meaning.specs.WellFormed.{SIX, counts-of, plan-by, well-formed}
@@ -43,7 +44,8 @@ unfolding moved-by go-on said
 said-moves zero k = refl
 said-moves (suc n) k = refl
 
-module _ {vs : List VarRow} {a : ℤ} {before after : Lent} {at : ℕ} {w : Went} {r : Moved} (e : r ≡ record { number = w .number; at = w .at; over = 0 }) where
+module _ {vs : List VarRow} {a : ℤ} {before after : Lent} {at : ℕ} {w : Went} {r : Moved}
+    (e : r ≡ record { number = w .number; at = w .at; over = 0 }) where
   effect : {i : Instr} (x : Instr) → i ≡ x → (D : Step Ctx) → ((k : Ctx) → exec-now vs a x k ≡ go-on (D k)) → Did D before at w after
       → (w .number ≡ 0 → length (after .slots) ≡ length (before .slots)) → Execs vs a i before at r after
   unfolding moved went
@@ -69,7 +71,8 @@ module _ {vs : List VarRow} {a : ℤ} {before after : Lent} {at : ℕ} {w : Went
   unfolding exec-now
   leaves {i} {s} {p} q d h = effect (go-out s p) q (mark-left p s) (λ k. refl) d h
 
-  pub acts : {i : Instr} {x : Act} (b : VarRow) → i ≡ does x → ((y : ℤ) → act-on b y x ≡ perform vs y x) → Did (act-on b a x) before at w after
+  pub acts : {i : Instr} {x : Act} (b : VarRow) → i ≡ does x → ((y : ℤ) → act-on b y x ≡ perform vs y x)
+      → Did (act-on b a x) before at w after
       → after .slots ≡ before .slots → Execs vs a i before at r after
   unfolding exec-now
   acts {i} {x} b q f d h =
@@ -84,13 +87,15 @@ left-long : (p : Slot) (s : ℕ) (k : Ctx) → Long (length (k .state .slots)) (
 unfolding Long mark-left emit _then_ bind require written change store-in set-active set-slot
 left-long p s k = go p (leb ENTRY (k .room))
   where
-    go : (p : Slot) (b : Bool) → Long (length (k .state .slots)) (bind (bind (require 11 b k) (written (numbers (left s)))) (change (λ u. store-in p s (set-active s false u))))
+    go : (p : Slot) (b : Bool) → Long (length (k .state .slots)) (bind (bind (require 11 b k) (written (numbers (left s))))
+        (change (λ u. store-in p s (set-active s false u))))
     go empty true = refl
     go (holds q) true = length-set (k .state .slots) q (pos s)
     go p false = tt
 
 pub left-slots : (p : Slot) (s : ℕ) {a a₁ : List Bool} {sl sl₁ t t₁ : List ℤ} {at : ℕ} {w : Went}
-    → ((k : Lent) → Did (mark-left p s) (with-active a (with-slots sl (with-trace t k))) at w (with-active a₁ (with-slots sl₁ (with-trace t₁ k))))
+    → ((k : Lent) → Did (mark-left p s) (with-active a (with-slots sl (with-trace t k))) at w (with-active a₁ (with-slots sl₁
+    (with-trace t₁ k))))
     → w .number ≡ 0 → length sl₁ ≡ length sl
 unfolding Long went ctx tracing
 left-slots p s {a} {a₁} {sl} {sl₁} {t} {t₁} {at} {w} d z =
@@ -122,12 +127,15 @@ getD-any (x ∷ xs) zero d e l = refl
 getD-any (x ∷ xs) (suc i) d e l = getD-any xs i d e (omega arith)
 
 -- what stands in a slot that is there
-slot-there : (k : Lent) (s : ℕ) → s < STATES → Slotted (k .slots) → placeOf (getD (k .slots) s (pos 0)) ≡ placeOf (getD (k .slots) s (negsuc 0))
+slot-there : (k : Lent) (s : ℕ) → s < STATES → Slotted (k .slots)
+    → placeOf (getD (k .slots) s (pos 0)) ≡ placeOf (getD (k .slots) s (negsuc 0))
 slot-there k s h g = ap placeOf (getD-any (k .slots) s (pos 0) (negsuc 0) (omega (arith, h, g)))
 
-module _ {vs : List VarRow} {a : ℤ} {k : Lent} {at : ℕ} {b : Bool} {n : ℕ} {r : Moved} (e : r ≡ record { number = 0; at = at; over = cond b 0 n })
+module _ {vs : List VarRow} {a : ℤ} {k : Lent} {at : ℕ} {b : Bool} {n : ℕ} {r : Moved}
+    (e : r ≡ record { number = 0; at = at; over = cond b 0 n })
     (l : at ≤ length (k .trace)) (m : n ≤ INSTRUCTIONS) where
-  test : {i : Instr} (x : Instr) → i ≡ x → (c : Bool) → b ≡ c → (exec-now vs a x (ctx k at) ≡ on-if c n (ctx k at)) → Execs vs a i k at r k
+  test : {i : Instr} (x : Instr) → i ≡ x → (c : Bool) → b ≡ c → (exec-now vs a x (ctx k at) ≡ on-if c n (ctx k at))
+      → Execs vs a i k at r k
   unfolding moved
   test {i} y p c q f =
       let m₀ : Moved = record { number = 0; at = at; over = cond b 0 n } in
@@ -145,10 +153,12 @@ module _ {vs : List VarRow} {a : ℤ} {k : Lent} {at : ℕ} {b : Bool} {n : ℕ}
   unfolding exec-now is-active ctx tracing
   skips-out {i} {s} p q = test (skip-out s n) p (getD (k .active) s false) q refl
 
-  pub skips-empty : {i : Instr} {s : ℕ} → i ≡ skip-empty s n → s < STATES → Slotted (k .slots) → b ≡ is-filled (placeOf (getD (k .slots) s (pos 0)))
+  pub skips-empty : {i : Instr} {s : ℕ} → i ≡ skip-empty s n → s < STATES → Slotted (k .slots)
+      → b ≡ is-filled (placeOf (getD (k .slots) s (pos 0)))
       → Execs vs a i k at r k
   unfolding exec-now slot ctx tracing
-  skips-empty {i} {s} p h g q = test (skip-empty s n) p (is-filled (placeOf (getD (k .slots) s (negsuc 0)))) (q ∙ ap is-filled (slot-there k s h g)) refl
+  skips-empty {i} {s} p h g q = test (skip-empty s n) p (is-filled (placeOf (getD (k .slots) s (negsuc 0)))) (q
+      ∙ ap is-filled (slot-there k s h g)) refl
 
   pub skips-full : {i : Instr} {s : ℕ} {f : Bool} → i ≡ skip-full s n → s < STATES → Slotted (k .slots) → b ≡ not f
       → f ≡ is-filled (placeOf (getD (k .slots) s (pos 0))) → Execs vs a i k at r k
@@ -157,7 +167,8 @@ module _ {vs : List VarRow} {a : ℤ} {k : Lent} {at : ℕ} {b : Bool} {n : ℕ}
       test (skip-full s n) p (is-empty (placeOf (getD (k .slots) s (negsuc 0))))
       (q ∙ ap not (u ∙ ap is-filled (slot-there k s h g)) ∙ not-filled (placeOf (getD (k .slots) s (negsuc 0)))) refl
 
-  pub skips-not : {i : Instr} {s d : ℕ} → i ≡ skip-not s d n → s < STATES → Slotted (k .slots) → b ≡ holds-it d (placeOf (getD (k .slots) s (pos 0)))
+  pub skips-not : {i : Instr} {s d : ℕ} → i ≡ skip-not s d n → s < STATES → Slotted (k .slots)
+      → b ≡ holds-it d (placeOf (getD (k .slots) s (pos 0)))
       → Execs vs a i k at r k
   unfolding exec-now slot ctx tracing
   skips-not {i} {s} {d} p h g q =
@@ -188,7 +199,8 @@ module _ (ns : List ℤ) (f : well-formed ns ≡ true) (v : ℕ) (l : v < counts
   pub row-there : SIX + (v + 1) * VAR-ROW ≤ length ns
   row-there = var-there ns (counts-of ns) (passes (record { formed = f; counted = refl }) .whole) v l
 
-  pub row-acts : {r : VarRow} (x : Act) → r ≡ var-by (row VAR-ROW SIX v ns) → act-var x ≡ v → (a : ℤ) → act-on r a x ≡ perform (plan-by ns .vars) a x
+  pub row-acts : {r : VarRow} (x : Act) → r ≡ var-by (row VAR-ROW SIX v ns) → act-var x ≡ v → (a : ℤ)
+      → act-on r a x ≡ perform (plan-by ns .vars) a x
   unfolding perform var-row
   row-acts {r} x q e a = ap (λ y. act-on y a x) (q ∙ sym (var-of-plan ns v no-var l) ∙ ap (λ i. getD (plan-by ns .vars) i no-var) (sym e))
 

@@ -1,4 +1,5 @@
--- What the instructions of a plan that was examined name (01, "The plan"): from the test of their numbers, for each instruction of a block;
+-- What the instructions of a plan that was examined name
+-- (01, "The plan"): from the test of their numbers, for each instruction of a block;
 -- and that the start block and the block of each head are blocks of the plan. Assumes nothing.
 use mathlib.Core.Path.{_∙_, _≡_, ap, refl, subst, sym}
 use Prim.Native.Nat.{_+_, _-_, _*_, _<_, _≤_, suc, zero, ℕ}
@@ -20,8 +21,10 @@ use Rattle.meaning.specs.Lists.{concat-map}
 use Rattle.meaning.specs.Value.{count-fits, num}
 use Rattle.meaning.specs.declared.plan.Counts.{Counts}
 use Rattle.meaning.specs.declared.plan.Instr.{Instr}
-use Rattle.meaning.specs.WellFormed.{FORMS, Field, HEAD-ROW, INSTR-ROW, a-parent, a-skip, a-state, form, unused, counts-of, heads-at, code-at, head-rows}
-use Rattle.meaning.specs.WellFormed.{head-by, instr-of, instr-act-by, instr-by, plan-by, all-blocks-fill, blocks-fill, field-fits, form-fits, instr-fits}
+use Rattle.meaning.specs.WellFormed.{FORMS, Field, HEAD-ROW, INSTR-ROW, a-parent, a-skip}
+use Rattle.meaning.specs.WellFormed.{a-state, form, unused, counts-of, heads-at, code-at, head-rows}
+use Rattle.meaning.specs.WellFormed.{head-by, instr-of, instr-act-by, instr-by, plan-by}
+use Rattle.meaning.specs.WellFormed.{all-blocks-fill, blocks-fill, field-fits, form-fits, instr-fits}
 use Rattle.meaning.specs.WellFormed.{left-after-each, left-in-blocks, code-fits, no-form, well-formed}
 use Rattle.plan_rows.specs.Rows.{row, Sized}
 use Rattle.plan_rows.proofs.Rows.{code-length, head-rows-length, head-rows-at, instr-of-plan, instr-there}
@@ -73,15 +76,24 @@ module _ (k : Counts) (sized : Sized k) (left : ℕ) (near : left ≤ INSTRUCTIO
   unfolding form-fits field-fits instr-of instr-act-by
   code-named zero e = absurd (false≢true e)
   code-named (suc zero) e = state (and-left _ _ e)
-  code-named (suc (suc zero)) e = (state (and-left _ _ e), parent (k .states) (num row 2) (sized .states) (second a-state a-parent unused e))
+  code-named (suc (suc zero)) e = (
+    state (and-left _ _ e),
+    parent (k .states) (num row 2) (sized .states)
+        (second a-state a-parent unused e),
+  )
   code-named (suc (suc (suc zero))) e = (state (and-left _ _ e), skips a-state e)
   code-named (suc (suc (suc (suc zero)))) e = (state (and-left _ _ e), skips a-state e)
   code-named (suc (suc (suc (suc (suc zero))))) e = (state (and-left _ _ e), skips a-state e)
-  code-named (suc (suc (suc (suc (suc (suc zero)))))) e = (state (and-left _ _ e), skip left (num row 3) near (third a-state a-state a-skip e))
+  code-named (suc (suc (suc (suc (suc (suc zero)))))) e = (
+    state (and-left _ _ e),
+    skip left (num row 3) near
+        (third a-state a-state a-skip e),
+  )
   code-named (suc (suc (suc (suc (suc (suc (suc zero))))))) e = ltb-true (ref (num row 1)) (k .vars) (and-left _ _ e)
   code-named (suc (suc (suc (suc (suc (suc (suc (suc zero)))))))) e = ltb-true (ref (num row 1)) (k .vars) (and-left _ _ e)
   code-named (suc (suc (suc (suc (suc (suc (suc (suc (suc zero))))))))) e = ltb-true (ref (num row 1)) (k .vars) (and-left _ _ e)
-  code-named (suc (suc (suc (suc (suc (suc (suc (suc (suc (suc zero)))))))))) e = event (k .events) (num row 1) (sized .events) (and-left _ _ e)
+  code-named (suc (suc (suc (suc (suc (suc (suc (suc (suc (suc zero)))))))))) e = event (k .events) (num row 1) (sized .events)
+      (and-left _ _ e)
   code-named (suc (suc (suc (suc (suc (suc (suc (suc (suc (suc (suc zero))))))))))) e = tt
   code-named (suc (suc (suc (suc (suc (suc (suc (suc (suc (suc (suc (suc c)))))))))))) e = absurd (false≢true e)
 
@@ -104,7 +116,13 @@ row-named : (k : Counts) → Sized k → (left : ℕ) → left ≤ INSTRUCTIONS 
     → Runs (k .vars) (instr-by (take INSTR-ROW l))
 unfolding instr-fits instr-by
 row-named k s left near l e =
-    rw (in-row INSTR-ROW 0 l (omega arith), in-row INSTR-ROW 1 l (omega arith), in-row INSTR-ROW 2 l (omega arith), in-row INSTR-ROW 3 l (omega arith))
+    rw (
+      in-row INSTR-ROW 0 l (omega arith),
+      in-row INSTR-ROW 1 l (omega arith),
+      in-row INSTR-ROW 2 l
+          (omega arith),
+      in-row INSTR-ROW 3 l (omega arith),
+    )
     (any-code-named k s left near l (num l 0) e)
 
 -- ---- the instructions of a block, one by one
@@ -148,9 +166,11 @@ module _ {ns : List ℤ} {k : Counts} {start len : ℕ} (b : Block ns k start le
       let z : (code-at k + start * INSTR-ROW) + j * INSTR-ROW ≡ base + i * INSTR-ROW = omega (arith, p, l) in
       let f = in-block k len (drop (code-at k + start * INSTR-ROW) ns) (b .fits) j q in
       let g : instr-fits k (len - j - 1) (drop (base + i * INSTR-ROW) ns) ≡ true =
-      subst (λ m. instr-fits k (len - j - 1) m ≡ true) (drop-drop (j * INSTR-ROW) (code-at k + start * INSTR-ROW) ns ∙ ap (λ m. drop m ns) z) f in
+      subst (λ m. instr-fits k (len - j - 1) m ≡ true) (drop-drop (j * INSTR-ROW) (code-at k + start * INSTR-ROW) ns
+      ∙ ap (λ m. drop m ns) z) f in
       subst (λ c. Runs (c .vars) ins) (x .counted)
-      (subst (Runs (k .vars)) (sym e) (row-named k (counts-sized x) (len - j - 1) (omega (arith, b .within, counts-sized x .instructions)) _ g))
+      (subst (Runs (k .vars)) (sym e) (row-named k (counts-sized x) (len - j - 1) (omega
+      (arith, b .within, counts-sized x .instructions)) _ g))
 
 -- ---- the blocks of a plan
 
@@ -159,7 +179,8 @@ lengths rows = concat-map left-after-each (map (λ r. ref (num r 9)) rows)
 
 heads-blocks : (k : Counts) (ns : List ℤ) (n at : ℕ) (rows : List (List ℤ)) → blocks-fill n at rows ≡ true
     → code-fits k (lengths rows) (drop (code-at k + at * INSTR-ROW) ns) ≡ true → (h : ℕ) → h < length rows
-    → (code-fits k (left-after-each (ref (num (getD rows h []) 9))) (drop (code-at k + ref (num (getD rows h []) 8) * INSTR-ROW) ns) ≡ true)
+    → (code-fits k (left-after-each (ref (num (getD rows h []) 9))) (drop (code-at k + ref (num
+    (getD rows h []) 8) * INSTR-ROW) ns) ≡ true)
     × (ref (num (getD rows h []) 8) + ref (num (getD rows h []) 9) ≤ n)
 unfolding lengths concat-map
 heads-blocks k ns n at [] e f h l = absurd (omega arith)

@@ -59,7 +59,8 @@ drop-take (suc n) (suc m) (x ∷ xs) = let q : suc m - suc n ≡ m - n = omega a
 
 module _ {A : Type 0} (code : List A) (end i : ℕ) where
   -- the instructions from i up to the block's end
-  pub left-first : (d : A) → i < end → i < length code → take (end - i) (drop i code) ≡ getD code i d ∷ take (end - (i + 1)) (drop (i + 1) code)
+  pub left-first : (d : A) → i < end → i < length code
+      → take (end - i) (drop i code) ≡ getD code i d ∷ take (end - (i + 1)) (drop (i + 1) code)
   left-first d l m =
       let q : end - i ≡ suc (end - (i + 1)) = omega arith in
       rw (q, drop-cons code i d m, add-one i)
@@ -78,7 +79,8 @@ abbrev pub rest : List VarRow → ℤ → List Instr → ℕ → ℕ → Step Ct
 rest vs a code end i = run-block vs a (take (end - i) (drop i code))
 
 -- at i: what is left of the block is still owed
-pub record Walking (vs : List VarRow) (a : ℤ) (code : List Instr) (end from : ℕ) (before : Lent) (at i : ℕ) (after : Lent) (next : ℕ) : Type 0 where
+pub record Walking (vs : List VarRow) (a : ℤ) (code : List Instr) (end from : ℕ) (before : Lent) (at i : ℕ) (after : Lent)
+    (next : ℕ) : Type 0 where
   pub owes : Owes (rest vs a code end from) before at (rest vs a code end i) after next
   pub onward : from ≤ i
   pub slotted : length (after .slots) ≡ length (before .slots)
@@ -90,7 +92,8 @@ module _ {vs : List VarRow} {a : ℤ} {code : List Instr} {end from : ℕ} {befo
   module _ {i : ℕ} {after : Lent} {next : ℕ} (w : Walking vs a code end from before at i after next) where
     pub walking-end : end ≤ i → Ran (rest vs a code end from) before at (record { number = 0; at = next }) after
     walking-end l = record {
-      did = going.owes-none (w .owes) (ap (λ is. run-block vs a is (ctx after next)) (left-none code end i l) ∙ block-none vs a (ctx after next));
+      did = going.owes-none (w .owes) (ap (λ is. run-block vs a is (ctx after next)) (left-none code end i l)
+          ∙ block-none vs a (ctx after next));
       slotted = λ z. w .slotted;
     }
 
@@ -122,7 +125,8 @@ module _ {vs : List VarRow} {a : ℤ} {code : List Instr} {end from : ℕ} {befo
       walking-stop z = record {
         did = record {
           does = λ h.
-              sym (moved-no (r .number) (r .over) (ctx after₂ (r .at)) z further) ∙ ap (λ x. bind x further) (d .does (w .owes .whole ∙ h))
+              sym (moved-no (r .number) (r .over) (ctx after₂ (r .at)) z further)
+              ∙ ap (λ x. bind x further) (d .does (w .owes .whole ∙ h))
               ∙ sym turn ∙ w .owes .gives h;
           fits = d .fits;
           kept = d .kept ∙ w .owes .kept;
@@ -141,7 +145,8 @@ module _ {vs : List VarRow} {a : ℤ} {code : List Instr} {end from : ℕ} {befo
       walking-on z = record {
         owes = record {
           gives = λ h.
-              here ∙ sym (moved-on (r .number) (r .over) (ctx after₂ (r .at)) z further) ∙ ap (λ x. bind x further) (d .does (w .owes .whole ∙ h))
+              here ∙ sym (moved-on (r .number) (r .over) (ctx after₂ (r .at)) z further)
+              ∙ ap (λ x. bind x further) (d .does (w .owes .whole ∙ h))
               ∙ sym turn ∙ w .owes .gives h;
           fits = d .fits;
           kept = d .kept ∙ w .owes .kept;
@@ -152,7 +157,8 @@ module _ {vs : List VarRow} {a : ℤ} {code : List Instr} {end from : ℕ} {befo
       }
 
 -- a block from its start on, by its length
-pub block-by : (vs : List VarRow) (a : ℤ) (code : List Instr) (end start len : ℕ) {before : Lent} {at : ℕ} {r : Went} {after : Lent} → end ≡ start + len
+pub block-by : (vs : List VarRow) (a : ℤ) (code : List Instr)
+    (end start len : ℕ) {before : Lent} {at : ℕ} {r : Went} {after : Lent} → end ≡ start + len
     → Ran (rest vs a code end start) before at r after → Ran (run-block vs a (take len (drop start code))) before at r after
 block-by vs a code end start len {before} {at} {r} {after} e d =
     let q : end - start ≡ len = omega arith in

@@ -1,4 +1,5 @@
--- What running the instructions of a plan asks and says (01, "The plan"): what an instruction names, what one instruction gives over what is
+-- What running the instructions of a plan asks and says
+-- (01, "The plan"): what an instruction names, what one instruction gives over what is
 -- lent, and a block of a plan that was examined. Assumes nothing.
 use mathlib.Core.Path.{_≡_}
 use Prim.Native.Nat.{ℕ, zero, suc, _+_, _*_, _<_, _≤_}

@@ -97,6 +97,7 @@ module _ (n : ℕ) (vs : List VarRow) (e : ℕ) (u : State) where
           unfolding plan-own plan-slots-fit is-active
           own-unused r = rw (a, marks-are f, v, slots-are s, rest-are r)
 
-          pub own-rest : every (eqZ (negsuc 0)) (drop m (u .slots)) ≡ true → {b : Bool} {i : ℕ} → i ≡ e → b ≡ queue-fits i (u .queue) → b ≡ plan-own n vs e u
+          pub own-rest : every (eqZ (negsuc 0)) (drop m (u .slots)) ≡ true → {b : Bool} {i : ℕ} → i ≡ e
+              → b ≡ queue-fits i (u .queue) → b ≡ plan-own n vs e u
           unfolding plan-own plan-slots-fit is-active
           own-rest r h q = rw (a, marks-are f, v, slots-are s, rest-are r) (q ∙ ap (λ x. queue-fits x (u .queue)) h)

@@ -27,7 +27,8 @@ use Rattle.plan_code.proofs.Named.{head-block as head-block-of}
 
 -- ---- one head, whose row begins at a place
 
-module _ (ns : List ℤ) (at : ℕ) (arg : ℤ) {before : Lent} {from : ℕ} {w : Went} {after : Lent} {t : ℕ} (e : t ≡ ref (getD ns (at + 0) (pos 0)))
+module _ (ns : List ℤ) (at : ℕ) (arg : ℤ) {before : Lent} {from : ℕ} {w : Went} {after : Lent} {t : ℕ} (e : t ≡ ref (getD ns
+    (at + 0) (pos 0)))
     (d : Did (emit (taken t)) before from w after) where
   took : Did (emit (taken (head-at ns at .transition))) before from w after
   took = subst (λ x. Did (emit (taken x)) before from w after) (e ∙ transition-is ns at) d
@@ -60,23 +61,34 @@ module _ {p : Plan} {arg : ℤ} {hs : List Head} {before : Lent} {at : ℕ} wher
     pub firing-end : length hs ≤ j → Ran (each (fire-head p arg) hs) before at (record { number = 0; at = next }) after
     firing-end l = record { did = going.owes-none (w .owes) (going.each-end (fire-head p arg) hs j _ l); slotted = λ z. w .slotted }
 
-    module _ {h : Head} {r : Went} {after₂ : Lent} (l : j < length hs) (e : getD hs j h ≡ h) (d : Ran (fire-head p arg h) after next r after₂) where
+    module _ {h : Head} {r : Went} {after₂ : Lent} (l : j < length hs) (e : getD hs j h ≡ h) (d : Ran
+        (fire-head p arg h) after next r after₂) where
       due : Owes (each (fire-head p arg) hs) before at (fire-head p arg h then each (fire-head p arg) (drop (j + 1) hs)) after next
       due = going.owes-as (fire-head p arg h then each (fire-head p arg) (drop (j + 1) hs)) (w .owes)
-          (sym (going.each-at (fire-head p arg) hs j h _ l ∙ ap (λ y. (fire-head p arg y then each (fire-head p arg) (drop (j + 1) hs)) (ctx after next)) e))
+          (sym (going.each-at (fire-head p arg) hs j h _ l
+          ∙ ap (λ y. (fire-head p arg y then each (fire-head p arg) (drop (j + 1) hs)) (ctx after next)) e))
 
       pub firing-stop : (r .number ≡ 0 → ⊥) → Ran (each (fire-head p arg) hs) before at r after₂
-      firing-stop z = record { did = going.owes-stop (each (fire-head p arg) (drop (j + 1) hs)) due (d .did) z; slotted = λ y. absurd (z y) }
+      firing-stop z = record {
+        did = going.owes-stop (each (fire-head p arg) (drop (j + 1) hs)) due
+            (d .did) z;
+        slotted = λ y. absurd (z y);
+      }
 
       pub firing-on : r .number ≡ 0 → Firing p arg hs before at (j + 1) after₂ (r .at)
-      firing-on z = record { owes = going.owes-on (each (fire-head p arg) (drop (j + 1) hs)) due (d .did) z; slotted = d .slotted z ∙ w .slotted }
+      firing-on z = record {
+        owes = going.owes-on (each (fire-head p arg) (drop (j + 1) hs)) due
+            (d .did) z;
+        slotted = d .slotted z ∙ w .slotted;
+      }
 
 -- how many fire, and which is the j-th
 module _ (ns : List ℤ) (base : ℕ) {heads count : ℕ} {picks : List ℕ} (f : Picks heads count picks) where
   pub fires-long : length (picked ns base count picks) ≡ count
   fires-long = picked-long (head-of ns base) picks count (omega (arith, f .few, f .size))
 
-  pub fires-at : (j : ℕ) → j < count → getD (picked ns base count picks) j (head-of ns base (getD picks j 0)) ≡ head-of ns base (getD picks j 0)
+  pub fires-at : (j : ℕ) → j < count
+      → getD (picked ns base count picks) j (head-of ns base (getD picks j 0)) ≡ head-of ns base (getD picks j 0)
   fires-at j l = picked-at (head-of ns base) picks count j _ (omega (arith, f .few, f .size)) l
 
 -- ---- head h, where the heads begin at base
@@ -90,12 +102,14 @@ module _ {ns : List ℤ} {k : Counts} (x : Examined ns k) {base : ℕ} (b : base
       let q = e ∙ transition-is ns (base + h * HEAD-ROW) ∙ ap (λ a. head-of ns a h .transition) b in
       omega (arith, q, head-names x h l .2)
 
-  pub block-there : {s n : ℕ} → s ≡ ref (getD ns (base + h * HEAD-ROW + 8) (pos 0)) → n ≡ ref (getD ns (base + h * HEAD-ROW + 9) (pos 0)) → Block ns k s n
+  pub block-there : {s n : ℕ} → s ≡ ref (getD ns (base + h * HEAD-ROW + 8) (pos 0))
+      → n ≡ ref (getD ns (base + h * HEAD-ROW + 9) (pos 0)) → Block ns k s n
   block-there {s} {n} p q =
       let f = ap (λ a. head-of ns a h .start) (sym b) ∙ sym (start-is ns (base + h * HEAD-ROW)) ∙ sym p in
       let g = ap (λ a. head-of ns a h .length) (sym b) ∙ sym (length-is ns (base + h * HEAD-ROW)) ∙ sym q in
       subst (λ m. Block ns k s m) g (subst (λ m. Block ns k m (head-of ns (heads-at k) h .length)) f (head-block-of x h l))
 
-  pub fired-here : (arg : ℤ) {before : Lent} {at : ℕ} {r : Went} {after : Lent} → Ran (fire-head (plan-by ns) arg (head-of ns base h)) before at r after
+  pub fired-here : (arg : ℤ) {before : Lent} {at : ℕ} {r : Went} {after : Lent}
+      → Ran (fire-head (plan-by ns) arg (head-of ns base h)) before at r after
       → Ran (fire-head (plan-by ns) arg (head-of ns (heads-at k) h)) before at r after
   fired-here arg {before} {at} {r} {after} d = subst (λ a. Ran (fire-head (plan-by ns) arg (head-of ns a h)) before at r after) b d

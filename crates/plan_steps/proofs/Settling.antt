@@ -38,7 +38,8 @@ chosen-seen p e u = ap (λ f. thin-heads [] (keep f (p .heads))) (fun-ext (enabl
 
 -- ---- the chosen of a widget
 
-module _ {ns : List ℤ} {k : Counts} {e : ℕ} {a : List Bool} {vs : List ℤ} {count : ℕ} {picks : List ℕ} (h : Chose ns k e a vs count picks) where
+module _ {ns : List ℤ} {k : Counts} {e : ℕ} {a : List Bool} {vs : List ℤ} {count : ℕ} {picks : List ℕ}
+    (h : Chose ns k e a vs count picks) where
   pub chose-here : (sl q t : List ℤ) (at : ℕ)
       → chosen-heads (plan-by ns) e (ctx (record { active = a; slots = sl; vars = vs; queue = q; trace = t }) at .state)
       ≡ picked ns (heads-at k) count picks
@@ -47,12 +48,14 @@ module _ {ns : List ℤ} {k : Counts} {e : ℕ} {a : List Bool} {vs : List ℤ} 
 
   -- one step fires them all
   pub step-here : (arg : ℤ) {sl q t : List ℤ} {at : ℕ} {w : Went} {after : Lent}
-      → Ran (each (fire-head (plan-by ns) arg) (picked ns (heads-at k) count picks)) (record { active = a; slots = sl; vars = vs; queue = q; trace = t }) at w after
+      → Ran (each (fire-head (plan-by ns) arg) (picked ns (heads-at k) count picks))
+      (record { active = a; slots = sl; vars = vs; queue = q; trace = t }) at w after
       → Ran (plan-step (plan-by ns) e arg) (record { active = a; slots = sl; vars = vs; queue = q; trace = t }) at w after
   unfolding plan-step look
   step-here arg {sl} {q} {t} {at} d = record {
     did = going.same-step (plan-step (plan-by ns) e arg)
-        (ap (λ hs. each (fire-head (plan-by ns) arg) hs (ctx (record { active = a; slots = sl; vars = vs; queue = q; trace = t }) at)) (sym (chose-here sl q t at)))
+        (ap (λ hs. each (fire-head (plan-by ns) arg) hs (ctx
+        (record { active = a; slots = sl; vars = vs; queue = q; trace = t }) at)) (sym (chose-here sl q t at)))
         (d .did);
     slotted = d .slotted;
   }
@@ -110,16 +113,19 @@ module _ {ns : List ℤ} {k : Counts} {before : Lent} {at turns : ℕ} {a : List
   chosen-now = chose-here g sl q t next
 
   pub settling-end : count ≡ 0
-      → Ran (plan-settle (plan-by ns)) before at (record { number = 0; at = next }) (record { active = a; slots = sl; vars = vs; queue = q; trace = t })
+      → Ran (plan-settle (plan-by ns)) before at (record { number = 0; at = next })
+      (record { active = a; slots = sl; vars = vs; queue = q; trace = t })
   unfolding here
   settling-end z = record {
-    did = going.owes-none (w .owes) (settled (plan-by ns) here (picked ns (heads-at k) count picks) chosen-now (NULL-STEPS - turns) (long ∙ z));
+    did = going.owes-none (w .owes) (settled (plan-by ns) here (picked ns (heads-at k) count picks) chosen-now
+        (NULL-STEPS - turns) (long ∙ z));
     slotted = λ y. w .slotted;
   }
 
   module _ (z : count ≡ 0 → ⊥) where
     pub settling-full : turns ≡ NULL-STEPS
-        → Ran (plan-settle (plan-by ns)) before at (record { number = 12; at = next }) (record { active = a; slots = sl; vars = vs; queue = q; trace = t })
+        → Ran (plan-settle (plan-by ns)) before at (record { number = 12; at = next })
+        (record { active = a; slots = sl; vars = vs; queue = q; trace = t })
     unfolding went said here
     settling-full e =
         let n : NULL-STEPS - turns ≡ 0 = omega arith in
@@ -136,9 +142,11 @@ module _ {ns : List ℤ} {k : Counts} {before : Lent} {at turns : ℕ} {a : List
         }
 
     module _ (m : turns ≡ NULL-STEPS → ⊥) {r : Went} {after : Lent}
-        (d : Ran (each (fire-head (plan-by ns) (pos 0)) (picked ns (heads-at k) count picks)) (record { active = a; slots = sl; vars = vs; queue = q; trace = t }) next r after) where
+        (d : Ran (each (fire-head (plan-by ns) (pos 0)) (picked ns (heads-at k) count picks))
+        (record { active = a; slots = sl; vars = vs; queue = q; trace = t }) next r after) where
       due : Owes (plan-settle (plan-by ns)) before at
-          (each (fire-head (plan-by ns) (pos 0)) (picked ns (heads-at k) count picks) then plan-settle-in (plan-by ns) (NULL-STEPS - (turns + 1)))
+          (each (fire-head (plan-by ns) (pos 0)) (picked ns (heads-at k) count picks) then plan-settle-in (plan-by ns)
+          (NULL-STEPS - (turns + 1)))
           (record { active = a; slots = sl; vars = vs; queue = q; trace = t }) next
       unfolding here
       due =
@@ -146,7 +154,8 @@ module _ {ns : List ℤ} {k : Counts} {before : Lent} {at turns : ℕ} {a : List
           let n : NULL-STEPS - turns ≡ suc (NULL-STEPS - (turns + 1)) = omega arith in
           going.owes-as _ (w .owes)
           (sym (ap (λ x. plan-settle-in (plan-by ns) x here) n
-          ∙ one-more (plan-by ns) here (picked ns (heads-at k) count picks) chosen-now (λ y. z (sym long ∙ y)) (NULL-STEPS - (turns + 1))))
+          ∙ one-more (plan-by ns) here (picked ns (heads-at k) count picks) chosen-now (λ y. z (sym long
+          ∙ y)) (NULL-STEPS - (turns + 1))))
 
       pub settling-stop : (r .number ≡ 0 → ⊥) → Ran (plan-settle (plan-by ns)) before at r after
       settling-stop y = record {

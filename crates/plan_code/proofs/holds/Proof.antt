@@ -7,10 +7,16 @@ use Rattle.plan_code.proofs.holds.Statement.{statement}
 use Rattle.plan_code.proofs.holds.Tie as tie
 
 returns : tie.Need-returns
-returns c = holds-empty _ (sym (rw (toZ-ofZ (c .before .before .before .fits .x)) at (c .before .before .place-of .ensures)) ∙ c .enum-told .given .1)
+returns c =
+    holds-empty _ (sym
+    (rw (toZ-ofZ (c .before .before .before .fits .x)) at (c .before .before .place-of .ensures)) ∙
+    c .enum-told .given .1)
 
 returns-2 : tie.Need-returns-2
-returns-2 c = holds-at _ (sym (rw (toZ-ofZ (c .before .before .before .before .fits .x)) at (c .before .before .before .place-of .ensures)) ∙ c .before .s .given .1)
+returns-2 c =
+    holds-at _ (sym (rw (toZ-ofZ (c .before .before .before .before .fits .x)) at
+    (c .before .before .before .place-of .ensures)) ∙ c .before .s .given .1)
 
 pub holds-spec : {M : Type 1} → statement M
-holds-spec = tie.close (tie.spec (λ c κs. search needs) (λ c. search needs) (λ c. search needs) returns returns-2)
+holds-spec =
+    tie.close (tie.spec (λ c κs. search needs) (λ c. search needs) (λ c. search needs) returns returns-2)

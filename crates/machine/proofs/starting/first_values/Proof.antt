@@ -20,41 +20,37 @@ Inv-loop plan vars₀ n v₀ vars v = (v ≤ n) × (vars ≡ copied zeros (first
 abbrev μ-loop : tie.MeasureT-loop
 μ-loop plan vars₀ n v₀ vars v = n - v
 
+abbrev start-from-struct-told : tie.After-struct-told Inv-loop μ-loop → tie.Start Inv-loop μ-loop
+start-from-struct-told c = c .before .before .before .before
+
 var-row-requires : tie.Need-var-row-requires Inv-loop μ-loop
 var-row-requires c κs = row-there (c .before .before .pre) _ (c .loop-test .taken)
 
 mul-vars : tie.Need-mul-vars Inv-loop μ-loop
-mul-vars c = omega (arith, counts-sized (c .before .before .before .before .pre) .vars, c .before .before .loop-test .taken)
+mul-vars c = omega (arith, counts-sized (start-from-struct-told c .pre) .vars, c .before .before .loop-test .taken)
 
 array-set-from-vars : tie.Need-array-set-from-vars Inv-loop μ-loop
-array-set-from-vars c = omega (arith, counts-sized (c .before .before .before .before .pre) .vars, c .before .before .loop-test .taken)
+array-set-from-vars c = omega (arith, counts-sized (start-from-struct-told c .pre) .vars, c .before .before .loop-test .taken)
 
 loop-again : tie.Need-loop-again Inv-loop μ-loop
 loop-again c =
     let w = c .before .before .before .loop in
     let r = c .before .var-row in
     let l = c .before .before .loop-test .taken in
-    let m = vars-many (c .before .before .before .before .pre) in
+    let m = vars-many (start-from-struct-told c .pre) in
     let f : SFits w32 (r .result .first) = search needs in (
       omega arith,
-      filled-more (plan-by (c .before .before .before .before .args .plan .now) .vars) (w .vars) (w .v) _ (w .inv .1) (omega (arith, m, l)) (omega (arith, m, counts-sized (c .before .before .before .before .pre) .vars))
-          (toZ-ofZ f ∙ ap (λ x. x .first) (row-is (c .before .before .before .before .pre) _ l (r .ensures))),
+      filled-more (plan-by (start-from-struct-told c .args .plan .now) .vars) (w .vars) (w .v) _ (w .inv .1)
+          (omega (arith, m, l)) (omega (arith, m, counts-sized (start-from-struct-told c .pre) .vars))
+          (toZ-ofZ f ∙ ap (λ x. x .first) (row-is (start-from-struct-told c .pre) _ l (r .ensures))),
     )
 
 returns : tie.Need-returns Inv-loop μ-loop
-returns c = filled-all (plan-by (c .before .before .args .plan .now) .vars) _ (c .before .loop .v) (c .before .loop .inv .1) (omega (arith, vars-many (c .before .before .pre), c .loop-test .left))
+returns c =
+    filled-all (plan-by (c .before .before .args .plan .now) .vars) _ (c .before .loop .v)
+    (c .before .loop .inv .1) (omega (arith, vars-many (c .before .before .pre), c .loop-test .left))
 
 pub first-values-spec : {M : Type 1} → statement M
 first-values-spec =
-    tie.close
-    (tie.spec
-    Inv-loop
-    μ-loop
-    (λ c. (omega arith, refl))
-    var-row-requires
-    mul-vars
-    array-set-from-vars
-    (λ c. omega arith)
-    (λ c. omega arith)
-    loop-again
-    returns)
+    tie.close (tie.spec Inv-loop μ-loop (λ c. (omega arith, refl)) var-row-requires mul-vars
+    array-set-from-vars (λ c. omega arith) (λ c. omega arith) loop-again returns)
