@@ -34,7 +34,7 @@ returns-2 c =
 guard-true-requires : tie.Need-guard-true-requires
 guard-true-requires c κs =
     let a = start-from-guard-at c .args in
-    subst Reads (sym (c .guard-at .ensures ∙ guard-is (a .plan .now) (a .at))) (start-from-guard-at c .pre .2)
+    subst Reads (sym (c .guard-at .ensures)) (start-from-guard-at c .pre .2)
 
 returns-3 : tie.Need-returns-3
 returns-3 c =
@@ -42,7 +42,7 @@ returns-3 c =
     on-guard (a .plan .now) (a .at) _ _ _ (named2-from-guard-true c .before .before .named .ensures)
     (named2-from-guard-true c .before .if1 .left) (named2-from-guard-true c .named2 .ensures)
     (not-false _ (c .before .before .if2 .left))
-    (c .before .guard-at .ensures) refl (c .guard-true .ensures)
+    (c .before .guard-at .ensures ∙ sym (guard-is (a .plan .now) (a .at))) refl (c .guard-true .ensures)
 
 pub enabled-spec : {M : Type 1} → statement M
 enabled-spec =

@@ -10,5 +10,5 @@ returns c = kids-none _ _ _ _ (c .if1 .taken) (c .before .pre .1)
 returns-2 : tie.Need-returns-2
 returns-2 c = kids-left _ _ _ _ _ _ (c .before .if1 .left) (c .goes-on .ensures)
 
-pub kids_within-spec : {M : Type 1} → statement M
-kids_within-spec = tie.close (tie.spec returns (λ c κs. search needs) returns-2)
+pub kids-within-spec : {M : Type 1} → statement M
+kids-within-spec = tie.close (tie.spec returns (λ c κs. search needs) returns-2)
