@@ -138,7 +138,7 @@ fn main() {
         return;
     }
     let mut plan = [0; ROOM];
-    let compiled = engine::compile(&chart, &mut plan);
+    let compiled = engine::plans::compile(&chart, &mut plan);
     let answer = compiled.answer;
     if answer.number != 0 {
         let at = put_refusal(answer, &mut out);
