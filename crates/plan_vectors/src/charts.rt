@@ -29,28 +29,6 @@ fn load(path: &[u8], buffer: &mut [u8]) -> usize
     n
 }
 
-// The file of the numbers beside a chart's file: its last three bytes are num.
-fn beside(path: &[u8], name: &mut [u8]) -> usize
-    ensures { λ r. ⌜ r ≤ length (now (name .exit)) ⌝ }
-{
-    let n = path.len();
-    if name.len() < n {
-        return 0;
-    }
-    let mut i: usize = 0;
-    while i < n {
-        name[i] = path[i];
-        i += 1;
-    }
-    if n < 3 {
-        return n;
-    }
-    name[n - 3] = b'n';
-    name[n - 2] = b'u';
-    name[n - 1] = b'm';
-    n
-}
-
 // The first n numbers of the two are the same, and there are no more in the second.
 fn same(plan: &[i32], n: usize, wanted: &[i32]) -> bool {
     if wanted.len() != n {
@@ -107,16 +85,23 @@ fn report(text: &[u8], wanted: &[i32]) {
     print(b"\n");
 }
 
-// One chart, by its file's name.
-pub fn run_chart(path: &[u8]) {
+// The plan that the argument's file states, one number a line.
+fn wanted_by(argument: usize, wanted: &mut [i32]) -> usize
+    ensures { λ r. ⌜ r ≤ length (now (wanted .exit)) ⌝ }
+{
+    let mut name = io::buffer();
+    let named = os::arg(argument, &mut name);
+    let mut lines = io::large_buffer();
+    let bytes = load(&name[..named], &mut lines);
+    read_numbers(&lines[..bytes], wanted)
+}
+
+// One chart, by its file's name; the argument after it names the file of its plan.
+pub fn run_chart(path: &[u8], argument: usize) {
     let mut text = io::large_buffer();
     let got = load(path, &mut text);
-    let mut name = io::buffer();
-    let named = beside(path, &mut name);
-    let mut lines = [0u8; 131072];
-    let bytes = load(&name[..named], &mut lines);
     let mut wanted = [0i32; ROOM];
-    let n = read_numbers(&lines[..bytes], &mut wanted);
+    let n = wanted_by(argument, &mut wanted);
     print(path);
     report(&text[..got], &wanted[..n]);
 }

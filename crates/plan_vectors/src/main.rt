@@ -1,5 +1,5 @@
 // Plans run and compared (01, "The plan"): the arguments name files of data/. NAME.plan is a plan, one number a line: the program prints its
-// name and the answer that its examination gives. NAME.txt is a chart, and NAME.num beside it the plan that it must give: the program
+// name and the answer that its examination gives. NAME.txt is a chart, and NAME.num, the next argument, the plan that it must give: the program
 // prints the name; answer and count of compiling it; `same` or `differs`, number by number; and the answer with one number less lent than
 // the plan has. A file that cannot be opened prints a dash. The file `stdout` has what must be printed: the table of damaged plans in its
 // order, plans at the edge of each rule, then charts, K of 01 among them.
@@ -54,23 +54,30 @@ fn run_plan(path: &[u8]) {
     report(&buf[..got]);
 }
 
-// A plan or a chart: a chart's file ends in t.
-fn run(path: &[u8]) {
+// The last byte of a file's name, 0 where it has none.
+fn last(path: &[u8]) -> u8 {
     let n = path.len();
     if 0 < n {
-        if path[n - 1] == b't' {
-            run_chart(path);
-            return;
-        }
+        return path[n - 1];
     }
-    run_plan(path);
+    0
 }
 
-// The plan or the chart that an argument names.
+// The plan or the chart that an argument names, by the last letter of its file: .plan, .txt; .num belongs to the chart before it.
 fn run_argument(i: usize) {
     let mut path = io::buffer();
     let n = os::arg(i, &mut path);
-    run(&path[..n]);
+    let letter = last(&path[..n]);
+    if letter == b'm' {
+        return;
+    }
+    if letter == b't' {
+        if i < ROOM {
+            run_chart(&path[..n], i + 1);
+        }
+        return;
+    }
+    run_plan(&path[..n]);
 }
 
 fn main() {
