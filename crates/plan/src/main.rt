@@ -10,8 +10,6 @@ use numbers::reference;
 use pen::put;
 use pen::put_digits;
 use pen::put_numeral;
-ghost use Prim.Native.Nat.{_+_, _≤_};
-ghost use lib.ListN.{length};
 
 // Room for every plan, so that 4 is never given (docs/PLAN.md).
 const ROOM: usize = 462390;
@@ -52,6 +50,15 @@ fn with_room(out: &[u8], at: usize) -> usize {
     at
 }
 
+// One number of a row, parted from the one before it.
+fn put_parted(number: i32, i: usize, out: &mut [u8], at: usize) -> usize {
+    if i == 0 {
+        return put_numeral(out, at, number);
+    }
+    let p = put(out, at, SPACE);
+    put_numeral(out, p, number)
+}
+
 // One row of a plan, one line.
 fn put_row(plan: &[i32], from: usize, width: usize, out: &mut [u8], at: usize) -> usize {
     let mut p = at;
@@ -63,10 +70,7 @@ fn put_row(plan: &[i32], from: usize, width: usize, out: &mut [u8], at: usize) -
         if plan.len() - from <= i {
             break;
         }
-        if 0 < i {
-            p = put(out, p, SPACE);
-        }
-        p = put_numeral(out, p, plan[from + i]);
+        p = put_parted(plan[from + i], i, out, p);
         i += 1;
     }
     put(out, p, LF)
