@@ -1,8 +1,8 @@
-# Sourced by the scripts that run the trace program: builds it where anything changed, and says how it is run here.
+# Sourced by the scripts that run a program: builds it where anything changed, and says how it is run here.
 # Programs are for x86-64: on another processor the toolchain's emulator runs them. The toolchain is found from the command rt.
-# After `build_trace ROOT`, `run_trace` runs the program in the current folder, on standard input.
+# After `build_program ROOT NAME`, `run_program` runs the program in the current folder, on standard input.
 
-build_trace() { # ROOT
+build_program() { # ROOT NAME
     local rt kit
     rt=$(command -v rt) || { printf 'the command rt is not on the path\n' >&2; return 2; }
     kit=${RATTLE_HOME:-$(cd "$(dirname "$(readlink -f "$rt")")/.." && pwd -P)}
@@ -11,15 +11,15 @@ build_trace() { # ROOT
     emulator=$tools/bin/qemu-x86_64
     [ -x "$emulator" ] || emulator=''
     for word in $(env | sed -n 's/^\(QEMU_[A-Za-z0-9_]*\)=.*/\1/p'); do unset "$word"; done
-    program=$1/target/bin/trace
+    program=$1/target/bin/$2
     mkdir -p "$1/target"
-    if ! (cd "$1" && rt check trace) >"$1/target/trace.log" 2>&1 || [ ! -x "$program" ]; then
-        tail -n 5 "$1/target/trace.log"
-        printf 'the program trace was not built (target/trace.log says why)\n' >&2
+    if ! (cd "$1" && rt check "$2") >"$1/target/$2.log" 2>&1 || [ ! -x "$program" ]; then
+        tail -n 5 "$1/target/$2.log"
+        printf 'the program %s was not built (target/%s.log says why)\n' "$2" "$2" >&2
         return 2
     fi
 }
 
-run_trace() {
+run_program() {
     ${emulator:+"$emulator"} "$loader" --library-path "$tools/lib" "$program"
 }

@@ -1,8 +1,8 @@
 -- The laws by which `perform_all`, `enter` and `leave` meet their promises: one turn of the loop over the action rows, what R7 says of an
 -- act, and one step after another where a refusal ends it. Assumes nothing.
 use mathlib.Core.Path.{_≡_, refl, sym, ap, subst, _∙_}
-use Prim.Native.Nat.{ℕ, suc, _+_, _≤_, _<_}
-use mathlib.Core.Bool.{Bool, true, false, false≢true, cond, _&&_}
+use Prim.Native.Nat.{ℕ, _+_, _≤_, _<_}
+use mathlib.Core.Bool.{true, false, false≢true, _&&_}
 use mathlib.Core.List.{List, [], _∷_}
 use native.Mathlib.Omega.{arith}
 use native.Mathlib.Numerals.{add-one}
@@ -13,14 +13,12 @@ use lib.Signed.{leZ}
 use lib.Dec.{leb}
 use borrow.Author.Tests.{leb-true}
 use Rattle.sizes.specs.Sizes.{STATES, VARIABLES, EVENTS}
-use Rattle.numbers.specs.Reference.{NOWHERE, ref}
-use Rattle.queue.specs.declared.Queue.{Queue}
+use Rattle.numbers.specs.Reference.{ref}
 use Rattle.laws.proofs.Lists.{and-left, and-right}
 use Rattle.laws.proofs.Rules.{Act-facts}
-use Rattle.laws.proofs.Sound.{Sound-chart}
 use Rattle.chart.proofs.Rows.{vars-most}
 use Rattle.meaning.specs.Chart.{Chart, no-action}
-use Rattle.meaning.specs.Steps.{ok, Step, each}
+use Rattle.meaning.specs.Steps.{Step, each}
 use Rattle.meaning.specs.Widget.{Ctx}
 use Rattle.meaning.specs.declared.chart.Act.{Act}
 use Rattle.meaning.specs.declared.chart.Act.the-variants.{SetTo as set-to, AddTo as add-to, TakeTo as take-to, Send as send, Tell as tell}
@@ -31,9 +29,9 @@ use Rattle.meaning.specs.Effects.{act-on, act-var, acts-in, acts-of, perform, p
 use Rattle.meaning.specs.Tree.{var-row}
 use Rattle.meaning.specs.Value.{chart-of, chart-by, rows-of, count-fits, counts-fit, num, rows-statable, rule-0, VALUE}
 use Rattle.widget.specs.declared.Went.{Went}
-use Rattle.widget.specs.View.{ctx, Within, Did, Owes}
+use Rattle.widget.specs.View.{Lent, with-vars, with-queue, with-trace, Within, Did, Owes}
 use Rattle.widget.specs.Acts.{Named}
-use Rattle.widget.proofs.Going.{owes-all, owes-as}
+use Rattle.widget.proofs.Going.{owes-all}
 use Rattle.widget.proofs.Loops.{each-none, each-next, each-ends}
 use Rattle.walks.specs.Walks.{Ruled}
 use Rattle.walks.proofs.Passing.{sound, rules-passed}
@@ -41,11 +39,13 @@ use Rattle.walks.proofs.Passing.{sound, rules-passed}
 -- ---- an owner's acts, row by row
 
 module _ (rows : List ActRow) (o : Owner) (i : ℕ) where
-  acts-skip : i < length rows → same-owner o (getD rows i no-action .owner) ≡ false → acts-in (drop i rows) o ≡ acts-in (drop (i + 1) rows) o
+  acts-skip : i < length rows → same-owner o (getD rows i no-action .owner) ≡ false
+      → acts-in (drop i rows) o ≡ acts-in (drop (i + 1) rows) o
   unfolding acts-in
   acts-skip h e = rw (drop-cons rows i no-action h, e, add-one i)
 
-  acts-take : i < length rows → same-owner o (getD rows i no-action .owner) ≡ true → acts-in (drop i rows) o ≡ getD rows i no-action .act ∷ acts-in (drop (i + 1) rows) o
+  acts-take : i < length rows → same-owner o (getD rows i no-action .owner) ≡ true
+      → acts-in (drop i rows) o ≡ getD rows i no-action .act ∷ acts-in (drop (i + 1) rows) o
   unfolding acts-in
   acts-take h e = rw (drop-cons rows i no-action h, e, add-one i)
 
@@ -62,10 +62,12 @@ ref-most n (negsuc m) p q = absurd (false≢true p)
 pub events-most : (v : List ℤ) → Ruled v → chart-of v .events ≤ EVENTS
 unfolding chart-of chart-by rows-of rule-0 counts-fit
 events-most v r =
-    let fit = and-left (counts-fit v) (rows-statable (rows-of v)) (and-right (leb VALUE (length v)) (counts-fit v && rows-statable (rows-of v)) (rules-passed v r .0)) in
+    let fit = and-left (counts-fit v) (rows-statable (rows-of v)) (and-right (leb VALUE (length v)) (counts-fit v && rows-statable
+    (rows-of v)) (rules-passed v r .0)) in
     let few = and-right (count-fits 0 VARIABLES (num v 1)) _ (and-right (count-fits 2 STATES (num v 0)) _ fit) in
     let events = and-left (count-fits 0 EVENTS (num v 2)) _ few in
-    ref-most EVENTS (num v 2) (and-left (leZ (pos 0) (num v 2)) (leZ (num v 2) (pos EVENTS)) events) (and-right (leZ (pos 0) (num v 2)) (leZ (num v 2) (pos EVENTS)) events)
+    ref-most EVENTS (num v 2) (and-left (leZ (pos 0) (num v 2)) (leZ (num v 2) (pos EVENTS)) events) (and-right (leZ (pos 0) (num v 2))
+    (leZ (num v 2) (pos EVENTS)) events)
 
 named : (c : Chart) → length (c .vars) ≤ VARIABLES → c .events ≤ EVENTS → (x : Act) → Act-facts c x → Named x
 named c m n (set-to v x) f = omega (arith, f .0)
@@ -74,8 +76,11 @@ named c m n (take-to v) f = omega arith
 named c m n (send e x) f = omega (arith, f .1)
 named c m n (tell x) f = tt
 
-pub row-named : (v : List ℤ) → Ruled v → (i : ℕ) → i < length (chart-of v .actions) → (row : ActRow) → row ≡ getD (chart-of v .actions) i no-action → Named (row .act)
-row-named v r i h row e = subst (λ x. Named (x .act)) (sym e) (named (chart-of v) (vars-most v) (events-most v r) (getD (chart-of v .actions) i no-action .act) (sound v r .acts i h))
+pub row-named : (v : List ℤ) → Ruled v → (i : ℕ) → i < length (chart-of v .actions) → (row : ActRow)
+    → row ≡ getD (chart-of v .actions) i no-action → Named (row .act)
+row-named v r i h row e = subst
+    (λ x. Named (x .act)) (sym e) (named (chart-of v) (vars-most v) (events-most v r) (getD (chart-of v .actions) i no-action .act)
+    (sound v r .acts i h))
 
 -- ---- the loop over the rows
 
@@ -83,66 +88,89 @@ row-named v r i h row e = subst (λ x. Named (x .act)) (sym e) (named (chart-of 
 unfoldable pub acts-from : List ℤ → ℤ → Owner → ℕ → Step Ctx
 acts-from v arg o i = each (perform (chart-of v .vars) arg) (acts-in (drop i (chart-of v .actions)) o)
 
-pub record Acting (v : List ℤ) (arg : ℤ) (o : Owner) (vars : List ℤ) (q : Queue) (t : List ℤ) (at : ℕ) (i : ℕ) (vars₁ t₁ : List ℤ) (w : Went) : Type 0 where
+-- the arrays that the acts change, in whatever else is lent
+abbrev acts-lent : List ℤ → List ℤ → List ℤ → Lent → Lent
+acts-lent vars q t k = with-vars vars (with-queue q (with-trace t k))
+
+pub record Acting (v : List ℤ) (arg : ℤ) (o : Owner) (vars q t : List ℤ) (at : ℕ) (i : ℕ) (vars₁ q₁ t₁ : List ℤ) (w : Went) : Type 0 where
   pub going : w .number ≡ 0
   pub fits : w .at ≤ length t₁
   pub kept : length t₁ ≡ length t
-  pub owes : (a : List Bool) (s : List ℤ) → Owes (perform-all (chart-of v) arg o) a s vars q t at (acts-from v arg o i) a s vars₁ (w .queue) t₁ (w .at)
+  pub owes : (k : Lent)
+      → Owes (perform-all (chart-of v) arg o) (acts-lent vars q t k) at (acts-from v arg o i) (acts-lent vars₁ q₁ t₁ k) (w .at)
 
 -- the promise of a function that leaves the marks and the slots alone
-abbrev Does : Step Ctx → List ℤ → Queue → List ℤ → ℕ → Went → List ℤ → List ℤ → Type 0
-Does D vars q t at r vars₁ t₁ = Within t r t₁ × ((a : List Bool) (s : List ℤ) → Did D a s vars q t at r a s vars₁ t₁)
+abbrev Does : Step Ctx → List ℤ → List ℤ → List ℤ → ℕ → Went → List ℤ → List ℤ → List ℤ → Type 0
+Does D vars q t at r vars₁ q₁ t₁ = Within t r t₁ × ((k : Lent) → Did D (acts-lent vars q t k) at r (acts-lent vars₁ q₁ t₁ k))
 
-module _ {v : List ℤ} {arg : ℤ} {o : Owner} {vars : List ℤ} {q : Queue} {t : List ℤ} {at : ℕ} where
-  pub acting-begin : at ≤ length t → Acting v arg o vars q t at 0 vars t (record { number = 0; at = at; queue = q })
+module _ {v : List ℤ} {arg : ℤ} {o : Owner} {vars q t : List ℤ} {at : ℕ} where
+  pub acting-begin : at ≤ length t → Acting v arg o vars q t at 0 vars q t (record { number = 0; at = at })
   unfolding acts-from perform-all acts-of
-  acting-begin h = record { going = refl; fits = h; kept = refl; owes = λ a s. owes-all h }
+  acting-begin h = record { going = refl; fits = h; kept = refl; owes = λ k. owes-all h }
 
-  module _ {i : ℕ} {vars₁ t₁ : List ℤ} {w : Went} (h : Acting v arg o vars q t at i vars₁ t₁ w) where
+  module _ {i : ℕ} {vars₁ q₁ t₁ : List ℤ} {w : Went} (h : Acting v arg o vars q t at i vars₁ q₁ t₁ w) where
     ended : length (chart-of v .actions) ≤ i → (n : ℕ) → n ≡ 0
-        → (a : List Bool) (s : List ℤ) → Did (perform-all (chart-of v) arg o) a s vars q t at (record { number = n; at = w .at; queue = w .queue }) a s vars₁ t₁
+        → (k : Lent) → Did (perform-all (chart-of v) arg o) (acts-lent vars q t k) at (record { number = n; at = w .at })
+        (acts-lent vars₁ q₁ t₁ k)
     unfolding acts-from
-    ended l n e a s = subst (λ k. Did (perform-all (chart-of v) arg o) a s vars q t at (record { number = k; at = w .at; queue = w .queue }) a s vars₁ t₁) (sym e)
-        (each-none (perform (chart-of v .vars) arg) (rw (acts-end (chart-of v .actions) o i l) at (h .owes a s)))
+    ended l n e k =
+        subst (λ m. Did (perform-all (chart-of v) arg o) (acts-lent vars q t k) at (record { number = m; at = w .at })
+        (acts-lent vars₁ q₁ t₁ k)) (sym e)
+        (each-none (perform (chart-of v .vars) arg) (rw (acts-end (chart-of v .actions) o i l) at (h .owes k)))
 
-    pub acting-end : length (chart-of v .actions) ≤ i → Does (perform-all (chart-of v) arg o) vars q t at w vars₁ t₁
+    pub acting-end : length (chart-of v .actions) ≤ i → Does (perform-all (chart-of v) arg o) vars q t at w vars₁ q₁ t₁
     acting-end l = (record { fits = h .fits; kept = h .kept }, ended l (w .number) (h .going))
 
     module _ {row : ActRow} (l : i < length (chart-of v .actions)) (e : row ≡ getD (chart-of v .actions) i no-action) where
-      pub acting-skip : same-owner o (row .owner) ≡ false → Acting v arg o vars q t at (i + 1) vars₁ t₁ w
+      -- the acts still to be done, in other words
+      again : (k : Lent) {xs : List Act} → acts-in (drop i (chart-of v .actions)) o ≡ xs
+          → Owes (perform-all (chart-of v) arg o) (acts-lent vars q t k) at (each (perform (chart-of v .vars) arg) xs)
+          (acts-lent vars₁ q₁ t₁ k) (w .at)
+      unfolding acts-from
+      again k f =
+          subst (λ ys. Owes (perform-all (chart-of v) arg o) (acts-lent vars q t k) at (each (perform (chart-of v .vars) arg) ys)
+          (acts-lent vars₁ q₁ t₁ k) (w .at)) f
+          (h .owes k)
+
+      pub acting-skip : same-owner o (row .owner) ≡ false → Acting v arg o vars q t at (i + 1) vars₁ q₁ t₁ w
       unfolding acts-from
       acting-skip d = record {
         going = h .going;
         fits = h .fits;
         kept = h .kept;
-        owes = λ a s. subst (λ l′. Owes (perform-all (chart-of v) arg o) a s vars q t at (each (perform (chart-of v .vars) arg) l′) a s vars₁ (w .queue) t₁ (w .at))
-            (acts-skip (chart-of v .actions) o i l (ap (λ x. same-owner o (x .owner)) (sym e) ∙ d)) (h .owes a s);
+        owes = λ k. again k (acts-skip (chart-of v .actions) o i l (ap (λ x. same-owner o (x .owner)) (sym e) ∙ d));
       }
 
       -- the row is the owner's: its act is next
-      due : same-owner o (row .owner) ≡ true → (a : List Bool) (s : List ℤ)
-          → Owes (perform-all (chart-of v) arg o) a s vars q t at (each (perform (chart-of v .vars) arg) (row .act ∷ acts-in (drop (i + 1) (chart-of v .actions)) o)) a s vars₁ (w .queue) t₁ (w .at)
-      unfolding acts-from
-      due d a s = subst (λ l′. Owes (perform-all (chart-of v) arg o) a s vars q t at (each (perform (chart-of v .vars) arg) l′) a s vars₁ (w .queue) t₁ (w .at))
-          (acts-take (chart-of v .actions) o i l (ap (λ x. same-owner o (x .owner)) (sym e) ∙ d) ∙ ap (λ x. x .act ∷ acts-in (drop (i + 1) (chart-of v .actions)) o) (sym e)) (h .owes a s)
+      due : same-owner o (row .owner) ≡ true → (k : Lent)
+          → Owes (perform-all (chart-of v) arg o) (acts-lent vars q t k) at
+          (each (perform (chart-of v .vars) arg) (row .act ∷ acts-in (drop (i + 1) (chart-of v .actions)) o)) (acts-lent vars₁ q₁ t₁ k)
+          (w .at)
+      due d k = again k
+          (acts-take (chart-of v .actions) o i l (ap (λ x. same-owner o (x .owner)) (sym e) ∙ d)
+          ∙ ap (λ x. x .act ∷ acts-in (drop (i + 1) (chart-of v .actions)) o) (sym e))
 
-      module _ {n : ℕ} {of : VarRow} {r : Went} {vars₂ t₂ : List ℤ} (d : same-owner o (row .owner) ≡ true) (f : n ≡ act-var (row .act)) (g : of ≡ var-row (chart-of v .vars) n)
-          (p : Does (act-on of arg (row .act)) vars₁ (w .queue) t₁ (w .at) r vars₂ t₂) where
-        performed : (a : List Bool) (s : List ℤ) → Did (perform (chart-of v .vars) arg (row .act)) a s vars₁ (w .queue) t₁ (w .at) r a s vars₂ t₂
+      module _ {n : ℕ} {of : VarRow} {r : Went} {vars₂ q₂ t₂ : List ℤ} (d : same-owner o (row .owner) ≡ true) (f : n ≡ act-var (row .act))
+          (g : of ≡ var-row (chart-of v .vars) n) (p : Does (act-on of arg (row .act)) vars₁ q₁ t₁ (w .at) r vars₂ q₂ t₂) where
+        performed : (k : Lent)
+            → Did (perform (chart-of v .vars) arg (row .act)) (acts-lent vars₁ q₁ t₁ k) (w .at) r (acts-lent vars₂ q₂ t₂ k)
         unfolding perform
-        performed a s = subst (λ x. Did (act-on x arg (row .act)) a s vars₁ (w .queue) t₁ (w .at) r a s vars₂ t₂) (g ∙ ap (var-row (chart-of v .vars)) f) (p .1 a s)
+        performed k = subst (λ x. Did (act-on x arg (row .act)) (acts-lent vars₁ q₁ t₁ k) (w .at) r (acts-lent vars₂ q₂ t₂ k)) (g
+            ∙ ap (var-row (chart-of v .vars)) f) (p .1 k)
 
-        pub acting-stop : (r .number ≡ 0 → ⊥) → Does (perform-all (chart-of v) arg o) vars q t at r vars₂ t₂
+        pub acting-stop : (r .number ≡ 0 → ⊥) → Does (perform-all (chart-of v) arg o) vars q t at r vars₂ q₂ t₂
         acting-stop z = (
           record { fits = p .0 .fits; kept = p .0 .kept ∙ h .kept },
-          λ a s. each-ends (perform (chart-of v .vars) arg) (row .act) (acts-in (drop (i + 1) (chart-of v .actions)) o) (due d a s) (performed a s) z,
+          λ k. each-ends (perform (chart-of v .vars) arg) (row .act) (acts-in (drop (i + 1) (chart-of v .actions)) o) (due d k)
+              (performed k) z,
         )
 
-        pub acting-on : r .number ≡ 0 → Acting v arg o vars q t at (i + 1) vars₂ t₂ r
+        pub acting-on : r .number ≡ 0 → Acting v arg o vars q t at (i + 1) vars₂ q₂ t₂ r
         unfolding acts-from
         acting-on z = record {
           going = z;
           fits = p .0 .fits;
           kept = p .0 .kept ∙ h .kept;
-          owes = λ a s. each-next (perform (chart-of v .vars) arg) (row .act) (acts-in (drop (i + 1) (chart-of v .actions)) o) (due d a s) (performed a s) z;
+          owes = λ k. each-next (perform (chart-of v .vars) arg) (row .act) (acts-in (drop (i + 1) (chart-of v .actions)) o) (due d k)
+              (performed k) z;
         }

@@ -1,7 +1,6 @@
 -- Two owners are the same where their kinds and numbers are. Assumes nothing.
 use mathlib.Core.Path.{_≡_, refl}
-use Prim.Native.Nat.{ℕ}
-use mathlib.Core.Bool.{Bool, false}
+use mathlib.Core.Bool.{false}
 use native.Mathlib.Omega.{arith}
 use lib.Dec.{eqb}
 use Rattle.meaning.specs.declared.chart.Owner.{Owner}

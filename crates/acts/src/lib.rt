@@ -6,7 +6,7 @@ use chart::tree::o_parent;
 use chart::var_row;
 use meaning::chart::Act;
 use meaning::chart::Owner;
-use queue::Queue;
+use queue::lent::QUEUE_NUMBERS;
 use sizes::STATES;
 use sizes::VARIABLES;
 use widget::Went;
@@ -14,17 +14,14 @@ use widget::mark_entered;
 use widget::mark_left;
 use widget::perform;
 ghost use mathlib.Core.Path.{_≡_};
-ghost use mathlib.Core.Bool.{Bool};
-ghost use mathlib.Core.List.{List};
 ghost use Prim.Native.Nat.{_≤_, _<_};
 ghost use lib.ListN.{length};
-ghost use lib.IntN.{ℤ};
 ghost use Rattle.meaning.specs.Effects.{act-var, same-owner, perform-all, enter as enters, leave as leaves};
 ghost use Rattle.meaning.specs.Value.{chart-of};
 ghost use Rattle.sizes.specs.Sizes.{STATES as states};
 ghost use Rattle.acts.specs.Owners.{kind-number, owner-number};
 ghost use Rattle.walks.specs.Walks.{Ruled};
-ghost use Rattle.widget.specs.View.{Within, Did};
+ghost use Rattle.widget.specs.View.{Lent, all-lent, with-active, with-vars, with-queue, with-trace, Within, Did};
 
 // The variable of an act; send and tell have none.
 pub fn act_var(act: Act) -> usize
@@ -79,18 +76,14 @@ pub fn perform_all(
     arg: i32,
     owner: Owner,
     vars: &mut [i32; VARIABLES],
-    queue: Queue,
+    queue: &mut [i32; QUEUE_NUMBERS],
     trace: &mut [i32],
     at: usize,
 ) -> Went
     requires { ⌜ Ruled (now chart) × (at ≤ length (now trace)) ⌝ }
-    ensures { λ r. ⌜ Within (now (trace .entry)) r (now (trace .exit)) × ((active : List Bool) (slots : List ℤ) → Did (perform-all (chart-of (now (chart .entry))) arg owner) active slots (now (vars .entry)) queue (now (trace .entry)) at r active slots (now (vars .exit)) (now (trace .exit))) ⌝ }
+    ensures { λ r. ⌜ Within (now (trace .entry)) r (now (trace .exit)) × ((k : Lent) → Did (perform-all (chart-of (now (chart .entry))) arg owner) (with-vars (now (vars .entry)) (with-queue (now (queue .entry)) (with-trace (now (trace .entry)) k))) at r (with-vars (now (vars .exit)) (with-queue (now (queue .exit)) (with-trace (now (trace .exit)) k)))) ⌝ }
 {
-    let mut went = Went {
-        number: 0,
-        at: at,
-        queue: queue,
-    };
+    let mut went = Went { number: 0, at: at };
     for i in 0..action_count(chart) {
         let row = action_row(chart, i);
         let whose = row.owner;
@@ -99,8 +92,7 @@ pub fn perform_all(
         }
         let act = row.act;
         let bounds = var_row(chart, act_var(act));
-        let then = went.queue;
-        went = perform(bounds, arg, act, vars, then, trace, went.at);
+        went = perform(bounds, arg, act, vars, queue, trace, went.at);
         if went.number != 0 {
             return went;
         }
@@ -115,27 +107,18 @@ pub fn enter(
     s: usize,
     active: &mut [bool; STATES],
     vars: &mut [i32; VARIABLES],
-    queue: Queue,
+    queue: &mut [i32; QUEUE_NUMBERS],
     trace: &mut [i32],
     at: usize,
 ) -> Went
     requires { ⌜ Ruled (now chart) × (s < states) × (at ≤ length (now trace)) ⌝ }
-    ensures { λ r. ⌜ Within (now (trace .entry)) r (now (trace .exit)) × ((slots : List ℤ) → Did (enters (chart-of (now (chart .entry))) arg s) (now (active .entry)) slots (now (vars .entry)) queue (now (trace .entry)) at r (now (active .exit)) slots (now (vars .exit)) (now (trace .exit))) ⌝ }
+    ensures { λ r. ⌜ Within (now (trace .entry)) r (now (trace .exit)) × ((k : Lent) → Did (enters (chart-of (now (chart .entry))) arg s) (with-active (now (active .entry)) (with-vars (now (vars .entry)) (with-queue (now (queue .entry)) (with-trace (now (trace .entry)) k)))) at r (with-active (now (active .exit)) (with-vars (now (vars .exit)) (with-queue (now (queue .exit)) (with-trace (now (trace .exit)) k))))) ⌝ }
 {
-    let marked = mark_entered(s, active, queue, trace, at);
+    let marked = mark_entered(s, active, trace, at);
     if marked.number != 0 {
         return marked;
     }
-    let waiting = marked.queue;
-    perform_all(
-        chart,
-        arg,
-        Owner::EntryOf(s),
-        vars,
-        waiting,
-        trace,
-        marked.at,
-    )
+    perform_all(chart, arg, Owner::EntryOf(s), vars, queue, trace, marked.at)
 }
 
 // 01, "Firing": a state is left and stored in its o parent's slot; its exit actions follow at once.
@@ -146,25 +129,16 @@ pub fn leave(
     active: &mut [bool; STATES],
     slots: &mut [i32; STATES],
     vars: &mut [i32; VARIABLES],
-    queue: Queue,
+    queue: &mut [i32; QUEUE_NUMBERS],
     trace: &mut [i32],
     at: usize,
 ) -> Went
     requires { ⌜ Ruled (now chart) × (s < states) × (at ≤ length (now trace)) ⌝ }
-    ensures { λ r. ⌜ Did (leaves (chart-of (now (chart .entry))) arg s) (now (active .entry)) (now (slots .entry)) (now (vars .entry)) queue (now (trace .entry)) at r (now (active .exit)) (now (slots .exit)) (now (vars .exit)) (now (trace .exit)) ⌝ }
+    ensures { λ r. ⌜ Did (leaves (chart-of (now (chart .entry))) arg s) (all-lent (now (active .entry)) (now (slots .entry)) (now (vars .entry)) (now (queue .entry)) (now (trace .entry))) at r (all-lent (now (active .exit)) (now (slots .exit)) (now (vars .exit)) (now (queue .exit)) (now (trace .exit))) ⌝ }
 {
-    let marked = mark_left(o_parent(chart, s), s, active, slots, queue, trace, at);
+    let marked = mark_left(o_parent(chart, s), s, active, slots, trace, at);
     if marked.number != 0 {
         return marked;
     }
-    let waiting = marked.queue;
-    perform_all(
-        chart,
-        arg,
-        Owner::ExitOf(s),
-        vars,
-        waiting,
-        trace,
-        marked.at,
-    )
+    perform_all(chart, arg, Owner::ExitOf(s), vars, queue, trace, marked.at)
 }

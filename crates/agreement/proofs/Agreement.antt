@@ -10,8 +10,8 @@ use mathlib.Core.Bool.{false}
 use mathlib.Core.List.{List}
 use lib.IntN.{ℤ}
 use Rattle.agreement.proofs.ListsOfCalls.{lists-agree}
-use Rattle.agreement.proofs.PlanCalls.{machine-make, outcomes}
-use Rattle.invariants.proofs.CallLists.{Call, make-of}
+use Rattle.agreement.specs.PlanCalls.{machine-make, outcomes}
+use Rattle.invariants.specs.CallLists.{Call, make-of}
 use Rattle.meaning.specs.Compile.{compile-of, plan-lent}
 use Rattle.meaning.specs.declared.State.{State}
 

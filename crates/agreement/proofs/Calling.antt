@@ -12,7 +12,8 @@ use lib.Seq.{getD-drop, getD-take, length-take-le, take-append-seam}
 use lib.IntN.{negsuc, pos, ℤ}
 use borrow.Author.Tests.{eq-eqb, lt-ltb}
 use Rattle.agreement.proofs.Stepping.{Blocks-fire, settle-agrees, steps-agree}
-use Rattle.invariants.proofs.CallLists.{Call, Lived, make, to-discard, to-post, to-run, to-start}
+use Rattle.invariants.specs.CallLists.{Call, make, to-discard, to-post, to-run, to-start}
+use Rattle.invariants.proofs.CallLists.{Lived}
 use Rattle.invariants.proofs.Calls.{front-stands}
 use Rattle.invariants.proofs.Keeps.{holds-of}
 use Rattle.invariants.proofs.Own.{Own-state, own-whole, start-enters}

@@ -8,8 +8,9 @@ use mathlib.Core.Option.{none, some}
 use lib.IntN.{pos, ℤ}
 use Rattle.agreement.proofs.Blocks.{block-agrees, start-agrees}
 use Rattle.agreement.proofs.Calling.{calls-agree, plan-make}
-use Rattle.agreement.proofs.PlanCalls.{machine-make}
-use Rattle.invariants.proofs.CallLists.{Call, Lived, make, make-of, to-discard, to-post, to-run, to-start, value-sized, value-sound}
+use Rattle.agreement.specs.PlanCalls.{machine-make}
+use Rattle.invariants.specs.CallLists.{Call, make, make-of, to-discard, to-post, to-run, to-start}
+use Rattle.invariants.proofs.CallLists.{Lived, value-sized, value-sound}
 use Rattle.meaning.specs.Calls.{Outcome, discard-of, post-of, refused, run-of, start-of}
 use Rattle.meaning.specs.Compile.{compile-of, plan-lent, plan-of}
 use Rattle.meaning.specs.Machine.{machine-discard, machine-post, machine-run, machine-start}

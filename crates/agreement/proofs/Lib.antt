@@ -13,7 +13,6 @@ pub mod Heads
 pub mod Choosing
 pub mod Stepping
 pub mod Calling
-pub mod PlanCalls
 pub mod CompiledCalls
 pub mod ListsOfCalls
 pub mod Agreement

@@ -5,8 +5,9 @@ use Prim.Native.Nat.{ℕ}
 use mathlib.Core.List.{List, [], _∷_, map}
 use lib.IntN.{ℤ}
 use Rattle.agreement.proofs.CompiledCalls.{one-call}
-use Rattle.agreement.proofs.PlanCalls.{Made, Runner, by-chart, by-plan, machine-make, made-by, mixed-outcomes, outcomes}
-use Rattle.invariants.proofs.CallLists.{Call, Lived, make-of, make-of-lives}
+use Rattle.agreement.specs.PlanCalls.{Made, Runner, by-chart, by-plan, machine-make, made-by, mixed-outcomes, outcomes}
+use Rattle.invariants.specs.CallLists.{Call, make-of}
+use Rattle.invariants.proofs.CallLists.{Lived, make-of-lives}
 use Rattle.meaning.specs.Compile.{compile-of, plan-lent}
 use Rattle.meaning.specs.Value.{chart-of}
 use Rattle.meaning.specs.declared.State.{State}

@@ -7,8 +7,9 @@ use mathlib.Core.Bool.{true}
 use mathlib.Core.List.{List, map}
 use lib.IntN.{ℤ}
 use Rattle.agreement.proofs.ListsOfCalls.{lists-agree, mixed-agree}
-use Rattle.agreement.proofs.PlanCalls.{Made, machine-make, mixed-outcomes, outcomes}
-use Rattle.invariants.proofs.CallLists.{Call, Lived, make-of}
+use Rattle.agreement.specs.PlanCalls.{Made, machine-make, mixed-outcomes, outcomes}
+use Rattle.invariants.specs.CallLists.{Call, make-of}
+use Rattle.invariants.proofs.CallLists.{Lived}
 use Rattle.invariants.proofs.Good.{Sized}
 use Rattle.meaning.specs.Compile.{compile-of, plan-lent}
 use Rattle.meaning.specs.Foreign.{own}

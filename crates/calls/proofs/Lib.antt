@@ -4,4 +4,3 @@ pub mod Values
 pub mod Slots
 pub mod Whole
 pub mod Answering
-pub mod Ruled

@@ -1,4 +1,4 @@
-// The calls on a widget over its chart that make no reaction (01, "One reaction"): post and discard, with the test for
+// The calls that make no reaction (01, "One reaction"), on a chart that passes the rules: post and discard, with the test for
 // answer 6 in full.
 pub mod answers;
 pub mod own;
@@ -9,72 +9,54 @@ use answers::with_queue;
 use chart::event_count;
 use meaning::Called;
 use meaning::State;
+use meaning::answers::FOREIGN;
+use meaning::answers::NO_SUCH_EVENT;
+use meaning::answers::NOT_STARTED;
+use meaning::answers::QUEUE_EMPTY;
+use meaning::answers::QUEUE_FULL;
 use own::own;
-use rules::check;
 use widget::fits::event_fits;
 ghost use mathlib.Core.Path.{_≡_};
 ghost use Rattle.meaning.specs.Value.{chart-of};
-ghost use Rattle.meaning.specs.Calls.{called, post as posts, discard as discards, post-of, discard-of};
+ghost use Rattle.meaning.specs.Calls.{called, post as posts, discard as discards};
 
-// Post on a chart that passes the rules: 7, 6, then 10 before 9.
+// "Post appends an event with an argument": 7, 6, then 10 before 9.
 pub fn post_ruled(chart: &[i32], state: State, event: i32, arg: i32) -> Called
     ensures { λ r. ⌜ r ≡ called (posts (chart-of (now (chart .entry))) state event arg) ⌝ }
 {
     if !state.started {
-        return refused(7, 0, state);
+        return refused(NOT_STARTED, 0, state);
     }
     if !own(chart, state) {
-        return refused(6, 0, state);
+        return refused(FOREIGN, 0, state);
     }
     if !event_fits(event_count(chart), event, arg) {
-        return refused(10, 0, state);
+        return refused(NO_SUCH_EVENT, 0, state);
     }
     let queue = state.queue;
     let queued = queue.append(event, arg);
     if !queued.done {
-        return refused(9, 0, state);
+        return refused(QUEUE_FULL, 0, state);
     }
     let after = queued.queue;
     done(with_queue(state, after))
 }
 
-// Discard on a chart that passes the rules: 7, 6, then 8.
-fn discard_ruled(chart: &[i32], state: State) -> Called
+// "discard removes the front one": 7, 6, then 8.
+pub fn discard_ruled(chart: &[i32], state: State) -> Called
     ensures { λ r. ⌜ r ≡ called (discards (chart-of (now (chart .entry))) state) ⌝ }
 {
     if !state.started {
-        return refused(7, 0, state);
+        return refused(NOT_STARTED, 0, state);
     }
     if !own(chart, state) {
-        return refused(6, 0, state);
+        return refused(FOREIGN, 0, state);
     }
     let queue = state.queue;
     let removed = queue.remove();
     if !removed.done {
-        return refused(8, 0, state);
+        return refused(QUEUE_EMPTY, 0, state);
     }
     let after = removed.queue;
     done(with_queue(state, after))
-}
-
-// 01: post appends an event with an argument. A chart that fails a rule is answer 3, first of all.
-pub fn post(chart: &[i32], state: State, event: i32, arg: i32) -> Called
-    ensures { λ r. ⌜ r ≡ called (post-of (now (chart .entry)) state event arg) ⌝ }
-{
-    let verdict = check(chart);
-    if verdict.number != 0 {
-        return refused(3, verdict.place, state);
-    }
-    post_ruled(chart, state, event, arg)
-}
-
-// 01: discard removes the front event.
-pub fn discard(chart: &[i32], state: State) -> Called
-    ensures { λ r. ⌜ r ≡ called (discard-of (now (chart .entry)) state) ⌝ }
-{
-    let verdict = check(chart);
-    if verdict.number != 0 {
-        return refused(3, verdict.place, state);
-    }
-    discard_ruled(chart, state)
 }

@@ -30,13 +30,13 @@ falls n = rw (← add-one n, from-add 0 n 1, zero-add, reverse-append (from 0 n)
 -- ---- how many there can be
 
 module _ (src : ℕ → ℕ) where
-  of-source : List ℕ → ℕ → List ℕ
+  unfoldable pub of-source : List ℕ → ℕ → List ℕ
   of-source ts s = keep (λ t. eqb (src t) s) ts
 
-  all-of : List ℕ → ℕ → List ℕ
+  unfoldable pub all-of : List ℕ → ℕ → List ℕ
   all-of ts n = concat-map (of-source ts) (reverse (from 0 n))
 
-  all-next : (ts : List ℕ) (n : ℕ) → all-of ts (suc n) ≡ of-source ts n ++ all-of ts n
+  pub all-next : (ts : List ℕ) (n : ℕ) → all-of ts (suc n) ≡ of-source ts n ++ all-of ts n
   unfolding all-of concat-map
   all-next ts n = rw (falls n)
 
@@ -71,11 +71,11 @@ module _ (src : ℕ → ℕ) where
       (λ e. omega (arith, length-next (t ∷ ts) n, length-next ts n, one-source t ts n, length-other t ts n e))
       (same-or (src t) n)
 
-  all-few : (ts : List ℕ) (n : ℕ) → length (all-of ts n) ≤ length ts
+  pub all-few : (ts : List ℕ) (n : ℕ) → length (all-of ts n) ≤ length ts
   all-few [] n = rw (none-of n) (omega arith)
   all-few (t ∷ ts) n = omega (arith, one-source t ts n, all-few ts n)
 
-keep-few : (p : ℕ → Bool) (xs : List ℕ) → length (keep p xs) ≤ length xs
+pub keep-few : (p : ℕ → Bool) (xs : List ℕ) → length (keep p xs) ≤ length xs
 unfolding keep
 keep-few p [] = omega arith
 keep-few p (x ∷ xs) = go (p x) (keep-few p xs)

@@ -6,8 +6,8 @@ use native.Mathlib.Omega.{arith}
 use lib.IntN.{ℤ, pos}
 use lib.ListN.{length, getD, take, length-take}
 use lib.Seq.{slice, slice-empty, slice-cons}
-use Rattle.pen.specs.Pen.{Pen, write, writes}
-use Rattle.pen.proofs.Laws.{writes-append, then-bytes, then-byte, then-end}
+use Rattle.pen.specs.Pen.{Pen, put-byte, put-all}
+use Rattle.pen.proofs.Laws.{all-append, then-bytes, then-byte, then-end}
 use Rattle.meaning.specs.Number.{digits, numeral}
 use Rattle.meaning.specs.Split.{LF}
 use Rattle.meaning.specs.Widget.{ENTRY}
@@ -31,16 +31,16 @@ report-parts n t = simp append-assoc
 
 -- one entry, written part by part
 module _ (x y z : ℤ) (p a b c d e r : Pen) where
-  pub entry-steps : a ≡ writes (numeral x) p → b ≡ write SPACE a → c ≡ writes (numeral y) b → d ≡ write SPACE c
-      → e ≡ writes (numeral z) d → r ≡ write LF e → r ≡ writes (entry-line x y z) p
+  pub entry-steps : a ≡ put-all (numeral x) p → b ≡ put-byte SPACE a → c ≡ put-all (numeral y) b → d ≡ put-byte SPACE c
+      → e ≡ put-all (numeral z) d → r ≡ put-byte LF e → r ≡ put-all (entry-line x y z) p
   entry-steps ha hb hc hd he hr =
       rw entry-parts (then-bytes p (numeral x) _ ha (then-byte a SPACE _ hb (then-bytes b (numeral y) _ hc (then-byte c SPACE _ hd
       (then-bytes d (numeral z) _ he (then-end e LF hr))))))
 
 -- the head of a report and its entries, written part by part
 module _ (number n : ℕ) (t : List ℤ) (p a b c d e f r : Pen) where
-  pub report-steps : n ≡ length t / ENTRY → a ≡ write 82 p → b ≡ write SPACE a → c ≡ writes (digits number) b → d ≡ write SPACE c
-      → e ≡ writes (digits n) d → f ≡ write LF e → r ≡ writes (entry-lines t) f → r ≡ writes (report number t) p
+  pub report-steps : n ≡ length t / ENTRY → a ≡ put-byte 82 p → b ≡ put-byte SPACE a → c ≡ put-all (digits number) b → d ≡ put-byte SPACE c
+      → e ≡ put-all (digits n) d → f ≡ put-byte LF e → r ≡ put-all (entry-lines t) f → r ≡ put-all (report number t) p
   report-steps hn ha hb hc hd he hf hr =
       rw (report-parts, ← hn) (then-byte p 82 _ ha (then-byte a SPACE _ hb (then-bytes b (digits number) _ hc (then-byte c SPACE _ hd
       (then-bytes d (digits n) _ he (then-byte e LF _ hf hr))))))
@@ -51,8 +51,8 @@ from-entry s n k = entry-lines (slice (ENTRY * k) (ENTRY * n) s)
 
 -- at the end, and one more
 module _ (s : List ℤ) (n k : ℕ) where
-  pub entries-done : k ≤ n → n ≤ k → (p : Pen) → writes (from-entry s n k) p ≡ p
-  unfolding entry-lines writes
+  pub entries-done : k ≤ n → n ≤ k → (p : Pen) → put-all (from-entry s n k) p ≡ p
+  unfolding entry-lines put-all
   entries-done h g p = let e : k ≡ n = omega arith in rw (e, slice-empty)
 
   abbrev pub nth : ℕ → ℤ
@@ -69,12 +69,12 @@ module _ (s : List ℤ) (n k : ℕ) where
         let z = slice-cons (ENTRY * k + 2) (ENTRY * n) s (pos 0) (omega arith) fits in
         rw (x, a, y, b, z, c)
 
-    pub entries-more : (p q : Pen) (x y z : ℤ) → q ≡ writes (entry-line x y z) p
-        → x ≡ getD s (ENTRY * k) (pos 0) → y ≡ nth 1 → z ≡ nth 2 → writes (from-entry s n (k + 1)) q ≡ writes (from-entry s n k) p
+    pub entries-more : (p q : Pen) (x y z : ℤ) → q ≡ put-all (entry-line x y z) p
+        → x ≡ getD s (ENTRY * k) (pos 0) → y ≡ nth 1 → z ≡ nth 2 → put-all (from-entry s n (k + 1)) q ≡ put-all (from-entry s n k) p
     entries-more p q x y z e hx hy hz =
-        ap (writes (from-entry s n (k + 1))) (e ∙ rw (hx, hy, hz))
-        ∙ sym (writes-append (entry-line (getD s (ENTRY * k) (pos 0)) (nth 1) (nth 2)) (from-entry s n (k + 1)) p)
-        ∙ sym (ap (λ l. writes l p) (ap entry-lines entry-cut ∙ lines-cons (getD s (ENTRY * k) (pos 0)) (nth 1) (nth 2) (slice (ENTRY * (k + 1)) (ENTRY * n) s)))
+        ap (put-all (from-entry s n (k + 1))) (e ∙ rw (hx, hy, hz))
+        ∙ sym (all-append (entry-line (getD s (ENTRY * k) (pos 0)) (nth 1) (nth 2)) (from-entry s n (k + 1)) p)
+        ∙ sym (ap (λ l. put-all l p) (ap entry-lines entry-cut ∙ lines-cons (getD s (ENTRY * k) (pos 0)) (nth 1) (nth 2) (slice (ENTRY * (k + 1)) (ENTRY * n) s)))
 
 -- ---- the entries that are shown: of a trace that is long enough, all of them
 module _ (entries : ℕ) (trace : List ℤ) where
@@ -94,8 +94,8 @@ module _ (entries : ℕ) (trace : List ℤ) where
   is-shown = refl
 
   -- a report of them, written part by part
-  pub shown-steps : (number n : ℕ) (p a b c d e f r : Pen) → n ≡ held entries trace → a ≡ write 82 p → b ≡ write SPACE a
-      → c ≡ writes (digits number) b → d ≡ write SPACE c → e ≡ writes (digits n) d → f ≡ write LF e
-      → r ≡ writes (entry-lines (take (ENTRY * n) trace)) f → r ≡ writes (report number (shown entries trace)) p
+  pub shown-steps : (number n : ℕ) (p a b c d e f r : Pen) → n ≡ held entries trace → a ≡ put-byte 82 p → b ≡ put-byte SPACE a
+      → c ≡ put-all (digits number) b → d ≡ put-byte SPACE c → e ≡ put-all (digits n) d → f ≡ put-byte LF e
+      → r ≡ put-all (entry-lines (take (ENTRY * n) trace)) f → r ≡ put-all (report number (shown entries trace)) p
   shown-steps number n p a b c d e f r hn ha hb hc hd he hf hr =
       report-steps number n (shown entries trace) p a b c d e f r (shown-count n hn) ha hb hc hd he hf (hr ∙ rw (hn, is-shown))

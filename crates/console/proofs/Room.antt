@@ -7,9 +7,9 @@ use native.Mathlib.Omega.{arith}
 use lib.IntN.{ℤ}
 use lib.Signed.{mag}
 use lib.ListN.{length, length-append}
-use Rattle.pen.specs.Pen.{Pen, pen, write, writes}
+use Rattle.pen.specs.Pen.{Pen, pen, put-byte, put-all}
 use Rattle.pen.proofs.Digits.{digits-length, numeral-length}
-use Rattle.pen.proofs.Laws.{writes-stands, writes-long, then-bytes, then-byte, then-end}
+use Rattle.pen.proofs.Laws.{all-stands, all-long, then-bytes, then-byte, then-end}
 use Rattle.meaning.specs.Number.{digits}
 use Rattle.meaning.specs.Split.{LF}
 use Rattle.meaning.specs.Widget.{ENTRY}
@@ -17,9 +17,9 @@ use Rattle.meaning.specs.Program.{SPACE}
 use Rattle.console.specs.Shown.{entry-line, held, HEAD, LINE, largest}
 
 -- bytes that fit
-pub place-after : (bs l : List ℕ) (at m : ℕ) (q : Pen) → q ≡ writes bs (pen l at) → length bs ≤ m → at + m ≤ length l → q .at ≤ at + m
+pub place-after : (bs l : List ℕ) (at m : ℕ) (q : Pen) → q ≡ put-all bs (pen l at) → length bs ≤ m → at + m ≤ length l → q .at ≤ at + m
 place-after bs l at m q e h room =
-    let s = writes-stands bs l at (omega arith) in
+    let s = all-stands bs l at (omega arith) in
     let n : q .at ≡ at + length bs = ap (λ p. p .at) e ∙ s .next in
     omega arith
 
@@ -35,13 +35,13 @@ head-room : (number n : ℕ) → number < 2 ^ 64 → n < 2 ^ 64 → length (head
 head-room number n f g = simp length-append (omega (arith, digits-length 19 number (omega arith), digits-length 19 n (omega arith)))
 
 module _ (trace : List ℤ) (entries number n : ℕ) (l k : List ℕ) (at to r : ℕ) (a b c d e : Pen) where
-  pub report-place : n ≡ held entries trace → a ≡ write 82 (pen l at) → b ≡ write SPACE a → c ≡ writes (digits number) b → d ≡ write SPACE c
-      → e ≡ writes (digits n) d → pen k to ≡ write LF e → (to + LINE * n ≤ length k → r ≤ to + LINE * n)
+  pub report-place : n ≡ held entries trace → a ≡ put-byte 82 (pen l at) → b ≡ put-byte SPACE a → c ≡ put-all (digits number) b → d ≡ put-byte SPACE c
+      → e ≡ put-all (digits n) d → pen k to ≡ put-byte LF e → (to + LINE * n ≤ length k → r ≤ to + LINE * n)
       → number < 2 ^ 64 → n < 2 ^ 64 → at + largest trace ≤ length l → r ≤ at + largest trace
   report-place hn ha hb hc hd he hk hr f g room =
       let w = then-byte (pen l at) 82 _ ha (then-byte a SPACE _ hb (then-bytes b (digits number) _ hc (then-byte c SPACE _ hd
       (then-bytes d (digits n) _ he (then-end e LF hk))))) in
-      let long : length k ≡ length l = ap (λ p. length (p .buf)) w ∙ writes-long (head number n) (pen l at) in
+      let long : length k ≡ length l = ap (λ p. length (p .bytes)) w ∙ all-long (head number n) (pen l at) in
       let place : to ≤ at + HEAD = place-after (head number n) l at HEAD (pen k to) w (head-room number n f g) (omega arith) in
       let last = hr (omega arith) in
       omega arith

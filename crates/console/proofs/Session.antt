@@ -11,7 +11,7 @@ use Rattle.meaning.specs.Split.{LF, Parts, all, onto, cut, split, lines, fields
 use Rattle.meaning.specs.Program.{Turn, turn, turns, session, line-of, input-lines}
 use Rattle.console.specs.declared.scan.Scan.{Scan}
 use Rattle.console.specs.Scan.{empty, fed, line-at, began, scan-on, scan-of}
-use Rattle.console.specs.Session.{Turns, Under, by-end, passed, finished, all-printed}
+use Rattle.console.specs.Session.{Turns, Under, by-end, passed, passed-all, finished, all-printed}
 use Rattle.console.proofs.Lines.{scan-line, scan-began, none-began}
 
 -- what the lines print, one after the other
@@ -83,6 +83,40 @@ module _ (f : Turns) where
       go true q next on =
           rw append-nil (line-first u pre q (λ w. all-printed f (fresh w) bs) (λ w. ap (λ s. all-printed f s bs) (sym (none-fed w)) ∙ next w))
       go false q next on = ap (λ s. all-printed f (record { state = u; scan = s }) bs) (sym (snoc-of pre b)) ∙ on ∙ rw append-assoc
+
+-- ---- the input in parts
+
+module _ (f : Turns) where
+  -- bytes and then others
+  pub under-append : (u : Under) (xs ys : List ℕ) → passed-all f u (xs ++ ys) .under ≡ passed-all f (passed-all f u xs .under) ys .under
+  unfolding passed-all
+  under-append u [] ys = refl
+  under-append u (x ∷ xs) ys = under-append (passed f u x .under) xs ys
+
+  pub printed-append : (u : Under) (xs ys : List ℕ)
+      → passed-all f u (xs ++ ys) .printed ≡ passed-all f u xs .printed ++ passed-all f (passed-all f u xs .under) ys .printed
+  unfolding passed-all
+  printed-append u [] ys = refl
+  printed-append u (x ∷ xs) ys = rw (printed-append (passed f u x .under) xs ys, append-assoc)
+
+  -- one byte
+  pub under-one : (u : Under) (b : ℕ) → passed-all f u (b ∷ []) .under ≡ passed f u b .under
+  unfolding passed-all
+  under-one u b = refl
+
+  pub printed-one : (u : Under) (b : ℕ) → passed-all f u (b ∷ []) .printed ≡ passed f u b .printed
+  unfolding passed-all
+  printed-one u b = append-nil (passed f u b .printed)
+
+  pub printed-none : (u : Under) → passed-all f u [] ≡ record { under = u; printed = [] }
+  unfolding passed-all
+  printed-none u = refl
+
+  -- all of it, and then the end of the input
+  pub all-by-parts : (u : Under) (bs : List ℕ) → all-printed f u bs ≡ passed-all f u bs .printed ++ finished f (passed-all f u bs .under) .printed
+  unfolding all-printed passed-all
+  all-by-parts u [] = refl
+  all-by-parts u (b ∷ bs) = rw (all-by-parts (passed f u b .under) bs, append-assoc)
 
 -- the law: "then posts and runs each line"
 pub printed-all : (f : Turns) (u : State) (input : List ℕ) → all-printed f (fresh u) input ≡ turns-by f u (input-lines (lines input))

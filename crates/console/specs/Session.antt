@@ -46,6 +46,14 @@ by-began f u false = record { under = u; printed = [] }
 unfoldable pub finished : Turns → Under → Passed
 finished f u = by-began f u (began (u .scan))
 
+-- these bytes, one after the other: where they leave the widget and the line, and what they print
+unfoldable pub passed-all : Turns → Under → List ℕ → Passed
+passed-all f u [] = record { under = u; printed = [] }
+passed-all f u (b ∷ bs) =
+    let p = passed f u b in
+    let q = passed-all f (p .under) bs in
+    record { under = q .under; printed = p .printed ++ q .printed }
+
 -- the whole input from here
 unfoldable pub all-printed : Turns → Under → List ℕ → List ℕ
 all-printed f u [] = finished f u .printed

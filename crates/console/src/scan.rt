@@ -1,5 +1,6 @@
 // The input line under way (01: "lines of event, tab, argument"), by value: each byte is fed to it once, and at the line's end it says
 // what the line is. A number of any length is held at one past the range, so that no number of digits overflows.
+use fields::TAB;
 use meaning::Line;
 use meaning::Num;
 use sizes::MOST;
@@ -18,8 +19,6 @@ const BEYOND: u64 = (MOST as u64) + 1;
 const TENTH: u64 = (MOST as u64) / 10;
 // "a number past ±1,000,000,000 is posted as 1,000,000,001"
 const POSTED: i32 = MOST + 1;
-
-const TAB: u8 = 9;
 
 // A field under way: nothing yet, a minus alone, 0 alone, digits of a value, digits behind a minus, or what can be no number.
 pub enum Part {

@@ -4,6 +4,8 @@ use crate::letter_at;
 use chart::decode::ABSENT;
 use meaning::Cell;
 use meaning::Num;
+use meaning::answers::OUTSIDE_SIZE;
+use meaning::answers::WRONG_LINE;
 use numerals::number;
 use sizes::EVENTS;
 ghost use mathlib.Core.Path.{_≡_};
@@ -28,8 +30,14 @@ fn cell_of(n: Num) -> Cell
 {
     match n {
         Num::Is(z) => Cell { mark: 0, value: z },
-        Num::Beyond => Cell { mark: 2, value: 0 },
-        Num::Not => Cell { mark: 1, value: 0 },
+        Num::Beyond => Cell {
+            mark: OUTSIDE_SIZE,
+            value: 0,
+        },
+        Num::Not => Cell {
+            mark: WRONG_LINE,
+            value: 0,
+        },
     }
 }
 
@@ -40,15 +48,27 @@ pub fn count_cell(n: Num) -> Cell
     match n {
         Num::Is(z) => {
             if z < 0 {
-                return Cell { mark: 2, value: 0 };
+                return Cell {
+                    mark: OUTSIDE_SIZE,
+                    value: 0,
+                };
             }
             if (z as usize) <= EVENTS {
                 return Cell { mark: 0, value: z };
             }
-            Cell { mark: 2, value: 0 }
+            Cell {
+                mark: OUTSIDE_SIZE,
+                value: 0,
+            }
         }
-        Num::Beyond => Cell { mark: 2, value: 0 },
-        Num::Not => Cell { mark: 1, value: 0 },
+        Num::Beyond => Cell {
+            mark: OUTSIDE_SIZE,
+            value: 0,
+        },
+        Num::Not => Cell {
+            mark: WRONG_LINE,
+            value: 0,
+        },
     }
 }
 
@@ -93,7 +113,10 @@ pub fn dash_at(s: &[u8], from: usize, to: usize, k: usize) -> Cell
     if letter_at(s, from, to, k) == b'-' {
         return DASH;
     }
-    Cell { mark: 1, value: 0 }
+    Cell {
+        mark: WRONG_LINE,
+        value: 0,
+    }
 }
 
 // Whether a letter is one of these.
@@ -120,7 +143,10 @@ pub fn letter_cell(letter: u8, letters: &[u8]) -> Cell
             value: letter as i32,
         };
     }
-    Cell { mark: 1, value: 0 }
+    Cell {
+        mark: WRONG_LINE,
+        value: 0,
+    }
 }
 
 // Field k as one of these letters.
@@ -184,7 +210,10 @@ pub fn target_at(s: &[u8], from: usize, to: usize, k: usize) -> Aim
     if a == e {
         return Aim {
             letter: plain,
-            state: Cell { mark: 1, value: 0 },
+            state: Cell {
+                mark: WRONG_LINE,
+                value: 0,
+            },
         };
     }
     if s[a] == b'h' {

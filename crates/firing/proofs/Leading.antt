@@ -6,32 +6,30 @@ use Prim.Native.Nat.{ℕ, zero, suc, _≤_, _<_}
 use mathlib.Core.Bool.{Bool, true, false, cond}
 use mathlib.Core.List.{List, reverse}
 use native.Mathlib.Omega.{arith}
-use lib.ListN.{length, getD, set, length-set}
+use lib.ListN.{length, set, length-set}
 use lib.Seq.{getD-set-same, getD-set-other}
 use lib.IntN.{ℤ, pos, negsuc}
 use Rattle.sizes.specs.Sizes.{STATES}
 use Rattle.numbers.specs.Place.{placeOf}
-use Rattle.numbers.specs.declared.Place.{Place}
 use Rattle.numbers.specs.declared.Place.the-variants.{Empty as empty, At as holds}
-use Rattle.queue.specs.declared.Queue.{Queue}
 use Rattle.laws.proofs.Lists.{each-reversed, same-or}
 use Rattle.laws.proofs.Sound.{Sound-chart, parent-child}
 use Rattle.laws.proofs.Steps.{Holds}
 use Rattle.invariants.proofs.GoodReaction.{descendants-inside}
 use Rattle.laws.proofs.Stays.{Stays, each-stays, look-stays, then-stays, when-stays}
-use Rattle.invariants.proofs.Keeps.{Outside, Keeps, acts-keep, change-leads, each-keeps, emit-keeps, holds-of, then-leads, visit-leads}
+use Rattle.invariants.proofs.Keeps.{Outside, acts-keep, change-leads, emit-keeps, holds-of, then-leads}
 use Rattle.invariants.proofs.Slots.{Slots-ok, slot-child}
 use Rattle.meaning.specs.Chart.{Chart}
 use Rattle.meaning.specs.declared.State.{State}
 use Rattle.meaning.specs.declared.chart.Owner.{Owner}
-use Rattle.meaning.specs.declared.chart.Owner.the-variants.{TransitionOf as transition-of, ExitOf as exit-of}
+use Rattle.meaning.specs.declared.chart.Owner.the-variants.{ExitOf as exit-of}
 use Rattle.meaning.specs.Effects.{leave, mark-left, o-parent, perform-all, store-in}
 use Rattle.meaning.specs.Reaction.{leave-active, leave-all}
-use Rattle.meaning.specs.Steps.{ok, Step}
+use Rattle.meaning.specs.Steps.{Step}
 use Rattle.meaning.specs.Tree.{descendants, is-child, is-o, kind-of, parent-of}
 use Rattle.meaning.specs.Widget.{Ctx, is-active, set-active, set-queue, set-slot, set-value}
 use Rattle.widget.specs.declared.Went.{Went}
-use Rattle.widget.specs.View.{ctx, tracing, said, went, Did}
+use Rattle.widget.specs.View.{Lent, Whole, ctx, tracing, said, went, Did}
 use Rattle.moves.specs.Moves.{slot-of, Led}
 
 -- the slots of a state of the chart's own (answer 6) are such
@@ -43,11 +41,13 @@ led-of c slots h l = record { long = l; holding = λ s d e. let q = slot-child c
 same-held : (x y : ℕ) → holds x ≡ holds y → x ≡ y
 same-held x y e = cc
 
-led-set : (c : Chart) (slots : List ℤ) (p s : ℕ) → Led c slots → p < STATES → is-child c p s ≡ true → s < length (c .states) → Led c (set slots p (pos s))
+led-set : (c : Chart) (slots : List ℤ) (p s : ℕ) → Led c slots → p < STATES → is-child c p s ≡ true → s < length (c .states)
+    → Led c (set slots p (pos s))
 led-set c slots p s h l t n = record {
   long = length-set slots p (pos s) ∙ h .long;
   holding = λ x d e. ⊎-elim
-      (λ q. let r : s ≡ d = same-held s d (sym (ap placeOf (getD-set-same slots p (pos s) (negsuc 0) (omega (arith, h .long)))) ∙ ap (λ y. slot-of (set slots p (pos s)) y) (sym q) ∙ e) in
+      (λ q. let r : s ≡ d = same-held s d (sym (ap placeOf (getD-set-same slots p (pos s) (negsuc 0) (omega (arith, h .long))))
+      ∙ ap (λ y. slot-of (set slots p (pos s)) y) (sym q) ∙ e) in
       subst (λ y. (is-child c x y ≡ true) × (y < length (c .states))) r (subst (λ y. is-child c y s ≡ true) (sym q) t, n))
       (λ q. h .holding x d (sym (ap placeOf (getD-set-other slots p x (pos s) (negsuc 0) q)) ∙ e))
       (same-or x p);
@@ -70,24 +70,28 @@ module _ (c : Chart) (h : Sound-chart c) (small : length (c .states) ≤ STATES)
   acts-led : (o : Owner) → Stays (Leads-on c) (perform-all c a o)
   acts-led o k l = holds-of (Leads-on c) (perform-all c a o k) (acts-keep (Led-state c) outside c a o k l)
 
-  stored-led : (s : ℕ) → s < length (c .states) → (u : State) → Led-state c u → Led-state c (store-in (o-parent c s) s (set-active s false u))
+  stored-led : (s : ℕ) → s < length (c .states) → (u : State) → Led-state c u
+      → Led-state c (store-in (o-parent c s) s (set-active s false u))
   unfolding o-parent store-in set-active set-slot
   stored-led zero l u f = f
   stored-led (suc n) l u f = go (is-o (kind-of c (parent-of c (suc n))))
     where
       go : (b : Bool) → Led-state c (store-in (cond b (holds (parent-of c (suc n))) empty) (suc n) (set-active (suc n) false u))
-      go true = led-set c (u .slots) (parent-of c (suc n)) (suc n) f (omega (arith, h .ordered .falls n)) (parent-child c (parent-of c (suc n)) n refl) l
+      go true = led-set c (u .slots) (parent-of c (suc n)) (suc n) f (omega (arith, h .ordered .falls n)) (parent-child c (parent-of c
+          (suc n)) n refl) l
       go false = f
 
   leave-led : (s : ℕ) → s < length (c .states) → Stays (Leads-on c) (leave c a s)
   unfolding leave mark-left
   leave-led s l = then-stays (Leads-on c) (mark-left (o-parent c s) s) (perform-all c a (exit-of s))
-      (λ k f. holds-of (Leads-on c) (mark-left (o-parent c s) s k) (then-leads (Led-state c) (Led-state c) (Led-state c) _ _ (emit-keeps (Led-state c) _) (change-leads (Led-state c) (Led-state c) _ (stored-led s l)) k f))
+      (λ k f. holds-of (Leads-on c) (mark-left (o-parent c s) s k) (then-leads (Led-state c) (Led-state c) (Led-state c) _ _
+      (emit-keeps (Led-state c) _) (change-leads (Led-state c) (Led-state c) _ (stored-led s l)) k f))
       (acts-led (exit-of s))
 
   leave-active-led : (s : ℕ) → s < length (c .states) → Stays (Leads-on c) (leave-active c a s)
   unfolding leave-active
-  leave-active-led s l = look-stays (Leads-on c) _ (λ k g. when-stays (Leads-on c) (is-active (k .state) s) (leave c a s) (λ e. leave-led s l))
+  leave-active-led s l = look-stays (Leads-on c) _ (λ k g. when-stays (Leads-on c) (is-active (k .state) s) (leave c a s)
+      (λ e. leave-led s l))
 
   pub leave-all-led : (s : ℕ) → Stays (Leads-on c) (leave-all c a (descendants c s))
   unfolding leave-all
@@ -96,8 +100,9 @@ module _ (c : Chart) (h : Sound-chart c) (small : length (c .states) ≤ STATES)
 
 -- ---- after a function that did such a step
 
-pub led-after : (c : Chart) {F : Step Ctx} → Stays (Leads-on c) F → {a : List Bool} {sl v : List ℤ} {q : Queue} {t : List ℤ} {at : ℕ} {r : Went} {a₁ : List Bool} {sl₁ v₁ t₁ : List ℤ}
-    → Did F a sl v q t at r a₁ sl₁ v₁ t₁ → r .number ≡ 0 → Led c sl → Led c sl₁
+pub led-after : (c : Chart) {F : Step Ctx} → Stays (Leads-on c) F → {k : Lent} {at : ℕ} {r : Went} {k₁ : Lent} → Did F k at r k₁
+    → Whole k → r .number ≡ 0
+    → Led c (k .slots) → Led c (k₁ .slots)
 unfolding went said ctx tracing
-led-after c {F} f {a} {sl} {v} {q} {t} {at} {r} {a₁} {sl₁} {v₁} {t₁} d z l =
-    subst (λ x. Holds x (Leads-on c)) (sym (d .does) ∙ ap (λ n. said n (ctx a₁ sl₁ v₁ (r .queue) t₁ (r .at))) z) (f (ctx a sl v q t at) l)
+led-after c f {k} {at} {r} {k₁} d h z l = subst (λ x. Holds x (Leads-on c)) (sym (d .does h)
+    ∙ ap (λ n. said n (ctx k₁ (r .at))) z) (f (ctx k at) l)

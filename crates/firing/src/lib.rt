@@ -1,29 +1,27 @@
 // Firing one transition (01, "Firing"): entry 1 of the trace, the active states of the span left, the transition's actions,
 // and the way down to the target or the history; a reaction in place leaves and enters nothing.
 use acts::perform_all;
-use chart::state_count;
 use chart::trans_row;
 use meaning::chart::Owner;
 use meaning::chart::Target;
 use moves::entering::towards;
 use moves::leaving::leave_below;
 use moves::ways::Goal;
-use queue::Queue;
+use queue::lent::QUEUE_NUMBERS;
 use sizes::STATES;
 use sizes::VARIABLES;
 use walks::scope;
 use widget::Went;
 use widget::mark_taken;
-ghost use mathlib.Core.Bool.{Bool};
-ghost use mathlib.Core.List.{List};
+ghost use mathlib.Core.Path.{_≡_};
 ghost use Prim.Native.Nat.{_≤_, _<_};
 ghost use lib.ListN.{length};
-ghost use lib.IntN.{ℤ};
+ghost use Rattle.queue.specs.Numbers.{QUEUE-NUMBERS as all};
 ghost use Rattle.meaning.specs.Reaction.{fire as fires};
 ghost use Rattle.meaning.specs.Value.{chart-of};
 ghost use Rattle.walks.specs.Walks.{Ruled};
-ghost use Rattle.widget.specs.View.{Did};
-ghost use Rattle.moves.specs.Moves.{Inside, Led, Ready};
+ghost use Rattle.widget.specs.View.{all-lent, Did};
+ghost use Rattle.moves.specs.Moves.{Inside, Led};
 ghost use Rattle.firing.specs.Moving.{moving};
 
 // The states below the scope are left, then the transition's actions, then the way down to the goal.
@@ -36,25 +34,34 @@ fn move_to(
     active: &mut [bool; STATES],
     slots: &mut [i32; STATES],
     vars: &mut [i32; VARIABLES],
+    queue: &mut [i32; QUEUE_NUMBERS],
     trace: &mut [i32],
-    begun: Went,
+    at: usize,
 ) -> Went
-    requires { ⌜ Ruled (now chart) × Inside (chart-of (now chart)) goal × (top < length (chart-of (now chart) .states)) × Led (chart-of (now chart)) (now slots) × Ready begun (now trace) ⌝ }
-    ensures { λ r. ⌜ Did (moving (chart-of (now (chart .entry))) arg t goal top) (now (active .entry)) (now (slots .entry)) (now (vars .entry)) (begun .queue) (now (trace .entry)) (begun .at) r (now (active .exit)) (now (slots .exit)) (now (vars .exit)) (now (trace .exit)) ⌝ }
+    requires { ⌜ Ruled (now chart) × Inside (chart-of (now chart)) goal × (top < length (chart-of (now chart) .states)) × Led (chart-of (now chart)) (now slots) × (length (now queue) ≡ all) × (at ≤ length (now trace)) ⌝ }
+    ensures { λ r. ⌜ Did (moving (chart-of (now (chart .entry))) arg t goal top) (all-lent (now (active .entry)) (now (slots .entry)) (now (vars .entry)) (now (queue .entry)) (now (trace .entry))) at r (all-lent (now (active .exit)) (now (slots .exit)) (now (vars .exit)) (now (queue .exit)) (now (trace .exit))) ⌝ }
 {
-    let then = begun.queue;
-    let gone = leave_below(chart, arg, top, active, slots, vars, then, trace, begun.at);
+    let gone = leave_below(chart, arg, top, active, slots, vars, queue, trace, at);
     if gone.number != 0 {
         return gone;
     }
-    let onward = gone.queue;
     let owner = Owner::TransitionOf(t);
-    let went = perform_all(chart, arg, owner, vars, onward, trace, gone.at);
+    let went = perform_all(chart, arg, owner, vars, queue, trace, gone.at);
     if went.number != 0 {
         return went;
     }
-    let all = state_count(chart);
-    towards(chart, arg, goal, top, all, active, slots, vars, trace, went)
+    towards(
+        chart,
+        arg,
+        goal,
+        top,
+        active,
+        slots,
+        vars,
+        queue,
+        trace,
+        went.at,
+    )
 }
 
 // 01, "Firing": the transition t is taken.
@@ -65,14 +72,14 @@ pub fn fire(
     active: &mut [bool; STATES],
     slots: &mut [i32; STATES],
     vars: &mut [i32; VARIABLES],
-    queue: Queue,
+    queue: &mut [i32; QUEUE_NUMBERS],
     trace: &mut [i32],
     at: usize,
 ) -> Went
-    requires { ⌜ Ruled (now chart) × (t < length (chart-of (now chart) .transitions)) × Led (chart-of (now chart)) (now slots) × (at ≤ length (now trace)) ⌝ }
-    ensures { λ r. ⌜ Did (fires (chart-of (now (chart .entry))) arg t) (now (active .entry)) (now (slots .entry)) (now (vars .entry)) queue (now (trace .entry)) at r (now (active .exit)) (now (slots .exit)) (now (vars .exit)) (now (trace .exit)) ⌝ }
+    requires { ⌜ Ruled (now chart) × (t < length (chart-of (now chart) .transitions)) × Led (chart-of (now chart)) (now slots) × (length (now queue) ≡ all) × (at ≤ length (now trace)) ⌝ }
+    ensures { λ r. ⌜ Did (fires (chart-of (now (chart .entry))) arg t) (all-lent (now (active .entry)) (now (slots .entry)) (now (vars .entry)) (now (queue .entry)) (now (trace .entry))) at r (all-lent (now (active .exit)) (now (slots .exit)) (now (vars .exit)) (now (queue .exit)) (now (trace .exit))) ⌝ }
 {
-    let taken = mark_taken(t, queue, trace, at);
+    let taken = mark_taken(t, trace, at);
     if taken.number != 0 {
         return taken;
     }
@@ -82,17 +89,42 @@ pub fn fire(
         Target::To(d) => {
             let goal = Goal::Target(d);
             let top = scope(chart, row.source, d);
-            move_to(chart, arg, t, goal, top, active, slots, vars, trace, taken)
+            let then = taken.at;
+            move_to(
+                chart,
+                arg,
+                t,
+                goal,
+                top,
+                active,
+                slots,
+                vars,
+                queue,
+                trace,
+                then,
+            )
         }
         Target::History(b) => {
             let goal = Goal::Owner(b);
             let top = scope(chart, row.source, b);
-            move_to(chart, arg, t, goal, top, active, slots, vars, trace, taken)
+            let then = taken.at;
+            move_to(
+                chart,
+                arg,
+                t,
+                goal,
+                top,
+                active,
+                slots,
+                vars,
+                queue,
+                trace,
+                then,
+            )
         }
         Target::InPlace => {
-            let then = taken.queue;
             let owner = Owner::TransitionOf(t);
-            perform_all(chart, arg, owner, vars, then, trace, taken.at)
+            perform_all(chart, arg, owner, vars, queue, trace, taken.at)
         }
     }
 }

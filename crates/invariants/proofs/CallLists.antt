@@ -8,6 +8,7 @@ use mathlib.Core.Bool.{false}
 use mathlib.Core.List.{List, [], _∷_}
 use mathlib.Core.Option.{Option, none, some}
 use lib.IntN.{ℤ}
+use Rattle.invariants.specs.CallLists.{Call, after-all, answers, make, make-of, to-discard, to-post, to-run, to-start}
 use Rattle.invariants.proofs.Calls.{Call-facts, discard-facts, post-facts, run-facts, start-facts}
 use Rattle.invariants.proofs.Good.{Traced}
 use Rattle.invariants.proofs.Own.{Own-state, nothing-traced}
@@ -24,34 +25,6 @@ use Rattle.meaning.specs.Value.{chart-of}
 use Rattle.meaning.specs.Widget.{Ctx, begin}
 use Rattle.meaning.specs.declared.State.{State}
 use Rattle.queue.specs.Queue.{removed}
-
--- a call with its arguments and the room lent for the trace
-pub data Call : Type 0 where
-  to-start to-run : ℕ → Call
-  to-post : ℤ → ℤ → Call
-  to-discard : Call
-
-unfoldable pub make : Chart → Call → State → Outcome
-make c (to-start n) u = start c u n
-make c (to-run n) u = run c u n
-make c (to-post e a) u = post c u e a
-make c to-discard u = discard c u
-
-unfoldable pub make-of : List ℤ → Call → State → Outcome
-make-of v (to-start n) u = start-of v u n
-make-of v (to-run n) u = run-of v u n
-make-of v (to-post e a) u = post-of v u e a
-make-of v to-discard u = discard-of v u
-
--- the answers to a list of calls, each from the state that the one before left
-unfoldable pub answers : (Call → State → Outcome) → List Call → State → List ℕ
-answers m [] u = []
-answers m (x ∷ xs) u = m x u .number ∷ answers m xs (m x u .after)
-
--- and the state after them
-unfoldable pub after-all : (Call → State → Outcome) → List Call → State → State
-after-all m [] u = u
-after-all m (x ∷ xs) u = after-all m xs (m x u .after)
 
 -- the state of a widget that nobody but the calls has written: not started, or started and its chart's own
 abbrev pub Lived : Chart → State → Type 0
@@ -78,7 +51,7 @@ facts-live c u o l f = record {
 }
 
 -- not started: 7
-unstarted-7 : (c : Chart) (u : State) (F : Step Ctx) (k : Ctx) → u .started ≡ false → outcome u ((tests c u then F) k) ≡ refused 7 0 u
+pub unstarted-7 : (c : Chart) (u : State) (F : Step Ctx) (k : Ctx) → u .started ≡ false → outcome u ((tests c u then F) k) ≡ refused 7 0 u
 unfolding tests _then_ require bind outcome
 unstarted-7 c u F k e = ap (λ b. outcome u (bind (bind (require 7 b k) (require 6 (own c u))) F)) e
 

@@ -19,3 +19,5 @@ pub mod Own
 pub mod Calls
 pub mod CallLists
 pub mod Instance
+pub mod Naming
+pub mod TraceNames

@@ -1,2 +1,3 @@
 pub mod Starred
+pub mod Computed
 pub mod TextExamples

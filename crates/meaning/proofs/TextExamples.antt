@@ -1,48 +1,33 @@
 -- Chart text by example: 01's chart K is read, and written back to the same bytes; some faults with their lines; sizes. Assumes nothing.
 use Prim.Native.Nat.{ℕ, _-_}
-use Prim.Native.String.{[] as end, _∷_ as _then_}
-use Prim.Native.String.{String}
-use Prim.Native.Char.{code}
 use mathlib.Core.Path.{_≡_, refl}
 use mathlib.Core.List.{List, [], _∷_, _++_}
 use lib.ListN.{replicate}
 use lib.IntN.{ℤ, pos}
-use Rattle.numbers.specs.Range.{within, inRange}
-use Rattle.meaning.specs.Lists.{map-from, lists-open}
-use Rattle.meaning.specs.Value.{ABSENT, VALUE, value-open}
-use Rattle.meaning.specs.Tree.{tree-open}
-use Rattle.meaning.specs.Rules.{rules-open}
-use Rattle.meaning.specs.Number.{number-open}
-use Rattle.meaning.specs.Split.{ended, split-open}
-use Rattle.meaning.specs.Line.{s-text, line-open}
-use Rattle.meaning.specs.Text.{Outcome, done, refused, read, write, text-open}
-
-bytes : String → List ℕ
-bytes end = []
-bytes (c then s) = code c ∷ bytes s
-
--- 01, "Checked by example": chart K
-k-text : List ℕ
-k-text =
-    bytes "S\t0\t-\to\t1\nS\t1\t0\tb\t-\nS\t2\t0\to\t3\nS\t3\t2\tb\t-\nS\t4\t2\tb\t-\nV\t0\t-100\t100\t0\nE\t2\n"
-    ++ bytes "T\t0\t1\t1\t-\t-\t-\th2\nT\t1\t3\t2\t-\t-\t-\t4\nT\t2\t2\t1\t-\t-\t-\t1\nA\te\t4\to\t7\t-\nA\tx\t2\ta\t0\t60\nA\td\t2\to\t9\t-\n"
+use Rattle.meaning.specs.Open.{all-open}
+use Rattle.meaning.specs.Lists.{map-from}
+use Rattle.meaning.specs.Value.{ABSENT, VALUE}
+use Rattle.meaning.specs.Split.{ended}
+use Rattle.meaning.specs.Line.{s-text}
+use Rattle.meaning.specs.Text.{Outcome, done, refused, read, write}
+use Rattle.meaning.specs.Examples.{bytes, text-K}
 
 both-ways : ℕ → Outcome (List ℤ) → Outcome (List ℕ)
 both-ways n (done v) = write v n
 both-ways n (refused a p) = refused a p
 
 -- read and written, K is the same 155 bytes
-k-both-ways : both-ways 155 (read k-text VALUE) ≡ done k-text
-unfolding bytes k-text both-ways lists-open value-open tree-open rules-open number-open split-open line-open text-open within inRange
+k-both-ways : both-ways 155 (read text-K VALUE) ≡ done text-K
+unfolding all-open both-ways
 k-both-ways = refl
 
 -- one byte less is too short a buffer, one number less too few for a chart
-k-too-long : both-ways 154 (read k-text VALUE) ≡ refused 13 0
-unfolding bytes k-text both-ways lists-open value-open tree-open rules-open number-open split-open line-open text-open within inRange
+k-too-long : both-ways 154 (read text-K VALUE) ≡ refused 13 0
+unfolding all-open both-ways
 k-too-long = refl
 
-k-too-few : read k-text (VALUE - 1) ≡ refused 3 0
-unfolding bytes k-text both-ways lists-open value-open tree-open rules-open number-open split-open line-open text-open within inRange
+k-too-few : read text-K (VALUE - 1) ≡ refused 3 0
+unfolding all-open both-ways
 k-too-few = refl
 
 -- answer and place of some texts
@@ -61,8 +46,9 @@ states n = ended (s-text 0 (ABSENT ∷ pos 111 ∷ pos 1 ∷ []) ∷ map-from s-
 -- in the order: an empty text; its E line missing; a last line without LF; an empty last line; 32 and 33 events; 1 before 2 on one line;
 -- a leading zero; 64 states, 65, and a 65th of the wrong form; -1 as a parent, and "-"; h-1 as a target
 some-faults : faults (
-    [] ∷ states 2 ∷ (states 2 ++ bytes "E\t0") ∷ (states 2 ++ bytes "E\t0\n\n") ∷ (states 2 ++ bytes "E\t32\n") ∷ (states 2 ++ bytes "E\t33\n")
-    ∷ (states 2 ++ bytes "V\t0\t1000000001\t01\t0\n") ∷ (states 2 ++ bytes "E\t01\n") ∷ (states 64 ++ bytes "E\t0\n") ∷ (states 65 ++ bytes "E\t0\n")
+    [] ∷ states 2 ∷ (states 2 ++ bytes "E\t0") ∷ (states 2 ++ bytes "E\t0\n\n") ∷ (states 2 ++ bytes "E\t32\n")
+    ∷ (states 2 ++ bytes "E\t33\n") ∷ (states 2 ++ bytes "V\t0\t1000000001\t01\t0\n") ∷ (states 2 ++ bytes "E\t01\n")
+    ∷ (states 64 ++ bytes "E\t0\n") ∷ (states 65 ++ bytes "E\t0\n")
     ∷ (states 64 ++ bytes "S\t64\t0\tb\t0\n") ∷ (states 1 ++ bytes "S\t1\t-1\tb\t-\nE\t0\n") ∷ (states 1 ++ bytes "S\t1\t-\tb\t-\nE\t0\n")
     ∷ (states 2 ++ bytes "E\t1\nT\t0\t1\t1\t-\t-\t-\th-1\n") ∷ []
     )
@@ -70,5 +56,5 @@ some-faults : faults (
     ∷ (1 ∷ 3 ∷ []) ∷ (1 ∷ 3 ∷ []) ∷ (0 ∷ 0 ∷ []) ∷ (2 ∷ 65 ∷ [])
     ∷ (1 ∷ 65 ∷ []) ∷ (3 ∷ 2 ∷ []) ∷ (1 ∷ 2 ∷ [])
     ∷ (3 ∷ 6 ∷ []) ∷ []
-unfolding bytes k-text both-ways fault-of faults states lists-open value-open tree-open rules-open number-open split-open line-open text-open within inRange
+unfolding all-open fault-of faults states
 some-faults = refl

@@ -10,6 +10,7 @@ use Rattle.sizes.specs.Sizes.{STATES, VARIABLES}
 use Rattle.numbers.specs.Reference.{ref}
 use Rattle.queue.specs.Queue.{empty-queue, removed}
 use Rattle.queue.specs.declared.Removed.{Removed}
+use Rattle.meaning.specs.Answers.{RULE-FAILS, FOREIGN, NOT-STARTED, QUEUE-EMPTY, NO-SUCH-EVENT}
 use Rattle.meaning.specs.declared.State.{State}
 use Rattle.meaning.specs.declared.Answer.{Answer}
 use Rattle.meaning.specs.declared.Called.{Called}
@@ -79,11 +80,11 @@ start c u n = outcome u (start-steps c (begin (fresh c) n))
 -- ---- run, post, discard: "then 7, 6; then 8, or 10 before 9"
 
 unfoldable pub tests : Chart → State → Step Ctx
-tests c u = require 7 (u .started) then require 6 (own c u)
+tests c u = require NOT-STARTED (u .started) then require FOREIGN (own c u)
 
 -- the queue without its front event, or 8
 unfoldable pub take-front : Removed → Step Ctx
-take-front r = require 8 (r .done) then change (set-queue (r .queue))
+take-front r = require QUEUE-EMPTY (r .done) then change (set-queue (r .queue))
 
 -- "A run removes the front event and makes one step with it. Then null steps follow"
 unfoldable pub react : Chart → Removed → Step Ctx
@@ -94,7 +95,7 @@ run c u n = outcome u ((tests c u then react c (removed (u .queue))) (begin u n)
 
 -- "Post appends an event with an argument"
 unfoldable pub post : Chart → State → ℤ → ℤ → Outcome
-post c u e a = outcome u ((tests c u then require 10 (event-fits (c .events) e a) then enqueue e a) (begin u 0))
+post c u e a = outcome u ((tests c u then require NO-SUCH-EVENT (event-fits (c .events) e a) then enqueue e a) (begin u 0))
 
 -- "discard removes the front one"
 unfoldable pub discard : Chart → State → Outcome
@@ -105,25 +106,25 @@ discard c u = outcome u ((tests c u then take-front (removed (u .queue))) (begin
 unfoldable pub start-of : List ℤ → State → ℕ → Outcome
 start-of v u n = elim (failing-rule-of v) [
   | none ↦ start (chart-of v) u n
-  | some r ↦ refused 3 r u
+  | some r ↦ refused RULE-FAILS r u
 ]
 
 unfoldable pub run-of : List ℤ → State → ℕ → Outcome
 run-of v u n = elim (failing-rule-of v) [
   | none ↦ run (chart-of v) u n
-  | some r ↦ refused 3 r u
+  | some r ↦ refused RULE-FAILS r u
 ]
 
 unfoldable pub post-of : List ℤ → State → ℤ → ℤ → Outcome
 post-of v u e a = elim (failing-rule-of v) [
   | none ↦ post (chart-of v) u e a
-  | some r ↦ refused 3 r u
+  | some r ↦ refused RULE-FAILS r u
 ]
 
 unfoldable pub discard-of : List ℤ → State → Outcome
 discard-of v u = elim (failing-rule-of v) [
   | none ↦ discard (chart-of v) u
-  | some r ↦ refused 3 r u
+  | some r ↦ refused RULE-FAILS r u
 ]
 
 -- everything above, opened: for statements that compute

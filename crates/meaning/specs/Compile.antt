@@ -7,6 +7,7 @@ use mathlib.Core.Option.{Option, none, some}
 use lib.ListN.{length}
 use lib.IntN.{ℤ, pos}
 use lib.Dec.{eqb, ltb}
+use Rattle.meaning.specs.Answers.{RULE-FAILS, PLAN-TOO-LONG}
 use Rattle.meaning.specs.Lists.{concat-map, padded, at-value}
 use Rattle.meaning.specs.Chart.{Kind, kind-o, kind-a, kind-b, Target, to, history, in-place, Owner, entry-of, exit-of, default-of, transition-of}
 use Rattle.meaning.specs.Chart.{TransRow, Chart}
@@ -158,13 +159,13 @@ not-compiled n p = record { number = n; place = p; plan = [] }
 
 -- 4 "the plan is longer than the slice lent"
 unfoldable pub compiled-into : ℕ → List ℤ → Compiling
-compiled-into n plan = cond (ltb n (length plan)) (not-compiled 4 0) (record { number = 0; place = 0; plan = plan })
+compiled-into n plan = cond (ltb n (length plan)) (not-compiled PLAN-TOO-LONG 0) (record { number = 0; place = 0; plan = plan })
 
 -- "chart 3 .. first"
 unfoldable pub compile-of : List ℤ → ℕ → Compiling
 compile-of v n = elim (failing-rule-of v) [
   | none ↦ compiled-into n (compile (chart-of v))
-  | some r ↦ not-compiled 3 r
+  | some r ↦ not-compiled RULE-FAILS r
 ]
 
 -- the answer and the count; "Any other .. zeroes the lent output, its count"

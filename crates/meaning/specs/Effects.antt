@@ -8,6 +8,7 @@ use lib.Dec.{eqb}
 use Rattle.numbers.specs.Hold.{holdZ}
 use Rattle.queue.specs.Queue.{appended}
 use Rattle.queue.specs.declared.Queued.{Queued}
+use Rattle.meaning.specs.Answers.{QUEUE-FULL}
 use Rattle.meaning.specs.declared.State.{State}
 use Rattle.meaning.specs.Steps.{Res, ok, refuse, Step, _then_, require, look, each}
 use Rattle.meaning.specs.Lists.{concat-map}
@@ -28,7 +29,7 @@ assign r v x = emit (changed v (held r x)) then change (set-value v (held r x))
 
 -- the queue after an append, or 9
 unfoldable pub take-queue : Queued → Step Ctx
-take-queue q = require 9 (q .done) then change (set-queue (q .queue))
+take-queue q = require QUEUE-FULL (q .done) then change (set-queue (q .queue))
 
 -- "at a send 11 before 9"
 unfoldable pub enqueue : ℤ → ℤ → Step Ctx

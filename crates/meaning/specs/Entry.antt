@@ -6,6 +6,7 @@ use mathlib.Core.List.{List, [], _∷_}
 use lib.ListN.{length}
 use lib.IntN.{ℤ}
 use lib.Dec.{eqb}
+use Rattle.meaning.specs.Answers.{SLOT-EMPTY}
 use Rattle.meaning.specs.declared.State.{State}
 use Rattle.meaning.specs.Steps.{Res, refuse, Step, _then_, when, look, each}
 use Rattle.meaning.specs.Lists.{has, first-that, concat-map}
@@ -76,7 +77,7 @@ visit c a (by-default p s) = perform-all c a (default-of p) then enter c a s
 -- in a restore an o state whose slot is empty has no child to go on with: 14 "a restore meets an empty slot below its owner"
 unfoldable pub revisit : Chart → ℤ → Visit → Step Ctx
 revisit c a v =
-    visit c a v then look (λ k. when (is-o (kind-of c (state-of v)) && is-empty (slot (k .state) (state-of v))) (λ _. refuse 14))
+    visit c a v then look (λ k. when (is-o (kind-of c (state-of v)) && is-empty (slot (k .state) (state-of v))) (λ _. refuse SLOT-EMPTY))
 
 -- "If its slot is filled, its stored child is entered and so on down by the slots, without default actions. If empty, the default is taken"
 unfoldable pub restore-by : Chart → ℤ → ℕ → State → Slot → Step Ctx

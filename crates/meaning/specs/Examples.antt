@@ -1,14 +1,24 @@
--- Charts and widgets to compute with: chart K of 01 ("Checked by example") and the chart of two null components. Assumes nothing.
+-- Charts, states and calls to compute with (01, "Checked by example"): chart K as its text, as its value and as a chart; the chart of two
+-- null components; two charts more; what a call gives and the states after it, in few words. Assumes nothing.
 use Prim.Native.Nat.{ℕ, zero, suc}
+use Prim.Native.String.{[] as end, _∷_ as _then_}
+use Prim.Native.String.{String}
+use Prim.Native.Char.{code}
 use mathlib.Core.Bool.{Bool, true, false}
-use mathlib.Core.List.{List, [], _∷_}
+use mathlib.Core.List.{List, [], _∷_, map}
+use lib.ListN.{replicate}
 use lib.IntN.{ℤ, pos, negsuc}
+use Rattle.sizes.specs.Sizes.{QUEUE, STATES, VARIABLES}
+use Rattle.queue.specs.Queue.{item, queue-of}
 use Rattle.meaning.specs.declared.State.{State}
-use Rattle.meaning.specs.Chart.{Kind, kind-o, kind-a, kind-b, Guard, always, compares, equal, Target, to, history, in-place, set-to, add-to, tell, entry-of, exit-of, default-of, transition-of}
+use Rattle.meaning.specs.Lists.{concat-map, from, has, padded}
+use Rattle.meaning.specs.Chart.{Kind, kind-o, kind-a, kind-b, Guard, always, compares, equal, Target, to, history, set-to}
+use Rattle.meaning.specs.Chart.{add-to, send, tell, entry-of, exit-of, default-of, transition-of}
 use Rattle.meaning.specs.Chart.{StateRow, VarRow, TransRow, ActRow, Act, Owner, Chart}
 use Rattle.meaning.specs.Value.{ABSENT}
 use Rattle.meaning.specs.Text.{value-of}
-use Rattle.meaning.specs.Calls.{Outcome, start, run, post}
+use Rattle.meaning.specs.Widget.{Entry, numbers}
+use Rattle.meaning.specs.Calls.{Outcome, run, post, run-of, post-of}
 use Rattle.meaning.specs.Compile.{compile}
 use Rattle.meaning.specs.Machine.{machine-run, machine-post}
 
@@ -21,7 +31,30 @@ tr s e g t = record { source = s; trigger = e; guard = g; target = t }
 unfoldable pub ac : Owner → Act → ActRow
 ac o a = record { owner = o; act = a }
 
--- chart K
+unfoldable pub bytes : String → List ℕ
+bytes end = []
+bytes (c then s) = code c ∷ bytes s
+
+-- chart K as its text: fields parted by one tab, each line ended by LF
+unfoldable pub text-K : List ℕ
+text-K = concat-map bytes (
+    "S\t0\t-\to\t1\n"
+    ∷ "S\t1\t0\tb\t-\n"
+    ∷ "S\t2\t0\to\t3\n"
+    ∷ "S\t3\t2\tb\t-\n"
+    ∷ "S\t4\t2\tb\t-\n"
+    ∷ "V\t0\t-100\t100\t0\n"
+    ∷ "E\t2\n"
+    ∷ "T\t0\t1\t1\t-\t-\t-\th2\n"
+    ∷ "T\t1\t3\t2\t-\t-\t-\t4\n"
+    ∷ "T\t2\t2\t1\t-\t-\t-\t1\n"
+    ∷ "A\te\t4\to\t7\t-\n"
+    ∷ "A\tx\t2\ta\t0\t60\n"
+    ∷ "A\td\t2\to\t9\t-\n"
+    ∷ []
+    )
+
+-- chart K as a chart
 unfoldable pub chart-K : Chart
 chart-K = record {
   states = st 0 kind-o 1 ∷ st 0 kind-b 0 ∷ st 0 kind-o 3 ∷ st 2 kind-b 0 ∷ st 2 kind-b 0 ∷ [];
@@ -31,7 +64,7 @@ chart-K = record {
   actions = ac (entry-of 4) (tell (pos 7)) ∷ ac (exit-of 2) (add-to 0 (pos 60)) ∷ ac (default-of 2) (tell (pos 9)) ∷ [];
 }
 
--- chart K handed over as a value: each field a number, or the code of its letter
+-- chart K as a value that is handed over: each field a number, or the code of its letter
 unfoldable pub value-K : List ℤ
 value-K = value-of (record {
   states =
@@ -83,7 +116,36 @@ chart-inside = record {
   actions = ac (default-of 1) (tell (pos 9)) ∷ [];
 }
 
--- post the event with argument 0 and run it, with room for n trace numbers
+-- a queue that fills in the middle of a reaction: state 1 is left, and its exit actions send one event more than there are places
+unfoldable pub chart-filling : Chart
+chart-filling = record {
+  states = st 0 kind-o 1 ∷ st 0 kind-b 0 ∷ st 0 kind-b 0 ∷ [];
+  vars = [];
+  events = 1;
+  transitions = tr 1 1 always (to 2) ∷ [];
+  actions = replicate (suc QUEUE) (ac (exit-of 1) (send 1 (pos 0)));
+}
+
+-- a started state: the active states; the slots, the variables and what waits, from their first place on. "Places not in use hold: not
+-- active, -1, 0, and 0 with 0"
+unfoldable pub standing : List ℕ → List ℤ → List ℤ → List (ℤ × ℤ) → State
+standing on slots vars events = record {
+  started = true;
+  active = map (λ s. has s on) (from 0 STATES);
+  slots = padded STATES (negsuc 0) slots;
+  vars = padded VARIABLES (pos 0) vars;
+  queue = queue-of (map (λ e. item (e .0) (e .1)) events);
+}
+
+-- a call is done, leaves this state and writes these entries
+unfoldable pub gives : State → List Entry → Outcome
+gives u es = record { number = 0; place = 0; after = u; trace = concat-map numbers es }
+
+-- post the event with argument 0 and run it, with room for n trace numbers, over a chart's value
+unfoldable pub react-of : List ℤ → ℕ → ℕ → State → Outcome
+react-of v n e u = run-of v (post-of v u (pos e) (pos 0) .after) n
+
+-- the same over a chart
 unfoldable pub react-to : Chart → ℕ → ℕ → State → Outcome
 react-to c n e u = run c (post c u (pos e) (pos 0) .after) n
 
@@ -92,5 +154,6 @@ unfoldable pub machine-to : List ℤ → ℕ → ℕ → State → Outcome
 machine-to ns n e u = machine-run ns (machine-post ns u (pos e) (pos 0) .after) n
 
 unfoldable pub examples-open : ℕ
-unfolding st tr ac value-K plan-K machine-to chart-K chart-two chart-self chart-inside react-to
+unfolding st tr ac bytes text-K chart-K value-K plan-K chart-two chart-self chart-inside chart-filling queue-of standing gives react-of react-to
+    machine-to
 examples-open = 0

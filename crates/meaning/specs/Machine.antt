@@ -10,6 +10,7 @@ use Rattle.sizes.specs.Sizes.{NULL-STEPS}
 use Rattle.numbers.specs.Reference.{ref}
 use Rattle.queue.specs.Queue.{removed}
 use Rattle.queue.specs.declared.Removed.{Removed}
+use Rattle.meaning.specs.Answers.{NOT-A-PLAN, FOREIGN, NOT-STARTED, NO-SUCH-EVENT, UNSETTLED}
 use Rattle.meaning.specs.declared.State.{State}
 use Rattle.meaning.specs.Steps.{Res, ok, refuse, Step, _then_, require, look, each}
 use Rattle.meaning.specs.Lists.{keep, exists}
@@ -109,7 +110,7 @@ plan-step p e a = look (λ k. each (fire-head p a) (chosen-heads p e (k .state))
 
 -- null steps "until none is enabled"; n more are allowed, then 12
 unfoldable pub plan-settle-in : Plan → ℕ → Step Ctx
-plan-settle-in p zero = look (λ k. if-any (chosen-heads p 0 (k .state)) (λ _. refuse 12))
+plan-settle-in p zero = look (λ k. if-any (chosen-heads p 0 (k .state)) (λ _. refuse UNSETTLED))
 plan-settle-in p (suc n) = look (λ k. if-any (chosen-heads p 0 (k .state)) (plan-step p 0 (pos 0) then plan-settle-in p n))
 
 unfoldable pub plan-settle : Plan → Step Ctx
@@ -126,7 +127,7 @@ plan-start p u n = outcome u (plan-start-steps p (begin (fresh-by (p .vars)) n))
 
 -- "then 7, 6"; "For 6 the plan machine tests only .."
 unfoldable pub plan-tests : Plan → State → Step Ctx
-plan-tests p u = require 7 (u .started) then require 6 (plan-own (p .states) (p .vars) (p .events) u)
+plan-tests p u = require NOT-STARTED (u .started) then require FOREIGN (plan-own (p .states) (p .vars) (p .events) u)
 
 unfoldable pub plan-react : Plan → Removed → Step Ctx
 plan-react p r = take-front r then plan-step p (ref (r .front .event)) (r .front .arg) then plan-settle p
@@ -135,7 +136,7 @@ unfoldable pub plan-run : Plan → State → ℕ → Outcome
 plan-run p u n = outcome u ((plan-tests p u then plan-react p (removed (u .queue))) (begin u n))
 
 unfoldable pub plan-post : Plan → State → ℤ → ℤ → Outcome
-plan-post p u e a = outcome u ((plan-tests p u then require 10 (event-fits (p .events) e a) then enqueue e a) (begin u 0))
+plan-post p u e a = outcome u ((plan-tests p u then require NO-SUCH-EVENT (event-fits (p .events) e a) then enqueue e a) (begin u 0))
 
 unfoldable pub plan-discard : Plan → State → Outcome
 plan-discard p u = outcome u ((plan-tests p u then take-front (removed (u .queue))) (begin u 0))
@@ -145,25 +146,25 @@ plan-discard p u = outcome u ((plan-tests p u then take-front (removed (u .queue
 unfoldable pub machine-start : List ℤ → State → ℕ → Outcome
 machine-start ns u n = elim (well-formed ns) [
   | true ↦ plan-start (plan-by ns) u n
-  | false ↦ refused 5 0 u
+  | false ↦ refused NOT-A-PLAN 0 u
 ]
 
 unfoldable pub machine-run : List ℤ → State → ℕ → Outcome
 machine-run ns u n = elim (well-formed ns) [
   | true ↦ plan-run (plan-by ns) u n
-  | false ↦ refused 5 0 u
+  | false ↦ refused NOT-A-PLAN 0 u
 ]
 
 unfoldable pub machine-post : List ℤ → State → ℤ → ℤ → Outcome
 machine-post ns u e a = elim (well-formed ns) [
   | true ↦ plan-post (plan-by ns) u e a
-  | false ↦ refused 5 0 u
+  | false ↦ refused NOT-A-PLAN 0 u
 ]
 
 unfoldable pub machine-discard : List ℤ → State → Outcome
 machine-discard ns u = elim (well-formed ns) [
   | true ↦ plan-discard (plan-by ns) u
-  | false ↦ refused 5 0 u
+  | false ↦ refused NOT-A-PLAN 0 u
 ]
 
 -- everything above, opened: for statements that compute

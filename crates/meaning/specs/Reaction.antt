@@ -8,6 +8,7 @@ use lib.Signed.{ltZ}
 use lib.Dec.{eqb}
 use Rattle.sizes.specs.Sizes.{NULL-STEPS}
 use Rattle.numbers.specs.Equal.{eqZ}
+use Rattle.meaning.specs.Answers.{UNSETTLED}
 use Rattle.meaning.specs.declared.State.{State}
 use Rattle.meaning.specs.Steps.{Res, refuse, Step, _then_, skip, when, look, each}
 use Rattle.meaning.specs.Lists.{has, keep, exists, concat-map}
@@ -92,7 +93,7 @@ if-any (x ∷ xs) f = f
 
 -- "null steps follow: trigger 0, argument 0, all chosen fire, until none is enabled"; n more are allowed, then 12
 unfoldable pub settle-in : Chart → ℕ → Step Ctx
-settle-in c zero = look (λ k. if-any (chosen c 0 (k .state)) (λ _. refuse 12))
+settle-in c zero = look (λ k. if-any (chosen c 0 (k .state)) (λ _. refuse UNSETTLED))
 settle-in c (suc n) = look (λ k. if-any (chosen c 0 (k .state)) (step c 0 (pos 0) then settle-in c n))
 
 unfoldable pub settle : Chart → Step Ctx

@@ -8,6 +8,7 @@ use lib.ListN.{length, getD, replicate}
 use lib.IntN.{ℤ, pos}
 use lib.Dec.{leb, ltb}
 use Rattle.sizes.specs.Sizes.{STATES, VARIABLES, TRANSITIONS, ACTIONS, TEXT}
+use Rattle.meaning.specs.Answers.{WRONG-LINE, OUTSIDE-SIZE, RULE-FAILS, TEXT-TOO-LONG}
 use Rattle.meaning.specs.Lists.{padded, concat-map, map-from}
 use Rattle.meaning.specs.Value.{Rows, rows-of, chart-by, num, STATE-ROW, VAR-ROW, TRANS-ROW, ACT-ROW, VALUE}
 use Rattle.meaning.specs.Rules.{failing-rule, failing-rule-of}
@@ -93,18 +94,18 @@ line-taken fs n w more = after-line (record-of fs) (line-of (record-of fs) (turn
 
 -- behind the last LF there is nothing, and the E line was met: "a text ending without its E line faults at the line after its last"
 abbrev pub ending : ℕ → Walk → List ℕ → Outcome Rows
-ending n w [] = cond (leb 2 (w .stage)) (done (w .rows)) (refused 1 n)
-ending n w (b ∷ bs) = refused 1 n
+ending n w [] = cond (leb 2 (w .stage)) (done (w .rows)) (refused WRONG-LINE n)
+ending n w (b ∷ bs) = refused WRONG-LINE n
 
 -- "walks the text line by line and reports its first faulty line, counted from 1"
 unfoldable pub walk : ℕ → Walk → List (List ℕ) → Outcome Rows
-walk n w [] = refused 1 n
+walk n w [] = refused WRONG-LINE n
 walk n w (last ∷ []) = ending n w last
 walk n w (line ∷ next ∷ rest) = line-taken (fields line) n w (λ v. walk (n + 1) v (next ∷ rest))
 
 -- "line 0 for a text too long, tested first"
 abbrev pub read-unless : Bool → List ℕ → Outcome Rows
-read-unless true text = refused 2 0
+read-unless true text = refused OUTSIDE-SIZE 0
 read-unless false text = walk 1 start (lines text)
 
 -- the rows that a text states
@@ -133,12 +134,12 @@ value-of r =
 
 abbrev pub by-rule : Option ℕ → Rows → Outcome (List ℤ)
 by-rule none r = done (value-of r)
-by-rule (some k) r = refused 3 k
+by-rule (some k) r = refused RULE-FAILS k
 
 -- numbers too few for a value are no chart (R0); then R1 to R7
 abbrev pub checked-if : Bool → Rows → Outcome (List ℤ)
 checked-if true r = by-rule (failing-rule (chart-by r)) r
-checked-if false r = refused 3 0
+checked-if false r = refused RULE-FAILS 0
 
 abbrev pub checked : ℕ → Outcome Rows → Outcome (List ℤ)
 checked n (done r) = checked-if (leb VALUE n) r
@@ -164,11 +165,11 @@ text-of v = text-by (rows-of v)
 
 -- 13: "text longer than the buffer"
 abbrev pub fitting : ℕ → List ℕ → Outcome (List ℕ)
-fitting n text = cond (ltb n (length text)) (refused 13 0) (done text)
+fitting n text = cond (ltb n (length text)) (refused TEXT-TOO-LONG 0) (done text)
 
 abbrev pub written-by : Option ℕ → List ℤ → ℕ → Outcome (List ℕ)
 written-by none v n = fitting n (text-of v)
-written-by (some k) v n = refused 3 k
+written-by (some k) v n = refused RULE-FAILS k
 
 -- a value written into n lent bytes
 unfoldable pub write : List ℤ → ℕ → Outcome (List ℕ)

@@ -7,6 +7,7 @@ use lib.ListN.{length, getD, set, replicate}
 use lib.IntN.{ℤ, pos, negsuc}
 use lib.Dec.{leb}
 use Rattle.queue.specs.declared.Queue.{Queue}
+use Rattle.meaning.specs.Answers.{NO-ROOM}
 use Rattle.meaning.specs.declared.State.{State}
 use Rattle.meaning.specs.Steps.{Res, ok, refuse, Step, _then_, require}
 -- "An empty slot is -1": a slot is empty, or holds a state; no number below 0 is a state
@@ -83,7 +84,7 @@ written ns k = ok (record { state = k .state; out = k .out ++ ns; room = k .room
 
 -- an entry is "written before the effect goes on"; 11 "no room for the next trace entry"
 unfoldable pub emit : Entry → Step Ctx
-emit e k = (require 11 (leb ENTRY (k .room)) then written (numbers e)) k
+emit e k = (require NO-ROOM (leb ENTRY (k .room)) then written (numbers e)) k
 
 -- a call starts with nothing written in a lent slice of n numbers
 unfoldable pub begin : State → ℕ → Ctx

@@ -2,16 +2,16 @@
 use mathlib.Core.Path.{_≡_, refl, sym, ap, subst, _∙_}
 use Prim.Native.Nat.{ℕ, zero, suc, _+_, _-_, _≤_, _<_}
 use mathlib.Core.Bool.{Bool, true, false, cond}
-use mathlib.Core.List.{List, [], _∷_, _++_, append-nil}
+use mathlib.Core.List.{List, [], _∷_, append-nil}
 use native.Mathlib.Omega.{arith}
 use lib.ListN.{length, getD}
-use lib.Dec.{eqb}
 use lib.IntN.{ℤ, pos, negsuc}
 use borrow.Author.Tests.{eq-eqb, ne-eqb}
 use Rattle.sizes.specs.Sizes.{STATES}
 use Rattle.numbers.specs.Place.{placeOf}
 use Rattle.numbers.specs.declared.Place.{Place}
 use Rattle.numbers.specs.declared.Place.the-variants.{Empty as empty, At as holds}
+use Rattle.laws.proofs.Descent.{Sound}
 use Rattle.laws.proofs.Lists.{is-false}
 use Rattle.laws.proofs.Sound.{Sound-chart, child-later}
 use Rattle.laws.proofs.Tree.{keep-cut}
@@ -19,12 +19,13 @@ use Rattle.laws.proofs.Ways.{towards-sound, owner-sound}
 use Rattle.meaning.specs.Chart.{Chart}
 use Rattle.meaning.specs.declared.chart.Kind.{Kind}
 use Rattle.meaning.specs.declared.chart.Kind.the-variants.{A as kind-a, B as kind-b, O as kind-o}
-use Rattle.meaning.specs.Entry.{Visit, Way, on-to, defaults, stops, plain, goes-on, below, by-defaults, slot-way, towards, towards-owner}
+use Rattle.meaning.specs.Entry.{Visit, Way, on-to, defaults, stops, plain, goes-on, all-below, by-defaults, slot-way, towards, towards-owner}
 use Rattle.meaning.specs.Lists.{concat-map, from, keep, has, first-that}
 use Rattle.meaning.specs.Tree.{kind-of, default-child, is-child, children, all-states, ancestors}
 use Rattle.meaning.specs.Value.{chart-of}
 use Rattle.walks.specs.Walks.{Ruled, path-child}
 use Rattle.walks.proofs.Passing.{sound}
+use Rattle.moves.proofs.Levels.{all-goes}
 use Rattle.moves.specs.Moves.{way-by, slot-of, stored-way, goal-way, defaulting, visit-as, On-child, Inside, Led, Kids}
 use Rattle.moves.specs.declared.ways.Next.{Next}
 use Rattle.moves.specs.declared.ways.Next.the-variants.{OnTo, Defaults, Stops}
@@ -47,27 +48,15 @@ from-none g p d = let n : d - d ≡ 0 = omega arith in rw n
 record Goes (c : Chart) (way : Way) (s first end : ℕ) : Type 0 where
   pub within : end ≤ length (c .states)
   pub goes : (deep : ℕ → List Visit)
-      → goes-on c deep s (kind-of c s) way ≡ concat-map (λ d. visit-as (defaulting (kind-of c s) way) s d ∷ deep d) (keep (is-child c s) (from first (end - first)))
+      → goes-on c deep s (kind-of c s) way ≡ concat-map
+      (λ d. visit-as (defaulting (kind-of c s) way) s d ∷ deep d) (keep (is-child c s) (from first (end - first)))
 
--- with a state left, that level is what is entered first
-kids-of : (c : Chart) (way : Way) (s left first end : ℕ) → (left ≡ 0 → ⊥) → Goes c way s first end → Kids c way s left first end
-unfolding below
-kids-of c way s zero first end n g = absurd (n refl)
-kids-of c way s (suc f) first end n g =
-    let e : f ≡ suc f - 1 = omega arith in
-    record {
-      within = g .within;
-      more = λ l. omega arith;
-      goes = λ w q. ap (goes-on c (below c w f) s (kind-of c s)) q ∙ g .goes (below c w f)
-          ∙ ap (λ k. concat-map (λ d. visit-as (defaulting (kind-of c s) way) s d ∷ below c w k d) (keep (is-child c s) (from first (end - first)))) e;
-    }
-
-kids-zero : (c : Chart) (way : Way) (s left : ℕ) → left ≡ 0 → s < length (c .states) → Kids c way s left s s
-unfolding below
-kids-zero c way s left z l = record {
-  within = omega arith;
-  more = λ m. absurd (omega arith);
-  goes = λ w q. ap (λ f. below c w f s) z ∙ sym (from-none (λ d. visit-as (defaulting (kind-of c s) way) s d ∷ below c w (left - 1) d) (is-child c s) s);
+-- that level is what is entered first
+kids-of : (c : Chart) (next : Way) (s first end : ℕ) → s < length (c .states) → Goes c next s first end → Kids c next s first end
+kids-of c next s first end l g = record {
+  within = g .within;
+  level = g .goes;
+  goes = λ way h q. all-goes c way h s l ∙ ap (goes-on c (all-below c way) s (kind-of c s)) q ∙ g .goes (all-below c way);
 }
 
 module _ (c : Chart) (s : ℕ) (way : Way) where
@@ -76,15 +65,18 @@ module _ (c : Chart) (s : ℕ) (way : Way) where
   kids-one d k w t l = record {
     within = omega arith;
     goes = λ deep. ap (λ x. goes-on c deep s x way) k ∙ ap (goes-on c deep s kind-o) w
-        ∙ sym (from-one (λ x. visit-as (defaulting (kind-of c s) way) s x ∷ deep x) (is-child c s) d t ∙ ap (λ x. visit-as (defaulting x way) s d ∷ deep d) k ∙ ap (λ x. visit-as (defaulting kind-o x) s d ∷ deep d) w);
+        ∙ sym (from-one (λ x. visit-as (defaulting (kind-of c s) way) s x ∷ deep x) (is-child c s) d t
+        ∙ ap (λ x. visit-as (defaulting x way) s d ∷ deep d) k ∙ ap (λ x. visit-as (defaulting kind-o x) s d ∷ deep d) w);
   }
 
-  kids-default : kind-of c s ≡ kind-o → way ≡ defaults → is-child c s (default-child c s) ≡ true → default-child c s < length (c .states) → Goes c way s (default-child c s) (default-child c s + 1)
+  kids-default : kind-of c s ≡ kind-o → way ≡ defaults → is-child c s (default-child c s) ≡ true
+      → default-child c s < length (c .states) → Goes c way s (default-child c s) (default-child c s + 1)
   unfolding goes-on defaulting
   kids-default k w t l = record {
     within = omega arith;
     goes = λ deep. ap (λ x. goes-on c deep s x way) k ∙ ap (goes-on c deep s kind-o) w
-        ∙ sym (from-one (λ x. visit-as (defaulting (kind-of c s) way) s x ∷ deep x) (is-child c s) (default-child c s) t ∙ ap (λ x. visit-as (defaulting x way) s (default-child c s) ∷ deep (default-child c s)) k
+        ∙ sym (from-one (λ x. visit-as (defaulting (kind-of c s) way) s x ∷ deep x) (is-child c s) (default-child c s) t
+        ∙ ap (λ x. visit-as (defaulting x way) s (default-child c s) ∷ deep (default-child c s)) k
         ∙ ap (λ x. visit-as (defaulting kind-o x) s (default-child c s) ∷ deep (default-child c s)) w);
   }
 
@@ -92,14 +84,16 @@ module _ (c : Chart) (s : ℕ) (way : Way) where
   unfolding goes-on
   kids-stop k w l = record {
     within = omega arith;
-    goes = λ deep. ap (λ x. goes-on c deep s x way) k ∙ ap (goes-on c deep s kind-o) w ∙ sym (from-none (λ x. visit-as (defaulting (kind-of c s) way) s x ∷ deep x) (is-child c s) s);
+    goes = λ deep. ap (λ x. goes-on c deep s x way) k ∙ ap (goes-on c deep s kind-o) w
+        ∙ sym (from-none (λ x. visit-as (defaulting (kind-of c s) way) s x ∷ deep x) (is-child c s) s);
   }
 
   kids-none : kind-of c s ≡ kind-b → s < length (c .states) → Goes c way s s s
   unfolding goes-on
   kids-none k l = record {
     within = omega arith;
-    goes = λ deep. ap (λ x. goes-on c deep s x way) k ∙ sym (from-none (λ x. visit-as (defaulting (kind-of c s) way) s x ∷ deep x) (is-child c s) s);
+    goes = λ deep. ap (λ x. goes-on c deep s x way) k
+        ∙ sym (from-none (λ x. visit-as (defaulting (kind-of c s) way) s x ∷ deep x) (is-child c s) s);
   }
 
   children-after : Sound-chart c → s < length (c .states) → children c s ≡ keep (is-child c s) (from (s + 1) (length (c .states) - (s + 1)))
@@ -107,50 +101,55 @@ module _ (c : Chart) (s : ℕ) (way : Way) where
   children-after h l =
       let n : length (c .states) ≡ (s + 1) + (length (c .states) - (s + 1)) = omega arith in
       ap (λ k. keep (is-child c s) (from 0 k)) n
-      ∙ keep-cut (is-child c s) (s + 1) (length (c .states) - (s + 1)) (λ x m. is-false _ (λ t. omega (arith, child-later c (h .ordered) s x t)))
+      ∙ keep-cut (is-child c s) (s + 1) (length (c .states) - (s + 1)) (λ x m. is-false _
+      (λ t. omega (arith, child-later c (h .ordered) s x t)))
 
   kids-all : Sound-chart c → kind-of c s ≡ kind-a → s < length (c .states) → Goes c way s (s + 1) (length (c .states))
   unfolding goes-on defaulting
   kids-all h k l = record {
     within = omega arith;
     goes = λ deep. ap (λ x. goes-on c deep s x way) k ∙ ap (concat-map (λ d. plain d ∷ deep d)) (children-after h l)
-        ∙ ap (λ x. concat-map (λ d. visit-as (defaulting x way) s d ∷ deep d) (keep (is-child c s) (from (s + 1) (length (c .states) - (s + 1))))) (sym k);
+        ∙ ap (λ x. concat-map
+        (λ d. visit-as (defaulting x way) s d ∷ deep d) (keep (is-child c s) (from (s + 1) (length (c .states) - (s + 1))))) (sym k);
   }
 
 -- ---- as `goes_on` has them
 
-module _ (v : List ℤ) (r : Ruled v) (s : ℕ) (l : s < length (chart-of v .states)) (next : Next) (f : On-child (chart-of v) s (way-by next)) (left : ℕ) (z : left ≡ 0 → ⊥) (kind : Kind) (e : kind ≡ kind-of (chart-of v) s) where
+module _ (v : List ℤ) (r : Ruled v) (s : ℕ) (l : s < length (chart-of v .states)) (next : Next) (f : On-child (chart-of v) s
+    (way-by next)) (kind : Kind) (e : kind ≡ kind-of (chart-of v) s) where
   pub on-inside : (d : ℕ) → kind ≡ kind-o → next ≡ OnTo d → d < length (chart-of v .states)
   on-inside d k n = f d (sym e ∙ k) (ap way-by n) .1
 
-  pub among-one : (d : ℕ) → kind ≡ kind-o → next ≡ OnTo d → Kids (chart-of v) (way-by next) s left d (d + 1)
-  among-one d k n = let g = f d (sym e ∙ k) (ap way-by n) in kids-of _ _ _ _ _ _ z (kids-one (chart-of v) s (way-by next) d (sym e ∙ k) (ap way-by n) (g .0) (g .1))
+  pub among-one : (d : ℕ) → kind ≡ kind-o → next ≡ OnTo d → Kids (chart-of v) (way-by next) s d (d + 1)
+  among-one d k n = let g = f d (sym e ∙ k) (ap way-by n) in kids-of _ _ _ _ _ l (kids-one (chart-of v) s (way-by next) d (sym e
+      ∙ k) (ap way-by n) (g .0) (g .1))
 
   pub default-inside : (d : ℕ) → kind ≡ kind-o → d ≡ default-child (chart-of v) s → d < length (chart-of v .states)
   default-inside d k q = omega (arith, sound v r .default s (sym e ∙ k) .1)
 
-  pub among-default : (d : ℕ) → kind ≡ kind-o → next ≡ Defaults → d ≡ default-child (chart-of v) s → Kids (chart-of v) (way-by next) s left d (d + 1)
+  pub among-default : (d : ℕ) → kind ≡ kind-o → next ≡ Defaults → d ≡ default-child (chart-of v) s
+      → Kids (chart-of v) (way-by next) s d (d + 1)
   among-default d k n q =
       let g = sound v r .default s (sym e ∙ k) in
-      kids-of _ _ _ _ _ _ z (subst (λ x. Goes (chart-of v) (way-by next) s x (x + 1)) (sym q) (kids-default (chart-of v) s (way-by next) (sym e ∙ k) (ap way-by n) (g .0) (g .1)))
+      kids-of _ _ _ _ _ l (subst
+      (λ x. Goes (chart-of v) (way-by next) s x (x + 1)) (sym q) (kids-default (chart-of v) s (way-by next) (sym e
+      ∙ k) (ap way-by n) (g .0) (g .1)))
 
-  pub among-stop : kind ≡ kind-o → next ≡ Stops → Kids (chart-of v) (way-by next) s left s s
-  among-stop k n = kids-of _ _ _ _ _ _ z (kids-stop (chart-of v) s (way-by next) (sym e ∙ k) (ap way-by n) l)
+  pub among-stop : kind ≡ kind-o → next ≡ Stops → Kids (chart-of v) (way-by next) s s s
+  among-stop k n = kids-of _ _ _ _ _ l (kids-stop (chart-of v) s (way-by next) (sym e ∙ k) (ap way-by n) l)
 
-  pub among-all : kind ≡ kind-a → (n : ℕ) → n ≡ length (chart-of v .states) → Kids (chart-of v) (way-by next) s left (s + 1) n
-  among-all k n q = kids-of _ _ _ _ _ _ z (subst (Goes (chart-of v) (way-by next) s (s + 1)) (sym q) (kids-all (chart-of v) s (way-by next) (sound v r) (sym e ∙ k) l))
+  pub among-all : kind ≡ kind-a → (n : ℕ) → n ≡ length (chart-of v .states) → Kids (chart-of v) (way-by next) s (s + 1) n
+  among-all k n q = kids-of _ _ _ _ _ l (subst (Goes (chart-of v) (way-by next) s (s + 1)) (sym q) (kids-all (chart-of v) s
+      (way-by next) (sound v r) (sym e ∙ k) l))
 
-  pub among-none : kind ≡ kind-b → Kids (chart-of v) (way-by next) s left s s
-  among-none k = kids-of _ _ _ _ _ _ z (kids-none (chart-of v) s (way-by next) (sym e ∙ k) l)
-
--- with no state left
-pub among-zero : (v : List ℤ) (s : ℕ) → s < length (chart-of v .states) → (next : Next) (left : ℕ) → left ≡ 0 → Kids (chart-of v) (way-by next) s left s s
-among-zero v s l next left z = kids-zero (chart-of v) (way-by next) s left z l
+  pub among-none : kind ≡ kind-b → Kids (chart-of v) (way-by next) s s s
+  among-none k = kids-of _ _ _ _ _ l (kids-none (chart-of v) s (way-by next) (sym e ∙ k) l)
 
 -- ---- by default or not
 
 module _ (c : Chart) (s : ℕ) (next : Next) (kind : Kind) (e : kind ≡ kind-of c s) where
-  pub by-default-is : (k : Kind) (n : Next) → kind ≡ k → next ≡ n → (b : Bool) → b ≡ defaulting k (way-by n) → b ≡ defaulting (kind-of c s) (way-by next)
+  pub by-default-is : (k : Kind) (n : Next) → kind ≡ k → next ≡ n → (b : Bool) → b ≡ defaulting k (way-by n)
+      → b ≡ defaulting (kind-of c s) (way-by next)
   by-default-is k n p q b f = f ∙ sym (ap (λ x. defaulting x (way-by next)) (sym e ∙ p) ∙ ap (λ x. defaulting k (way-by x)) q)
 
 -- ---- the ways
@@ -161,7 +160,8 @@ getD-any (x ∷ xs) zero d e h = refl
 getD-any (x ∷ xs) (suc i) d e h = getD-any xs i d e (omega arith)
 
 -- what the code reads of a slot is what the definition reads
-pub slot-read : (slots : List ℤ) (s : ℕ) → s < STATES → length slots ≡ STATES → (z : ℤ) → z ≡ getD slots s (pos 0) → (p : Place) → p ≡ placeOf z → p ≡ placeOf (getD slots s (negsuc 0))
+pub slot-read : (slots : List ℤ) (s : ℕ) → s < STATES → length slots ≡ STATES → (z : ℤ) → z ≡ getD slots s (pos 0) → (p : Place)
+    → p ≡ placeOf z → p ≡ placeOf (getD slots s (negsuc 0))
 slot-read slots s l n z e p q = q ∙ ap placeOf (e ∙ getD-any slots s (pos 0) (negsuc 0) (omega arith))
 
 pub stored-on : (slots : List ℤ) (s d : ℕ) (p : Place) → p ≡ placeOf (getD slots s (negsuc 0)) → p ≡ holds d → on-to d ≡ stored-way slots s
@@ -174,7 +174,8 @@ stored-stop slots s p e q = rw (← e, q)
 
 way-of-path : (c : Chart) (t s : ℕ) (p : Place) → path-child c s t ≡ p → towards c t s ≡ elim p [ empty ↦ defaults | holds d ↦ on-to d ]
 unfolding path-child towards
-way-of-path c t s p e = go (has s (ancestors c t)) (first-that (is-child c s) (t ∷ ancestors c t)) ∙ ap (λ x. elim x [ empty ↦ defaults | holds d ↦ on-to d ]) e
+way-of-path c t s p e = go (has s (ancestors c t)) (first-that (is-child c s) (t ∷ ancestors c t))
+    ∙ ap (λ x. elim x [ empty ↦ defaults | holds d ↦ on-to d ]) e
   where
     go : (b : Bool) (x : ℕ) → cond b (on-to x) defaults ≡ elim (cond b (holds x) empty) [ empty ↦ defaults | holds d ↦ on-to d ]
     go true x = refl
@@ -212,12 +213,28 @@ unfolding slot-way
 held-on empty d e = let z : _≡_ {A = ℕ} 0 1 = cc in absurd (omega arith)
 held-on (holds x) d e = let z : x ≡ d = cc in ap holds z
 
-pub stored-child : (c : Chart) (slots : List ℤ) (s : ℕ) (next : Next) → way-by next ≡ stored-way slots s → Led c slots → On-child c s (way-by next)
+pub stored-child : (c : Chart) (slots : List ℤ) (s : ℕ) (next : Next) → way-by next ≡ stored-way slots s → Led c slots
+    → On-child c s (way-by next)
 unfolding stored-way
 stored-child c slots s next e h d k q = h .holding s d (held-on (slot-of slots s) d (sym e ∙ q))
 
-pub stored-kids : (c : Chart) (slots : List ℤ) (s left first end : ℕ) (next : Next) → way-by next ≡ stored-way slots s → Kids c (way-by next) s left first end → Kids c (stored-way slots s) s left first end
-stored-kids c slots s left first end next e k = subst (λ w. Kids c w s left first end) e k
+pub stored-kids : (c : Chart) (slots : List ℤ) (s first end : ℕ) (next : Next) → way-by next ≡ stored-way slots s
+    → Kids c (way-by next) s first end → Kids c (stored-way slots s) s first end
+stored-kids c slots s first end next e k = subst (λ w. Kids c w s first end) e k
+
+not-defaults : (p : Place) → slot-way p ≡ defaults → ⊥
+unfolding slot-way
+not-defaults empty e = let z : _≡_ {A = ℕ} 0 1 = cc in omega arith
+not-defaults (holds d) e = let z : _≡_ {A = ℕ} 0 1 = cc in omega arith
+
+pub stored-sound : (v : List ℤ) → Ruled v → (slots : List ℤ) → Led (chart-of v) slots → Sound (chart-of v) (stored-way slots)
+unfolding stored-way
+stored-sound v r slots h = record {
+  ordered = sound v r .ordered;
+  on = λ s d k e. h .holding s d (held-on (slot-of slots s) d e);
+  by = λ s k e. absurd (not-defaults (slot-of slots s) e);
+  leaf = sound v r .leaf;
+}
 
 -- by the slots nothing is entered by default
 pub stored-plain : (slots : List ℤ) (s : ℕ) (k : Kind) → defaulting k (stored-way slots s) ≡ false
@@ -230,9 +247,15 @@ stored-plain slots s k = never k (slot-of slots s)
     never kind-a p = refl
     never kind-b p = refl
 
-pub goal-child : (v : List ℤ) → Ruled v → (goal : Goal) → Inside (chart-of v) goal → (s : ℕ) (next : Next) → way-by next ≡ goal-way (chart-of v) goal s → On-child (chart-of v) s (way-by next)
+pub goal-child : (v : List ℤ) → Ruled v → (goal : Goal) → Inside (chart-of v) goal → (s : ℕ) (next : Next)
+    → way-by next ≡ goal-way (chart-of v) goal s → On-child (chart-of v) s (way-by next)
 goal-child v r (Target t) l s next e d k q = towards-sound (chart-of v) (sound v r) t l .on s d k (sym e ∙ q)
 goal-child v r (Owner b) l s next e d k q = owner-sound (chart-of v) (sound v r) b l .on s d k (sym e ∙ q)
 
-pub goal-kids : (c : Chart) (goal : Goal) (s left first end : ℕ) (next : Next) → way-by next ≡ goal-way c goal s → Kids c (way-by next) s left first end → Kids c (goal-way c goal s) s left first end
-goal-kids c goal s left first end next e k = subst (λ w. Kids c w s left first end) e k
+pub goal-sound : (v : List ℤ) → Ruled v → (goal : Goal) → Inside (chart-of v) goal → Sound (chart-of v) (goal-way (chart-of v) goal)
+goal-sound v r (Target t) l = towards-sound (chart-of v) (sound v r) t l
+goal-sound v r (Owner b) l = owner-sound (chart-of v) (sound v r) b l
+
+pub goal-kids : (c : Chart) (goal : Goal) (s first end : ℕ) (next : Next) → way-by next ≡ goal-way c goal s
+    → Kids c (way-by next) s first end → Kids c (goal-way c goal s) s first end
+goal-kids c goal s first end next e k = subst (λ w. Kids c w s first end) e k

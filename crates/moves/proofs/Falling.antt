@@ -1,12 +1,11 @@
 -- The laws by which `leave_below` meets its promise: the descendants of a state are left from the last number down. Assumes nothing.
 use mathlib.Core.Path.{_≡_, refl, sym, ap, subst, _∙_}
-use Prim.Native.Nat.{ℕ, zero, suc, _+_, _-_, _≤_, _<_}
-use mathlib.Core.Bool.{Bool, true, false}
-use mathlib.Core.List.{List, [], _∷_, _++_, reverse, reverse-append}
+use Prim.Native.Nat.{ℕ, suc, _+_, _-_, _≤_, _<_}
+use mathlib.Core.Bool.{true, false}
+use mathlib.Core.List.{List, _∷_, reverse, reverse-append}
 use native.Mathlib.Omega.{arith}
 use lib.ListN.{length, getD}
 use lib.IntN.{ℤ}
-use Rattle.queue.specs.declared.Queue.{Queue}
 use Rattle.laws.proofs.Tree.{from-add}
 use Rattle.laws.proofs.Ways.{descendants-range}
 use Rattle.meaning.specs.Chart.{Chart}
@@ -18,9 +17,9 @@ use Rattle.meaning.specs.Tree.{descendants}
 use Rattle.meaning.specs.Value.{chart-of}
 use Rattle.meaning.specs.Widget.{Ctx, is-active}
 use Rattle.widget.specs.declared.Went.{Went}
-use Rattle.widget.specs.View.{ctx, tracing, Did, Owes}
-use Rattle.widget.proofs.Going.{owes-all, owes-as, owes-last}
-use Rattle.widget.proofs.Loops.{each-none, each-next, each-ends, look-at, when-on, when-off}
+use Rattle.widget.specs.View.{Lent, ctx, tracing, Did, Owes}
+use Rattle.widget.proofs.Going.{owes-all, owes-as}
+use Rattle.widget.proofs.Loops.{each-none, each-next, each-ends, look-at, when-on}
 use Rattle.walks.specs.Walks.{Ruled}
 use Rattle.walks.proofs.On.{end-within}
 use Rattle.walks.proofs.Passing.{sound}
@@ -33,7 +32,7 @@ reverse-last a n =
     let e : suc n ≡ n + 1 = omega arith in
     ap (λ k. reverse (from a k)) e ∙ ap reverse (from-add a n 1) ∙ reverse-append (from a n) (from (a + n) 1)
 
-falls-by : (s d : ℕ) → suc s < d → reverse (from (suc s) (d - suc s)) ≡ (d - 1) ∷ reverse (from (suc s) ((d - 1) - suc s))
+pub falls-by : (s d : ℕ) → suc s < d → reverse (from (suc s) (d - suc s)) ≡ (d - 1) ∷ reverse (from (suc s) ((d - 1) - suc s))
 falls-by s d h =
     let e : d - suc s ≡ suc ((d - 1) - suc s) = omega arith in
     let f : suc s + ((d - 1) - suc s) ≡ d - 1 = omega arith in
@@ -41,36 +40,38 @@ falls-by s d h =
 
 -- ---- an element whose step leaves everything as it is
 
-module _ {D : Step Ctx} {a : List Bool} {s v : List ℤ} {q : Queue} {t : List ℤ} {at : ℕ} {a₁ : List Bool} {s₁ v₁ : List ℤ} {q₁ : Queue} {t₁ : List ℤ} {at₁ : ℕ} where
-  pub each-pass : {A : Type 0} (f : A → Step Ctx) (x : A) (xs : List A) → Owes D a s v q t at (each f (x ∷ xs)) a₁ s₁ v₁ q₁ t₁ at₁
-      → f x (ctx a₁ s₁ v₁ q₁ t₁ at₁) ≡ ok (ctx a₁ s₁ v₁ q₁ t₁ at₁) → Owes D a s v q t at (each f xs) a₁ s₁ v₁ q₁ t₁ at₁
+module _ {D : Step Ctx} {k : Lent} {at : ℕ} {k₁ : Lent} {at₁ : ℕ} where
+  pub each-pass : {A : Type 0} (f : A → Step Ctx) (x : A) (xs : List A) → Owes D k at (each f (x ∷ xs)) k₁ at₁
+      → f x (ctx k₁ at₁) ≡ ok (ctx k₁ at₁) → Owes D k at (each f xs) k₁ at₁
   unfolding each bind
-  each-pass f x xs o e = owes-as (each f xs) o (sym (ap (λ k. bind k (λ c. each f xs c)) e))
+  each-pass f x xs o e = owes-as (each f xs) o (sym (ap (λ r. bind r (λ c. each f xs c)) e))
 
 -- ---- one state, left if it is active
 
 module _ (c : Chart) (arg : ℤ) (x : ℕ) where
-  pub leaves-none : (a : List Bool) (sl vs : List ℤ) (q : Queue) (t : List ℤ) (at : ℕ) → getD a x false ≡ false → leave-active c arg x (ctx a sl vs q t at) ≡ ok (ctx a sl vs q t at)
+  pub leaves-none : (k : Lent) (at : ℕ) → getD (k .active) x false ≡ false → leave-active c arg x (ctx k at) ≡ ok (ctx k at)
   unfolding leave-active look when is-active ctx tracing
-  leaves-none a sl vs q t at e = rw e
+  leaves-none k at e = rw e
 
-  pub leaves-one : {a : List Bool} {sl vs : List ℤ} {q : Queue} {t : List ℤ} {at : ℕ} {r : Went} {a₁ : List Bool} {sl₁ v₁ t₁ : List ℤ} → getD a x false ≡ true → Did (leave c arg x) a sl vs q t at r a₁ sl₁ v₁ t₁ → Did (leave-active c arg x) a sl vs q t at r a₁ sl₁ v₁ t₁
+  pub leaves-one : {k : Lent} {at : ℕ} {r : Went} {k₁ : Lent} → getD (k .active) x false ≡ true → Did (leave c arg x) k at r k₁
+      → Did (leave-active c arg x) k at r k₁
   unfolding leave-active is-active ctx tracing
   leaves-one e d = look-at _ (when-on e d)
 
 -- ---- the loop
 
-pub record Leaving (v : List ℤ) (arg : ℤ) (s : ℕ) (a : List Bool) (sl vs : List ℤ) (q : Queue) (t : List ℤ) (at : ℕ)
-    (d : ℕ) (a₁ : List Bool) (sl₁ v₁ : List ℤ) (q₁ : Queue) (t₁ : List ℤ) (at₁ : ℕ) : Type 0 where
+pub record Leaving (v : List ℤ) (arg : ℤ) (s : ℕ) (k : Lent) (at : ℕ) (d : ℕ) (k₁ : Lent) (at₁ : ℕ) : Type 0 where
   pub past : s < d
   pub top : d ≤ length (chart-of v .states)
-  pub fits : at₁ ≤ length t₁
-  pub kept : length t₁ ≡ length t
-  pub owes : Owes (leave-all (chart-of v) arg (descendants (chart-of v) s)) a sl vs q t at (each (leave-active (chart-of v) arg) (reverse (from (suc s) (d - suc s)))) a₁ sl₁ v₁ q₁ t₁ at₁
+  pub fits : at₁ ≤ length (k₁ .trace)
+  pub kept : length (k₁ .trace) ≡ length (k .trace)
+  pub owes : Owes (leave-all (chart-of v) arg (descendants (chart-of v) s)) k at (each (leave-active (chart-of v) arg) (reverse (from
+      (suc s) (d - suc s)))) k₁ at₁
 
-module _ {v : List ℤ} {arg : ℤ} {s : ℕ} {a : List Bool} {sl vs : List ℤ} {q : Queue} {t : List ℤ} {at : ℕ} where
-  pub leaving-begin : Ruled v → s < length (chart-of v .states) → at ≤ length t → {d : ℕ} → d ≡ suc s + length (descendants (chart-of v) s)
-      → Leaving v arg s a sl vs q t at d a sl vs q t at
+module _ {v : List ℤ} {arg : ℤ} {s : ℕ} {k : Lent} {at : ℕ} where
+  pub leaving-begin : Ruled v → s < length (chart-of v .states) → at ≤ length (k .trace) → {d : ℕ}
+      → d ≡ suc s + length (descendants (chart-of v) s)
+      → Leaving v arg s k at d k at
   unfolding leave-all
   leaving-begin r h f {d} e =
       let n : length (descendants (chart-of v) s) ≡ d - suc s = omega arith in
@@ -79,34 +80,42 @@ module _ {v : List ℤ} {arg : ℤ} {s : ℕ} {a : List Bool} {sl vs : List ℤ}
         top = omega (arith, end-within (chart-of v) (sound v r .ordered) s h);
         fits = f;
         kept = refl;
-        owes = owes-as _ (owes-all f) (ap (λ l. each (leave-active (chart-of v) arg) (reverse l) (ctx a sl vs q t at)) (sym (descendants-range (chart-of v) (sound v r) s h ∙ ap (from (suc s)) n)));
+        owes = owes-as _ (owes-all f) (ap
+            (λ l. each (leave-active (chart-of v) arg) (reverse l) (ctx k at)) (sym (descendants-range (chart-of v) (sound v r) s h
+            ∙ ap (from (suc s)) n)));
       }
 
-  module _ {d : ℕ} {a₁ : List Bool} {sl₁ v₁ : List ℤ} {q₁ : Queue} {t₁ : List ℤ} {at₁ : ℕ} (h : Leaving v arg s a sl vs q t at d a₁ sl₁ v₁ q₁ t₁ at₁) where
-    pub leaving-end : d ≤ suc s → Did (leave-all (chart-of v) arg (descendants (chart-of v) s)) a sl vs q t at (record { number = 0; at = at₁; queue = q₁ }) a₁ sl₁ v₁ t₁
+  module _ {d : ℕ} {k₁ : Lent} {at₁ : ℕ} (h : Leaving v arg s k at d k₁ at₁) where
+    pub leaving-end : d ≤ suc s → Did (leave-all (chart-of v) arg (descendants (chart-of v) s)) k at (record { number = 0; at = at₁ }) k₁
     unfolding from
     leaving-end l =
         let n : d - suc s ≡ 0 = omega arith in
-        each-none (leave-active (chart-of v) arg) (subst (λ k. Owes (leave-all (chart-of v) arg (descendants (chart-of v) s)) a sl vs q t at (each (leave-active (chart-of v) arg) (reverse (from (suc s) k))) a₁ sl₁ v₁ q₁ t₁ at₁) n (h .owes))
+        each-none (leave-active (chart-of v) arg) (subst
+        (λ n. Owes (leave-all (chart-of v) arg (descendants (chart-of v) s)) k at (each (leave-active (chart-of v) arg) (reverse
+        (from (suc s) n))) k₁ at₁) n (h .owes))
 
     module _ (l : suc s < d) where
-      due : Owes (leave-all (chart-of v) arg (descendants (chart-of v) s)) a sl vs q t at (each (leave-active (chart-of v) arg) ((d - 1) ∷ reverse (from (suc s) ((d - 1) - suc s)))) a₁ sl₁ v₁ q₁ t₁ at₁
-      due = subst (λ k. Owes (leave-all (chart-of v) arg (descendants (chart-of v) s)) a sl vs q t at (each (leave-active (chart-of v) arg) k) a₁ sl₁ v₁ q₁ t₁ at₁) (falls-by s d l) (h .owes)
+      due : Owes (leave-all (chart-of v) arg (descendants (chart-of v) s)) k at (each (leave-active (chart-of v) arg)
+          ((d - 1) ∷ reverse (from (suc s) ((d - 1) - suc s)))) k₁ at₁
+      due = subst (λ n. Owes (leave-all (chart-of v) arg (descendants (chart-of v) s)) k at (each (leave-active
+          (chart-of v) arg) n) k₁ at₁) (falls-by s d l) (h .owes)
 
-      pub leaving-skip : getD a₁ (d - 1) false ≡ false → Leaving v arg s a sl vs q t at (d - 1) a₁ sl₁ v₁ q₁ t₁ at₁
+      pub leaving-skip : getD (k₁ .active) (d - 1) false ≡ false → Leaving v arg s k at (d - 1) k₁ at₁
       leaving-skip e = record {
         past = omega arith;
         top = omega (arith, h .top);
         fits = h .fits;
         kept = h .kept;
-        owes = each-pass (leave-active (chart-of v) arg) (d - 1) (reverse (from (suc s) ((d - 1) - suc s))) due (leaves-none (chart-of v) arg (d - 1) a₁ sl₁ v₁ q₁ t₁ at₁ e);
+        owes = each-pass (leave-active (chart-of v) arg) (d - 1) (reverse (from (suc s) ((d - 1) - suc s))) due (leaves-none
+            (chart-of v) arg (d - 1) k₁ at₁ e);
       }
 
-      module _ {r : Went} {a₂ : List Bool} {sl₂ v₂ t₂ : List ℤ} (e : getD a₁ (d - 1) false ≡ true) (g : Did (leave (chart-of v) arg (d - 1)) a₁ sl₁ v₁ q₁ t₁ at₁ r a₂ sl₂ v₂ t₂) where
-        pub leaving-stop : (r .number ≡ 0 → ⊥) → Did (leave-all (chart-of v) arg (descendants (chart-of v) s)) a sl vs q t at r a₂ sl₂ v₂ t₂
+      module _ {r : Went} {k₂ : Lent} (e : getD (k₁ .active) (d - 1) false ≡ true) (g : Did (leave (chart-of v) arg
+          (d - 1)) k₁ at₁ r k₂) where
+        pub leaving-stop : (r .number ≡ 0 → ⊥) → Did (leave-all (chart-of v) arg (descendants (chart-of v) s)) k at r k₂
         leaving-stop z = each-ends (leave-active (chart-of v) arg) (d - 1) _ due (leaves-one (chart-of v) arg (d - 1) e g) z
 
-        pub leaving-on : r .number ≡ 0 → Leaving v arg s a sl vs q t at (d - 1) a₂ sl₂ v₂ (r .queue) t₂ (r .at)
+        pub leaving-on : r .number ≡ 0 → Leaving v arg s k at (d - 1) k₂ (r .at)
         leaving-on z = record {
           past = omega arith;
           top = omega (arith, h .top);

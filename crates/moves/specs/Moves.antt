@@ -10,6 +10,7 @@ use Rattle.sizes.specs.Sizes.{STATES}
 use Rattle.numbers.specs.Place.{placeOf}
 use Rattle.numbers.specs.declared.Place.{Place}
 use Rattle.numbers.specs.declared.Place.the-variants.{At as holds}
+use Rattle.laws.proofs.Descent.{Sound}
 use Rattle.meaning.specs.Chart.{Chart}
 use Rattle.meaning.specs.declared.chart.Kind.{Kind}
 use Rattle.meaning.specs.declared.chart.Kind.the-variants.{A as kind-a, B as kind-b, O as kind-o}
@@ -17,8 +18,7 @@ use Rattle.meaning.specs.Lists.{concat-map, from, keep}
 use Rattle.meaning.specs.Steps.{Step}
 use Rattle.meaning.specs.Tree.{kind-of, is-child}
 use Rattle.meaning.specs.Widget.{Ctx}
-use Rattle.meaning.specs.Entry.{Visit, plain, by-default, Way, on-to, defaults, stops, below, slot-way, towards, towards-owner, visit, visit-towards}
-use Rattle.widget.specs.declared.Went.{Went}
+use Rattle.meaning.specs.Entry.{Visit, plain, by-default, Way, on-to, defaults, stops, goes-on, all-below, slot-way, towards, towards-owner, visit, visit-towards}
 use Rattle.moves.specs.declared.ways.Next.{Next}
 use Rattle.moves.specs.declared.ways.Next.the-variants.{OnTo, Defaults, Stops}
 use Rattle.moves.specs.declared.ways.Goal.{Goal}
@@ -74,15 +74,13 @@ pub record Led (c : Chart) (slots : List ℤ) : Type 0 where
   pub long : length slots ≡ STATES
   pub holding : (s d : ℕ) → slot-of slots s ≡ holds d → (is-child c s d ≡ true) × (d < length (c .states))
 
--- what is entered below s, with so many states left, are those of the numbers from first up to below end that are its children, each with
--- what is below it
-pub record Kids (c : Chart) (next : Way) (s left first end : ℕ) : Type 0 where
+-- what is entered below s, on a way that goes on so there, are those of the numbers from first up to below end that are its children, each
+-- with what is below it; level: the same of one level, whatever is entered below the children
+pub record Kids (c : Chart) (next : Way) (s first end : ℕ) : Type 0 where
   pub within : end ≤ length (c .states)
-  pub more : first < end → 0 < left
-  pub goes : (way : ℕ → Way) → way s ≡ next
-      → below c way left s ≡ concat-map (λ d. visit-as (defaulting (kind-of c s) next) s d ∷ below c way (left - 1) d) (keep (is-child c s) (from first (end - first)))
-
--- how things went before: nothing was refused, and the next free place is one of the trace
-pub record Ready (begun : Went) (trace : List ℤ) : Type 0 where
-  pub going : begun .number ≡ 0
-  pub fits : begun .at ≤ length trace
+  pub level : (deep : ℕ → List Visit)
+      → goes-on c deep s (kind-of c s) next ≡ concat-map
+      (λ d. visit-as (defaulting (kind-of c s) next) s d ∷ deep d) (keep (is-child c s) (from first (end - first)))
+  pub goes : (way : ℕ → Way) → Sound c way → way s ≡ next
+      → all-below c way s ≡ concat-map
+      (λ d. visit-as (defaulting (kind-of c s) next) s d ∷ all-below c way d) (keep (is-child c s) (from first (end - first)))

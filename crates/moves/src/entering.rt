@@ -1,6 +1,6 @@
 // Entering states below a state that is in (01, "Firing" and "History"): one state, with its parent's default actions where
 // due; down by defaults; down by the slots; the restore at a history's owner; and the path to a target or to an owner.
-// `left` is how many states there can be below this one: it falls with every level. `begun` is how things went before.
+// Each goes from a state to its children: the falling number is that of the states left below this one.
 use super::ways::Goal;
 use super::ways::Next;
 use super::ways::by_default;
@@ -11,29 +11,26 @@ use super::ways::stored;
 use acts::enter;
 use acts::perform_all;
 use chart::kind_of;
-use chart::state_count;
 use chart::tree::is_child;
 use chart::tree::is_o;
+use meaning::answers::SLOT_EMPTY;
 use meaning::chart::Owner;
 use numbers::Place;
-use queue::Queue;
+use queue::lent::QUEUE_NUMBERS;
 use sizes::STATES;
 use sizes::VARIABLES;
 use widget::Went;
 ghost use mathlib.Core.Path.{_≡_};
-ghost use mathlib.Core.Bool.{Bool};
-ghost use mathlib.Core.List.{List};
 ghost use Prim.Native.Nat.{_≤_, _<_};
 ghost use lib.ListN.{length};
-ghost use lib.IntN.{ℤ};
 ghost use Rattle.sizes.specs.Sizes.{STATES as states};
 ghost use Rattle.meaning.specs.Steps.{each};
 ghost use Rattle.meaning.specs.Tree.{kind-of as kind-in};
-ghost use Rattle.meaning.specs.Entry.{plain, below, by-defaults, visit as visits, revisit as revisits, restore as restores};
+ghost use Rattle.meaning.specs.Entry.{plain, all-below, by-defaults, visit as visits, revisit as revisits, restore as restores};
 ghost use Rattle.meaning.specs.Value.{chart-of};
 ghost use Rattle.walks.specs.Walks.{Ruled};
-ghost use Rattle.widget.specs.View.{Within, Did};
-ghost use Rattle.moves.specs.Moves.{way-by, stored-way, goal-way, goal-visit, defaulting, visit-as, Inside, Led, Ready};
+ghost use Rattle.widget.specs.View.{Lent, all-lent, with-active, with-vars, with-queue, with-trace, Within, Did};
+ghost use Rattle.moves.specs.Moves.{way-by, stored-way, goal-way, goal-visit, defaulting, visit-as, Inside, Led};
 
 // Enters s, a child of p, which goes on so: "a state entered by its parent's default has that default's actions run just
 // before it".
@@ -45,23 +42,22 @@ fn visit(
     s: usize,
     active: &mut [bool; STATES],
     vars: &mut [i32; VARIABLES],
+    queue: &mut [i32; QUEUE_NUMBERS],
     trace: &mut [i32],
-    begun: Went,
+    at: usize,
 ) -> Went
-    requires { ⌜ Ruled (now chart) × (s < states) × Ready begun (now trace) ⌝ }
-    ensures { λ r. ⌜ Within (now (trace .entry)) r (now (trace .exit)) × ((slots : List ℤ) → Did (visits (chart-of (now (chart .entry))) arg (visit-as (defaulting (kind-in (chart-of (now (chart .entry))) p) (way-by next)) p s)) (now (active .entry)) slots (now (vars .entry)) (begun .queue) (now (trace .entry)) (begun .at) r (now (active .exit)) slots (now (vars .exit)) (now (trace .exit))) ⌝ }
+    requires { ⌜ Ruled (now chart) × (s < states) × (at ≤ length (now trace)) ⌝ }
+    ensures { λ r. ⌜ Within (now (trace .entry)) r (now (trace .exit)) × ((k : Lent) → Did (visits (chart-of (now (chart .entry))) arg (visit-as (defaulting (kind-in (chart-of (now (chart .entry))) p) (way-by next)) p s)) (with-active (now (active .entry)) (with-vars (now (vars .entry)) (with-queue (now (queue .entry)) (with-trace (now (trace .entry)) k)))) at r (with-active (now (active .exit)) (with-vars (now (vars .exit)) (with-queue (now (queue .exit)) (with-trace (now (trace .exit)) k))))) ⌝ }
 {
-    let waiting = begun.queue;
     if !by_default(chart, p, next) {
-        return enter(chart, arg, s, active, vars, waiting, trace, begun.at);
+        return enter(chart, arg, s, active, vars, queue, trace, at);
     }
     let owner = Owner::DefaultOf(p);
-    let first = perform_all(chart, arg, owner, vars, waiting, trace, begun.at);
+    let first = perform_all(chart, arg, owner, vars, queue, trace, at);
     if first.number != 0 {
         return first;
     }
-    let onward = first.queue;
-    enter(chart, arg, s, active, vars, onward, trace, first.at)
+    enter(chart, arg, s, active, vars, queue, trace, first.at)
 }
 
 // Enters s in a restore, without default actions; 14, a restore meets an empty slot below its owner.
@@ -72,14 +68,14 @@ fn revisit(
     active: &mut [bool; STATES],
     slots: &[i32; STATES],
     vars: &mut [i32; VARIABLES],
+    queue: &mut [i32; QUEUE_NUMBERS],
     trace: &mut [i32],
-    begun: Went,
+    at: usize,
 ) -> Went
-    requires { ⌜ Ruled (now chart) × (s < states) × (length (now slots) ≡ states) × Ready begun (now trace) ⌝ }
-    ensures { λ r. ⌜ Did (revisits (chart-of (now (chart .entry))) arg (plain s)) (now (active .entry)) (now (slots .entry)) (now (vars .entry)) (begun .queue) (now (trace .entry)) (begun .at) r (now (active .exit)) (now (slots .entry)) (now (vars .exit)) (now (trace .exit)) ⌝ }
+    requires { ⌜ Ruled (now chart) × (s < states) × (length (now slots) ≡ states) × (at ≤ length (now trace)) ⌝ }
+    ensures { λ r. ⌜ Did (revisits (chart-of (now (chart .entry))) arg (plain s)) (all-lent (now (active .entry)) (now (slots .entry)) (now (vars .entry)) (now (queue .entry)) (now (trace .entry))) at r (all-lent (now (active .exit)) (now (slots .entry)) (now (vars .exit)) (now (queue .exit)) (now (trace .exit))) ⌝ }
 {
-    let waiting = begun.queue;
-    let went = enter(chart, arg, s, active, vars, waiting, trace, begun.at);
+    let went = enter(chart, arg, s, active, vars, queue, trace, at);
     if went.number != 0 {
         return went;
     }
@@ -89,11 +85,9 @@ fn revisit(
     let Place::Empty = slot_of(slots, s) else {
         return went;
     };
-    let onward = went.queue;
     Went {
-        number: 14,
+        number: SLOT_EMPTY,
         at: went.at,
-        queue: onward,
     }
 }
 
@@ -102,33 +96,27 @@ pub fn by_defaults(
     chart: &[i32],
     arg: i32,
     s: usize,
-    left: usize,
     active: &mut [bool; STATES],
     vars: &mut [i32; VARIABLES],
-    queue: Queue,
+    queue: &mut [i32; QUEUE_NUMBERS],
     trace: &mut [i32],
     at: usize,
 ) -> Went
     requires { ⌜ Ruled (now chart) × (s < length (chart-of (now chart) .states)) × (at ≤ length (now trace)) ⌝ }
-    ensures { λ r. ⌜ Within (now (trace .entry)) r (now (trace .exit)) × ((slots : List ℤ) → Did (each (visits (chart-of (now (chart .entry))) arg) (below (chart-of (now (chart .entry))) by-defaults left s)) (now (active .entry)) slots (now (vars .entry)) queue (now (trace .entry)) at r (now (active .exit)) slots (now (vars .exit)) (now (trace .exit))) ⌝ }
+    ensures { λ r. ⌜ Within (now (trace .entry)) r (now (trace .exit)) × ((k : Lent) → Did (each (visits (chart-of (now (chart .entry))) arg) (all-below (chart-of (now (chart .entry))) by-defaults s)) (with-active (now (active .entry)) (with-vars (now (vars .entry)) (with-queue (now (queue .entry)) (with-trace (now (trace .entry)) k)))) at r (with-active (now (active .exit)) (with-vars (now (vars .exit)) (with-queue (now (queue .exit)) (with-trace (now (trace .exit)) k))))) ⌝ }
 {
     let next = Next::Defaults;
-    let kids = goes_on(chart, s, next, left);
-    let mut went = Went {
-        number: 0,
-        at: at,
-        queue: queue,
-    };
+    let kids = goes_on(chart, s, next);
+    let mut went = Went { number: 0, at: at };
     for d in kids.first..kids.end {
         if !is_child(chart, s, d) {
             continue;
         }
-        went = visit(chart, arg, next, s, d, active, vars, trace, went);
+        went = visit(chart, arg, next, s, d, active, vars, queue, trace, went.at);
         if went.number != 0 {
             return went;
         }
-        let then = went.queue;
-        went = by_defaults(chart, arg, d, left - 1, active, vars, then, trace, went.at);
+        went = by_defaults(chart, arg, d, active, vars, queue, trace, went.at);
         if went.number != 0 {
             return went;
         }
@@ -141,27 +129,27 @@ pub fn by_slots(
     chart: &[i32],
     arg: i32,
     s: usize,
-    left: usize,
     active: &mut [bool; STATES],
     slots: &[i32; STATES],
     vars: &mut [i32; VARIABLES],
+    queue: &mut [i32; QUEUE_NUMBERS],
     trace: &mut [i32],
-    begun: Went,
+    at: usize,
 ) -> Went
-    requires { ⌜ Ruled (now chart) × (s < length (chart-of (now chart) .states)) × Led (chart-of (now chart)) (now slots) × Ready begun (now trace) ⌝ }
-    ensures { λ r. ⌜ Did (each (revisits (chart-of (now (chart .entry))) arg) (below (chart-of (now (chart .entry))) (stored-way (now (slots .entry))) left s)) (now (active .entry)) (now (slots .entry)) (now (vars .entry)) (begun .queue) (now (trace .entry)) (begun .at) r (now (active .exit)) (now (slots .entry)) (now (vars .exit)) (now (trace .exit)) ⌝ }
+    requires { ⌜ Ruled (now chart) × (s < length (chart-of (now chart) .states)) × Led (chart-of (now chart)) (now slots) × (at ≤ length (now trace)) ⌝ }
+    ensures { λ r. ⌜ Did (each (revisits (chart-of (now (chart .entry))) arg) (all-below (chart-of (now (chart .entry))) (stored-way (now (slots .entry))) s)) (all-lent (now (active .entry)) (now (slots .entry)) (now (vars .entry)) (now (queue .entry)) (now (trace .entry))) at r (all-lent (now (active .exit)) (now (slots .entry)) (now (vars .exit)) (now (queue .exit)) (now (trace .exit))) ⌝ }
 {
-    let kids = goes_on(chart, s, stored(slots, s), left);
-    let mut went = begun;
+    let kids = goes_on(chart, s, stored(slots, s));
+    let mut went = Went { number: 0, at: at };
     for d in kids.first..kids.end {
         if !is_child(chart, s, d) {
             continue;
         }
-        went = revisit(chart, arg, d, active, slots, vars, trace, went);
+        went = revisit(chart, arg, d, active, slots, vars, queue, trace, went.at);
         if went.number != 0 {
             return went;
         }
-        went = by_slots(chart, arg, d, left - 1, active, slots, vars, trace, went);
+        went = by_slots(chart, arg, d, active, slots, vars, queue, trace, went.at);
         if went.number != 0 {
             return went;
         }
@@ -178,18 +166,17 @@ pub fn restore(
     active: &mut [bool; STATES],
     slots: &[i32; STATES],
     vars: &mut [i32; VARIABLES],
+    queue: &mut [i32; QUEUE_NUMBERS],
     trace: &mut [i32],
-    begun: Went,
+    at: usize,
 ) -> Went
-    requires { ⌜ Ruled (now chart) × (b < length (chart-of (now chart) .states)) × Led (chart-of (now chart)) (now slots) × Ready begun (now trace) ⌝ }
-    ensures { λ r. ⌜ Did (restores (chart-of (now (chart .entry))) arg b) (now (active .entry)) (now (slots .entry)) (now (vars .entry)) (begun .queue) (now (trace .entry)) (begun .at) r (now (active .exit)) (now (slots .entry)) (now (vars .exit)) (now (trace .exit)) ⌝ }
+    requires { ⌜ Ruled (now chart) × (b < length (chart-of (now chart) .states)) × Led (chart-of (now chart)) (now slots) × (at ≤ length (now trace)) ⌝ }
+    ensures { λ r. ⌜ Did (restores (chart-of (now (chart .entry))) arg b) (all-lent (now (active .entry)) (now (slots .entry)) (now (vars .entry)) (now (queue .entry)) (now (trace .entry))) at r (all-lent (now (active .exit)) (now (slots .entry)) (now (vars .exit)) (now (queue .exit)) (now (trace .exit))) ⌝ }
 {
-    let left = state_count(chart);
     let Place::Empty = slot_of(slots, b) else {
-        return by_slots(chart, arg, b, left, active, slots, vars, trace, begun);
+        return by_slots(chart, arg, b, active, slots, vars, queue, trace, at);
     };
-    let waiting = begun.queue;
-    by_defaults(chart, arg, b, left, active, vars, waiting, trace, begun.at)
+    by_defaults(chart, arg, b, active, vars, queue, trace, at)
 }
 
 // Enters s, a child of p on the way to the goal; "History: the owner is entered", and then what its slot says.
@@ -202,14 +189,15 @@ fn arrive(
     active: &mut [bool; STATES],
     slots: &[i32; STATES],
     vars: &mut [i32; VARIABLES],
+    queue: &mut [i32; QUEUE_NUMBERS],
     trace: &mut [i32],
-    begun: Went,
+    at: usize,
 ) -> Went
-    requires { ⌜ Ruled (now chart) × (s < length (chart-of (now chart) .states)) × Led (chart-of (now chart)) (now slots) × Ready begun (now trace) ⌝ }
-    ensures { λ r. ⌜ Did (goal-visit (chart-of (now (chart .entry))) arg goal (visit-as (defaulting (kind-in (chart-of (now (chart .entry))) p) (goal-way (chart-of (now (chart .entry))) goal p)) p s)) (now (active .entry)) (now (slots .entry)) (now (vars .entry)) (begun .queue) (now (trace .entry)) (begun .at) r (now (active .exit)) (now (slots .entry)) (now (vars .exit)) (now (trace .exit)) ⌝ }
+    requires { ⌜ Ruled (now chart) × (s < length (chart-of (now chart) .states)) × Led (chart-of (now chart)) (now slots) × (at ≤ length (now trace)) ⌝ }
+    ensures { λ r. ⌜ Did (goal-visit (chart-of (now (chart .entry))) arg goal (visit-as (defaulting (kind-in (chart-of (now (chart .entry))) p) (goal-way (chart-of (now (chart .entry))) goal p)) p s)) (all-lent (now (active .entry)) (now (slots .entry)) (now (vars .entry)) (now (queue .entry)) (now (trace .entry))) at r (all-lent (now (active .exit)) (now (slots .entry)) (now (vars .exit)) (now (queue .exit)) (now (trace .exit))) ⌝ }
 {
     let next = next_of(chart, goal, p);
-    let went = visit(chart, arg, next, p, s, active, vars, trace, begun);
+    let went = visit(chart, arg, next, p, s, active, vars, queue, trace, at);
     if went.number != 0 {
         return went;
     }
@@ -219,7 +207,7 @@ fn arrive(
     if s != b {
         return went;
     }
-    restore(chart, arg, b, active, slots, vars, trace, went)
+    restore(chart, arg, b, active, slots, vars, queue, trace, went.at)
 }
 
 // Below s, which is in: "the path from below the scope to the target; in each a state every component; below that,
@@ -229,28 +217,52 @@ pub fn towards(
     arg: i32,
     goal: Goal,
     s: usize,
-    left: usize,
     active: &mut [bool; STATES],
     slots: &[i32; STATES],
     vars: &mut [i32; VARIABLES],
+    queue: &mut [i32; QUEUE_NUMBERS],
     trace: &mut [i32],
-    begun: Went,
+    at: usize,
 ) -> Went
-    requires { ⌜ Ruled (now chart) × Inside (chart-of (now chart)) goal × (s < length (chart-of (now chart) .states)) × Led (chart-of (now chart)) (now slots) × Ready begun (now trace) ⌝ }
-    ensures { λ r. ⌜ Did (each (goal-visit (chart-of (now (chart .entry))) arg goal) (below (chart-of (now (chart .entry))) (goal-way (chart-of (now (chart .entry))) goal) left s)) (now (active .entry)) (now (slots .entry)) (now (vars .entry)) (begun .queue) (now (trace .entry)) (begun .at) r (now (active .exit)) (now (slots .entry)) (now (vars .exit)) (now (trace .exit)) ⌝ }
+    requires { ⌜ Ruled (now chart) × Inside (chart-of (now chart)) goal × (s < length (chart-of (now chart) .states)) × Led (chart-of (now chart)) (now slots) × (at ≤ length (now trace)) ⌝ }
+    ensures { λ r. ⌜ Did (each (goal-visit (chart-of (now (chart .entry))) arg goal) (all-below (chart-of (now (chart .entry))) (goal-way (chart-of (now (chart .entry))) goal) s)) (all-lent (now (active .entry)) (now (slots .entry)) (now (vars .entry)) (now (queue .entry)) (now (trace .entry))) at r (all-lent (now (active .exit)) (now (slots .entry)) (now (vars .exit)) (now (queue .exit)) (now (trace .exit))) ⌝ }
 {
-    let kids = goes_on(chart, s, next_of(chart, goal, s), left);
-    let mut went = begun;
+    let kids = goes_on(chart, s, next_of(chart, goal, s));
+    let mut went = Went { number: 0, at: at };
     for d in kids.first..kids.end {
         if !is_child(chart, s, d) {
             continue;
         }
-        went = arrive(chart, arg, goal, s, d, active, slots, vars, trace, went);
+        let then = went.at;
+        went = arrive(
+            chart,
+            arg,
+            goal,
+            s,
+            d,
+            active,
+            slots,
+            vars,
+            queue,
+            trace,
+            then,
+        );
         if went.number != 0 {
             return went;
         }
-        let fewer = left - 1;
-        went = towards(chart, arg, goal, d, fewer, active, slots, vars, trace, went);
+        let onward = went.at;
+        went = towards(
+            chart,
+            arg,
+            goal,
+            d,
+            active,
+            slots,
+            vars,
+            queue,
+            trace,
+            onward,
+        );
         if went.number != 0 {
             return went;
         }

@@ -1,6 +1,6 @@
 // Leaving the states of a span (01, "Firing").
 use acts::leave;
-use queue::Queue;
+use queue::lent::QUEUE_NUMBERS;
 use sizes::STATES;
 use sizes::VARIABLES;
 use walks::end_below;
@@ -11,7 +11,7 @@ ghost use Rattle.meaning.specs.Reaction.{leave-all};
 ghost use Rattle.meaning.specs.Tree.{descendants};
 ghost use Rattle.meaning.specs.Value.{chart-of};
 ghost use Rattle.walks.specs.Walks.{Ruled};
-ghost use Rattle.widget.specs.View.{Did};
+ghost use Rattle.widget.specs.View.{all-lent, Did};
 
 // "The active states of the span are left, highest number first": those below s.
 pub fn leave_below(
@@ -21,14 +21,13 @@ pub fn leave_below(
     active: &mut [bool; STATES],
     slots: &mut [i32; STATES],
     vars: &mut [i32; VARIABLES],
-    queue: Queue,
+    queue: &mut [i32; QUEUE_NUMBERS],
     trace: &mut [i32],
     at: usize,
 ) -> Went
     requires { ⌜ Ruled (now chart) × (s < length (chart-of (now chart) .states)) × (at ≤ length (now trace)) ⌝ }
-    ensures { λ r. ⌜ Did (leave-all (chart-of (now (chart .entry))) arg (descendants (chart-of (now (chart .entry))) s)) (now (active .entry)) (now (slots .entry)) (now (vars .entry)) queue (now (trace .entry)) at r (now (active .exit)) (now (slots .exit)) (now (vars .exit)) (now (trace .exit)) ⌝ }
+    ensures { λ r. ⌜ Did (leave-all (chart-of (now (chart .entry))) arg (descendants (chart-of (now (chart .entry))) s)) (all-lent (now (active .entry)) (now (slots .entry)) (now (vars .entry)) (now (queue .entry)) (now (trace .entry))) at r (all-lent (now (active .exit)) (now (slots .exit)) (now (vars .exit)) (now (queue .exit)) (now (trace .exit))) ⌝ }
 {
-    let mut waiting = queue;
     let mut next = at;
     let mut d = end_below(chart, s);
     while s + 1 < d {
@@ -36,16 +35,14 @@ pub fn leave_below(
         if !active[d] {
             continue;
         }
-        let went = leave(chart, arg, d, active, slots, vars, waiting, trace, next);
+        let went = leave(chart, arg, d, active, slots, vars, queue, trace, next);
         if went.number != 0 {
             return went;
         }
-        waiting = went.queue;
         next = went.at;
     }
     Went {
         number: 0,
         at: next,
-        queue: waiting,
     }
 }

@@ -37,14 +37,11 @@ pub struct Children {
     pub end: usize,
 }
 
-// "In each a state every component"; an o state goes on with one child. With no state left there is none to enter.
-pub fn goes_on(chart: &[i32], s: usize, next: Next, left: usize) -> Children
+// "In each a state every component"; an o state goes on with one child.
+pub fn goes_on(chart: &[i32], s: usize, next: Next) -> Children
     requires { ⌜ Ruled (now chart) × (s < length (chart-of (now chart) .states)) × On-child (chart-of (now chart)) s (way-by next) ⌝ }
-    ensures { λ r. ⌜ Kids (chart-of (now (chart .entry))) (way-by next) s left (r .first) (r .end) ⌝ }
+    ensures { λ r. ⌜ Kids (chart-of (now (chart .entry))) (way-by next) s (r .first) (r .end) ⌝ }
 {
-    if left == 0 {
-        return Children { first: s, end: s };
-    }
     let kind = kind_of(chart, s);
     match kind {
         Kind::O => match next {

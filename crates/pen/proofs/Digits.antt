@@ -1,34 +1,16 @@
--- The digits of a number without their count: one digit, or the digits of the tenth and one more; and how many they are. Assumes nothing.
+-- How many digits a number has. Assumes nothing.
 use mathlib.Core.Path.{_≡_, refl}
 use mathlib.Core.Bool.{Bool, true, false}
-use mathlib.Core.List.{[], _∷_, _++_}
-use Prim.Native.Nat.{ℕ, zero, suc, _+_, _*_, _/_, _%_, _≤_, _<_, _^_}
+use Prim.Native.Nat.{ℕ, zero, suc, _+_, _*_, _/_, _≤_, _<_, _^_}
 use native.Mathlib.Omega.{arith}
 use native.Mathlib.Nat.{pow-suc}
 use lib.Dec.{ltb}
 use lib.IntN.{ℤ, pos, negsuc}
 use lib.Signed.{mag}
 use lib.ListN.{length, length-append}
-use borrow.Author.Tests.{ltb-true, ltb-false, lt-ltb, le-ltb}
-use Rattle.meaning.specs.Number.{by-size, digits-in, digits, numeral}
-
-digits-enough : (f g n : ℕ) → n < f → n < g → digits-in f n ≡ digits-in g n
-unfolding digits-in
-digits-enough zero g n p q = absurd (omega arith)
-digits-enough (suc f) zero n p q = absurd (omega arith)
-digits-enough (suc f) (suc g) n p q = go (ltb n 10) refl (λ h. digits-enough f g (n / 10) (omega arith) (omega arith))
-  where
-    go : (t : Bool) → ltb n 10 ≡ t → (10 ≤ n → digits-in f (n / 10) ≡ digits-in g (n / 10)) → by-size t n (λ m. digits-in f m) ≡ by-size t n (λ m. digits-in g m)
-    go true e ih = refl
-    go false e ih = rw (ih (ltb-false n 10 e))
-
-pub digits-one : (n : ℕ) → n < 10 → digits n ≡ (48 + n) ∷ []
-unfolding digits digits-in
-digits-one n h = rw (lt-ltb n 10 h)
-
-pub digits-more : (n : ℕ) → 10 ≤ n → digits n ≡ digits (n / 10) ++ ((48 + n % 10) ∷ [])
-unfolding digits digits-in
-digits-more n h = rw (le-ltb n 10 h, digits-enough n (suc (n / 10)) (n / 10) (omega arith) (omega arith))
+use borrow.Author.Tests.{ltb-true, ltb-false}
+use Rattle.meaning.specs.Number.{digits, numeral}
+use Rattle.round.proofs.Numbers.{digits-one, digits-more}
 
 -- a number below 10^(k + 1) has at most k + 1 digits
 tenth-below : (k n : ℕ) → n < 10 ^ suc k → n / 10 < 10 ^ k

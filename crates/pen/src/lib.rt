@@ -4,11 +4,11 @@
 ghost use mathlib.Core.Path.{_≡_};
 ghost use lib.IntN.{natAbs};
 ghost use Rattle.meaning.specs.Number.{digits, numeral};
-ghost use Rattle.pen.specs.Pen.{pen, write, writes};
+ghost use Rattle.pen.specs.Pen.{pen, put-byte, put-all};
 
 // One byte.
 pub fn put(out: &mut [u8], at: usize, b: u8) -> usize
-    ensures { λ r. ⌜ pen (now (out .exit)) r ≡ write b (pen (now (out .entry)) at) ⌝ }
+    ensures { λ r. ⌜ pen (now (out .exit)) r ≡ put-byte b (pen (now (out .entry)) at) ⌝ }
 {
     if at < out.len() {
         out[at] = b;
@@ -19,7 +19,7 @@ pub fn put(out: &mut [u8], at: usize, b: u8) -> usize
 
 // A number without a sign, highest digit first.
 pub fn put_digits(out: &mut [u8], at: usize, n: usize) -> usize
-    ensures { λ r. ⌜ pen (now (out .exit)) r ≡ writes (digits n) (pen (now (out .entry)) at) ⌝ }
+    ensures { λ r. ⌜ pen (now (out .exit)) r ≡ put-all (digits n) (pen (now (out .entry)) at) ⌝ }
 {
     if n < 10 {
         return put(out, at, 48 + (n as u8));
@@ -40,8 +40,8 @@ fn size(v: i32) -> usize
 }
 
 // A number.
-pub fn put_number(out: &mut [u8], at: usize, v: i32) -> usize
-    ensures { λ r. ⌜ pen (now (out .exit)) r ≡ writes (numeral v) (pen (now (out .entry)) at) ⌝ }
+pub fn put_numeral(out: &mut [u8], at: usize, v: i32) -> usize
+    ensures { λ r. ⌜ pen (now (out .exit)) r ≡ put-all (numeral v) (pen (now (out .entry)) at) ⌝ }
 {
     let n = size(v);
     if v < 0 {

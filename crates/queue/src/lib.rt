@@ -1,6 +1,9 @@
 // The event queue of document 01 as a struct by value: "Post appends an event with an argument; discard
 // removes the front one". Append and remove are methods that take the queue and hand it back; each
-// equals a definition of specs/Queue on every queue, legal or not. A place not in use holds 0 with 0.
+// equals a definition of specs/Queue on every queue, legal or not. A place not in use holds 0 with 0. Inside a reaction the
+// queue is lent as numbers: lent.
+pub mod lent;
+
 use sizes::QUEUE;
 ghost use mathlib.Core.Path.{_≡_};
 ghost use Rattle.queue.specs.Queue.{appended, removed, empty-queue};

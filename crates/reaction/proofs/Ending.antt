@@ -1,20 +1,21 @@
--- How a call ends, as laws over plain variables: a refusal zeroes the lent numbers; what was done stands in front of zeros. Assumes nothing.
-use mathlib.Core.Path.{_≡_, refl, sym, ap, _∙_, subst}
+-- How a call ends, as laws over plain variables: a refusal zeroes the lent numbers; what was done stands in front of zeros.
+-- Assumes nothing.
+use mathlib.Core.Path.{_≡_, refl, sym, subst}
 use Prim.Native.Nat.{ℕ, zero, suc, _-_, _/_, _≤_}
 use native.Mathlib.Omega.{arith}
-use mathlib.Core.Bool.{Bool, true}
-use mathlib.Core.List.{List, [], _++_}
+use mathlib.Core.Bool.{true}
+use mathlib.Core.List.{List, _++_}
 use lib.ListN.{length, take, replicate}
 use lib.Seq.{length-take-le}
 use lib.IntN.{ℤ, pos}
+use Rattle.queue.specs.Numbers.{queue-by}
 use Rattle.queue.specs.declared.Queue.{Queue}
 use Rattle.meaning.specs.declared.State.{State}
 use Rattle.meaning.specs.declared.Called.{Called}
 use Rattle.meaning.specs.Lists.{padded}
-use Rattle.meaning.specs.Steps.{Res, ok, refuse}
 use Rattle.meaning.specs.Widget.{Ctx, ENTRY}
 use Rattle.meaning.specs.Calls.{Outcome, refused, outcome, called, lent}
-use Rattle.widget.specs.View.{ctx, tracing, widget, said, went}
+use Rattle.widget.specs.View.{Lent, ctx, tracing, said, went}
 use Rattle.widget.specs.declared.Went.{Went}
 
 -- the answer and the lent numbers are those of an outcome
@@ -24,7 +25,8 @@ Ends o t r t₁ = (r ≡ called o) × (t₁ ≡ lent (length t) o)
 pub ends-as : {o p : Outcome} (t : List ℤ) {r : Called} {t₁ : List ℤ} → p ≡ o → Ends o t r t₁ → Ends p t r t₁
 ends-as t {r} {t₁} e h = subst (λ x. Ends x t r t₁) (sym e) h
 
-pub cleared : (n p : ℕ) (u : State) (t t₁ : List ℤ) → t₁ ≡ take 0 t ++ replicate (length t - 0) (pos 0) → t₁ ≡ lent (length t) (refused n p u)
+pub cleared : (n p : ℕ) (u : State) (t t₁ : List ℤ) → t₁ ≡ take 0 t ++ replicate (length t - 0) (pos 0)
+    → t₁ ≡ lent (length t) (refused n p u)
 unfolding lent refused padded
 cleared n p u t t₁ e = e
 
@@ -33,20 +35,25 @@ unfolding outcome said
 outcome-no zero k u z = absurd (z refl)
 outcome-no (suc n) k u z = refl
 
-outcome-on : (n : ℕ) (k : Ctx) (u : State) → n ≡ 0 → outcome u (said n k) ≡ record { number = 0; place = 0; after = k .state; trace = k .out }
+outcome-on : (n : ℕ) (k : Ctx) (u : State) → n ≡ 0
+    → outcome u (said n k) ≡ record { number = 0; place = 0; after = k .state; trace = k .out }
 unfolding outcome said
 outcome-on zero k u z = refl
 outcome-on (suc n) k u z = absurd (omega arith)
 
-module _ (u : State) (w : Went) (a : List Bool) (sl vs t : List ℤ) (r : Called) (t₁ : List ℤ) where
-  pub ends-no : (w .number ≡ 0 → ⊥) → Ends (refused (w .number) 0 u) t r t₁ → Ends (outcome u (went w a sl vs t)) t r t₁
+module _ (u : State) (w : Went) (k : Lent) (r : Called) (t₁ : List ℤ) where
+  pub ends-no : (w .number ≡ 0 → ⊥) → Ends (refused (w .number) 0 u) (k .trace) r t₁ → Ends (outcome u (went w k)) (k .trace) r t₁
   unfolding went
-  ends-no z h = subst (λ o. Ends o t r t₁) (sym (outcome-no (w .number) _ u z)) h
+  ends-no z h = subst (λ o. Ends o (k .trace) r t₁) (sym (outcome-no (w .number) _ u z)) h
 
-  pub ends-on : w .number ≡ 0 → w .at ≤ length t
-      → r ≡ record { answer = record { number = 0; place = 0 }; state = widget a sl vs (w .queue); entries = w .at / ENTRY }
-      → t₁ ≡ take (w .at) t ++ replicate (length t - w .at) (pos 0) → Ends (outcome u (went w a sl vs t)) t r t₁
+  pub ends-on : w .number ≡ 0 → w .at ≤ length (k .trace) → (q : Queue) → q ≡ queue-by (k .queue)
+      → r ≡ record {
+        answer = record { number = 0; place = 0 };
+        state = record { started = true; active = k .active; slots = k .slots; vars = k .vars; queue = q };
+        entries = w .at / ENTRY;
+      }
+      → t₁ ≡ take (w .at) (k .trace) ++ replicate (length (k .trace) - w .at) (pos 0) → Ends (outcome u (went w k)) (k .trace) r t₁
   unfolding went called lent padded ctx tracing
-  ends-on z l e f =
-      let q : length (take (w .at) t) ≡ w .at = length-take-le (w .at) t l in
-      subst (λ o. Ends o t r t₁) (sym (outcome-on (w .number) _ u z)) (rw q e, rw q f)
+  ends-on z l q h e f =
+      let n : length (take (w .at) (k .trace)) ≡ w .at = length-take-le (w .at) (k .trace) l in
+      subst (λ o. Ends o (k .trace) r t₁) (sym (outcome-on (w .number) _ u z)) (rw (n, ← h) e, rw n f)

@@ -4,4 +4,3 @@ pub mod Settling
 pub mod Ending
 pub mod RunLaws
 pub mod StartLaws
-pub mod ByRules

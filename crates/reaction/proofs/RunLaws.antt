@@ -1,48 +1,50 @@
 -- A run, test by test, and the widget that it works on: laws over plain variables. Assumes nothing.
-use mathlib.Core.Path.{_≡_, refl, sym, ap, _∙_, subst}
+use mathlib.Core.Path.{_≡_, sym, ap, _∙_, subst}
 use Prim.Native.Nat.{ℕ, _-_, _≤_, _<_}
 use native.Mathlib.Omega.{arith}
 use native.Mathlib.Nat.{sub-zero}
-use mathlib.Core.Bool.{Bool, true, false, true≢false, false≢true}
+use mathlib.Core.Bool.{Bool, true, false, false≢true}
 use mathlib.Core.List.{List, []}
 use mathlib.Core.Logic.{⊎-elim}
-use lib.ListN.{length, take}
+use lib.ListN.{length}
 use lib.IntN.{ℤ}
+use lib.Dec.{leb}
+use borrow.Author.Tests.{leb-true}
 use Rattle.sizes.specs.Sizes.{QUEUE}
 use Rattle.numbers.specs.Reference.{ref}
 use Rattle.queue.specs.Queue.{removed}
 use Rattle.queue.specs.declared.Queue.{Queue}
 use Rattle.queue.specs.declared.Removed.{Removed}
+use Rattle.queue.specs.Numbers.{QUEUE-NUMBERS, queue-by, numbers-of}
 use Rattle.queue.proofs.Waiting.{removed-none}
+use Rattle.queue.proofs.Numbers.{held-lent, numbers-long}
 use Rattle.queue.proofs.Tidy.{removed-long}
 use Rattle.meaning.specs.declared.State.{State}
 use Rattle.meaning.specs.declared.Called.{Called}
-use Rattle.meaning.specs.Steps.{Res, ok, refuse, Step, bind, _then_, require}
+use Rattle.meaning.specs.Steps.{refuse, Step, bind, _then_, require}
 use Rattle.meaning.specs.Chart.{Chart}
 use Rattle.meaning.specs.Value.{chart-of}
 use Rattle.meaning.specs.Widget.{Ctx, set-queue, change, begin}
 use Rattle.meaning.specs.Reaction.{step, settle}
 use Rattle.meaning.specs.Foreign.{own, queue-fits}
-use Rattle.meaning.specs.Calls.{Outcome, refused, outcome, tests, take-front, react, run, called, lent}
-use Rattle.laws.proofs.Lists.{le-or-lt}
-use Rattle.laws.proofs.Stays.{Stays}
+use Rattle.meaning.specs.Calls.{refused, outcome, tests, take-front, react, run, called, lent}
+use Rattle.laws.proofs.Lists.{and-left, le-or-lt}
 use Rattle.walks.specs.Walks.{Ruled}
 use Rattle.walks.proofs.Passing.{sound}
-use Rattle.widget.specs.View.{ctx, tracing, widget, went, Did}
+use Rattle.widget.specs.View.{Lent, all-lent, ctx, tracing, went, Did}
 use Rattle.widget.specs.declared.Went.{Went}
-use Rattle.widget.proofs.Going as going
 use Rattle.invariants.proofs.Good.{Good, Sized, set-queue-good}
 use Rattle.invariants.proofs.GoodReaction.{step-good}
 use Rattle.invariants.proofs.Values.{removed-fits}
-use Rattle.invariants.proofs.Own.{Own-state, own-whole}
+use Rattle.invariants.proofs.Own.{own-whole}
 use Rattle.reaction.specs.Ready.{Ready}
 use Rattle.reaction.proofs.Going.{sized, ready-next}
 use Rattle.reaction.proofs.Ending.{Ends}
 
 -- ---- one step and null steps
 
-pub step-ready : (v : List ℤ) (e : ℕ) (arg : ℤ) {a : List Bool} {sl vs : List ℤ} {q : Queue} {t : List ℤ} {at : ℕ} {r : Went} {a₁ : List Bool} {sl₁ v₁ t₁ : List ℤ}
-    → Ready v a sl vs q t at → Did (step (chart-of v) e arg) a sl vs q t at r a₁ sl₁ v₁ t₁ → r .number ≡ 0 → Ready v a₁ sl₁ v₁ (r .queue) t₁ (r .at)
+pub step-ready : (v : List ℤ) (e : ℕ) (arg : ℤ) {k : Lent} {at : ℕ} {r : Went} {k₁ : Lent}
+    → Ready v k at → Did (step (chart-of v) e arg) k at r k₁ → r .number ≡ 0 → Ready v k₁ (r .at)
 step-ready v e arg h d z = ready-next v (step-good (chart-of v) (sound v (h .ruled)) (sized v (h .ruled)) arg e) d z h
 
 -- ---- the tests in turn
@@ -77,9 +79,11 @@ module _ (c : Chart) (u : State) (n : ℕ) where
   module _ (m : Removed) (x : m ≡ removed (u .queue)) (s : u .started ≡ true) (o : own c u ≡ true) where
     pub run-8 : m .done ≡ false → run c u n ≡ refused 8 0 u
     unfolding run tests react take-front outcome
-    run-8 e = ap (outcome u) (none-waits (u .started) (own c u) (begin u n) _ _ (removed (u .queue) .done) s o (ap (λ y. y .done) (sym x) ∙ e))
+    run-8 e = ap (outcome u) (none-waits (u .started) (own c u) (begin u n) _ _ (removed (u .queue) .done) s o (ap
+        (λ y. y .done) (sym x) ∙ e))
 
-    pub run-on : m .done ≡ true → run c u n ≡ outcome u ((step c (ref (m .front .event)) (m .front .arg) then settle c) (begin (set-queue (m .queue) u) n))
+    pub run-on : m .done ≡ true
+        → run c u n ≡ outcome u ((step c (ref (m .front .event)) (m .front .arg) then settle c) (begin (set-queue (m .queue) u) n))
     unfolding run tests react take-front change bind begin
     run-on e =
         ap (outcome u) (one-waits (u .started) (own c u) (begin u n) _ _ (removed (u .queue) .done) s o (ap (λ y. y .done) (sym x) ∙ e))
@@ -87,15 +91,28 @@ module _ (c : Chart) (u : State) (n : ℕ) where
 
 -- ---- the widget at the start of a run
 
-begins : (u : State) (q : Queue) (t : List ℤ) → u .started ≡ true → begin (set-queue q u) (length t) ≡ ctx (u .active) (u .slots) (u .vars) q t 0
-unfolding begin set-queue ctx tracing
-begins u q t s =
-    ap {B = Ctx} (λ b. record { state = record { started = b; active = u .active; slots = u .slots; vars = u .vars; queue = q }; out = []; room = length t }) s
-    ∙ ap {B = Ctx} (λ n. record { state = widget (u .active) (u .slots) (u .vars) q; out = []; room = n }) (sym (sub-zero (length t)))
+-- a state with another started mark and queue
+abbrev parts : State → Bool → Queue → State
+parts u b q = record { started = b; active = u .active; slots = u .slots; vars = u .vars; queue = q }
 
-module _ (v : List ℤ) (h : Ruled v) (u : State) (z : Sized u) (m : Removed) (x : m ≡ removed (u .queue)) (s : u .started ≡ true) (o : own (chart-of v) u ≡ true) (d : m .done ≡ true) where
+begins : (u : State) (q : Queue) (ns t : List ℤ) → u .started ≡ true → queue-by ns ≡ q
+    → begin (set-queue q u) (length t) ≡ ctx (all-lent (u .active) (u .slots) (u .vars) ns t) 0
+unfolding begin set-queue ctx tracing
+begins u q ns t s e =
+    ap {B = Ctx} (λ b. record { state = parts u b q; out = []; room = length t }) s
+    ∙ ap {B = Ctx} (λ p. record { state = parts u true p; out = []; room = length t }) (sym e)
+    ∙ ap {B = Ctx} (λ n. record { state = parts u true (queue-by ns); out = []; room = n }) (sym (sub-zero (length t)))
+
+-- a queue that fits is no longer than its places
+fits-few : (n : ℕ) (q : Queue) → queue-fits n q ≡ true → q .len ≤ QUEUE
+unfolding queue-fits
+fits-few n q e = leb-true (q .len) QUEUE (and-left (leb (q .len) QUEUE) _ e)
+
+module _ (v : List ℤ) (h : Ruled v) (u : State) (z : Sized u) (m : Removed) (x : m ≡ removed (u .queue)) (s : u .started ≡ true)
+    (o : own (chart-of v) u ≡ true) (d : m .done ≡ true) where
   waits : 0 < u .queue .len
-  waits = ⊎-elim (λ l. absurd (false≢true (sym (ap (λ r. r .done) (removed-none (u .queue) (omega arith))) ∙ sym (ap (λ y. y .done) x) ∙ d))) (λ l. l) (le-or-lt (u .queue .len) 0)
+  waits = ⊎-elim (λ l. absurd (false≢true (sym (ap (λ r. r .done) (removed-none (u .queue) (omega arith))) ∙ sym (ap (λ y. y .done) x)
+      ∙ d))) (λ l. l) (le-or-lt (u .queue .len) 0)
 
   good : (n : ℕ) → Good (chart-of v) (begin u n)
   good n = own-whole (chart-of v) (sound v h) (sized v h) u n (record { sized = z; started = s; is-own = o }) .1
@@ -110,18 +127,32 @@ module _ (v : List ℤ) (h : Ruled v) (u : State) (z : Sized u) (m : Removed) (x
   unfolding change begin
   taken n = set-queue-good (chart-of v) (m .queue) fits long (begin u n) (good n)
 
-  pub run-ready : (t : List ℤ) → Ready v (u .active) (u .slots) (u .vars) (m .queue) t 0
-  run-ready t = record { ruled = h; good = subst (Good (chart-of v)) (begins u (m .queue) t s) (taken (length t)); fits = omega arith }
+  -- the queue that is left, lent
+  module _ (ns : List ℤ) (l : ns ≡ numbers-of (m .queue)) where
+    says : queue-by ns ≡ m .queue
+    says = ap queue-by l ∙ held-lent (m .queue) (fits-few (chart-of v .events) (m .queue) fits)
 
-  -- the end of a run
-  pub run-ends : (e : ℕ) (arg : ℤ) (t : List ℤ) (w : Went) (a₁ : List Bool) (sl₁ v₁ t₁ : List ℤ) (r : Called) (t₂ : List ℤ)
-      → e ≡ ref (m .front .event) → arg ≡ m .front .arg
-      → Did (step (chart-of v) e arg then settle (chart-of v)) (u .active) (u .slots) (u .vars) (m .queue) t 0 w a₁ sl₁ v₁ t₁
-      → Ends (outcome u (went w a₁ sl₁ v₁ t₁)) t₁ r t₂ → Ends (run (chart-of v) u (length t)) t r t₂
-  run-ends e arg t w a₁ sl₁ v₁ t₁ r t₂ p q g f =
-      let y : outcome u (went w a₁ sl₁ v₁ t₁) ≡ run (chart-of v) u (length t) =
-      ap (outcome u) (g .does ∙ ap (step (chart-of v) e arg then settle (chart-of v)) (sym (begins u (m .queue) t s)))
-      ∙ ap (λ i. outcome u ((step (chart-of v) i arg then settle (chart-of v)) (begin (set-queue (m .queue) u) (length t)))) p
-      ∙ ap (λ i. outcome u ((step (chart-of v) (ref (m .front .event)) i then settle (chart-of v)) (begin (set-queue (m .queue) u) (length t)))) q
-      ∙ sym (run-on (chart-of v) u (length t) m x s o d) in
-      (f .0 ∙ ap called y, f .1 ∙ ap (λ n. lent n (outcome u (went w a₁ sl₁ v₁ t₁))) (g .kept) ∙ ap (lent (length t)) y)
+    whole : length ns ≡ QUEUE-NUMBERS
+    whole = ap length l ∙ numbers-long (m .queue) long
+
+    pub run-ready : (t : List ℤ) → Ready v (all-lent (u .active) (u .slots) (u .vars) ns t) 0
+    run-ready t = record {
+      ruled = h;
+      good = subst (Good (chart-of v)) (begins u (m .queue) ns t s says) (taken (length t));
+      whole = whole;
+      fits = omega arith;
+    }
+
+    -- the end of a run
+    pub run-ends : (e : ℕ) (arg : ℤ) (t : List ℤ) (w : Went) (k₁ : Lent) (r : Called) (t₂ : List ℤ) → e ≡ ref (m .front .event)
+        → arg ≡ m .front .arg
+        → Did (step (chart-of v) e arg then settle (chart-of v)) (all-lent (u .active) (u .slots) (u .vars) ns t) 0 w k₁
+        → Ends (outcome u (went w k₁)) (k₁ .trace) r t₂ → Ends (run (chart-of v) u (length t)) t r t₂
+    run-ends e arg t w k₁ r t₂ p q g f =
+        let y : outcome u (went w k₁) ≡ run (chart-of v) u (length t) =
+        ap (outcome u) (g .does whole ∙ ap (step (chart-of v) e arg then settle (chart-of v)) (sym (begins u (m .queue) ns t s says)))
+        ∙ ap (λ i. outcome u ((step (chart-of v) i arg then settle (chart-of v)) (begin (set-queue (m .queue) u) (length t)))) p
+        ∙ ap (λ i. outcome u ((step (chart-of v) (ref (m .front .event)) i then settle (chart-of v)) (begin (set-queue (m .queue) u)
+        (length t)))) q
+        ∙ sym (run-on (chart-of v) u (length t) m x s o d) in
+        (f .0 ∙ ap called y, f .1 ∙ ap (λ n. lent n (outcome u (went w k₁))) (g .kept) ∙ ap (lent (length t)) y)

@@ -7,8 +7,7 @@ use mathlib.Core.List.{List, [], _∷_}
 use lib.ListN.{length}
 use lib.IntN.{ℤ, pos}
 use Rattle.sizes.specs.Sizes.{NULL-STEPS}
-use Rattle.queue.specs.declared.Queue.{Queue}
-use Rattle.meaning.specs.Steps.{Res, ok, refuse, Step, bind, _then_, skip, look, each}
+use Rattle.meaning.specs.Steps.{ok, refuse, Step, bind, _then_, skip, look, each}
 use Rattle.meaning.specs.Chart.{Chart}
 use Rattle.meaning.specs.Reaction.{fire, chosen, step, if-any, settle-in, settle}
 use Rattle.meaning.specs.Value.{chart-of}
@@ -16,7 +15,7 @@ use Rattle.meaning.specs.Widget.{Ctx}
 use Rattle.laws.proofs.Lists.{Each, each-weaker}
 use Rattle.laws.proofs.Stays.{each-stays}
 use Rattle.walks.proofs.Passing.{sound}
-use Rattle.widget.specs.View.{ctx, tracing, said, went, Did, Owes}
+use Rattle.widget.specs.View.{Lent, ctx, tracing, said, went, Did, Owes}
 use Rattle.widget.specs.declared.Went.{Went}
 use Rattle.widget.proofs.Going as going
 use Rattle.invariants.proofs.Good.{Good}
@@ -31,24 +30,22 @@ use Rattle.reaction.proofs.Firing.{fires-long}
 
 -- ---- the chosen of a widget
 
-module _ {c : Chart} {e : ℕ} {a : List Bool} {vs : List ℤ} {r : Chosen} (h : Chose c e a vs r) where
-  pub chose-fires : Fires c r
-  chose-fires = record {
-    few = h .stands .few;
-    size = h .stands .size;
-    named = subst (Each (λ t. t < length (c .transitions))) (sym (h .is)) (each-weaker _ _ _ (λ t q. q .0) (chosen-enabled c e (seen a vs)));
-  }
+pub chose-fires : {c : Chart} {e : ℕ} {a : List Bool} {vs : List ℤ} {r : Chosen} → Chose c e a vs r → Fires c r
+chose-fires {c} {e} {a} {vs} h = record {
+  few = h .stands .few;
+  size = h .stands .size;
+  named = subst (Each (λ t. t < length (c .transitions))) (sym (h .is)) (each-weaker _ _ _ (λ t q. q .0) (chosen-enabled c e (seen a vs)));
+}
 
-  pub chose-here : (sl : List ℤ) (q : Queue) (t : List ℤ) (at : ℕ) → chosen c e (ctx a sl vs q t at .state) ≡ picked r
+module _ {c : Chart} {e : ℕ} (k : Lent) {r : Chosen} (h : Chose c e (k .active) (k .vars) r) where
+  pub chose-here : (at : ℕ) → chosen c e (ctx k at .state) ≡ picked r
   unfolding ctx tracing
-  chose-here sl q t at = chosen-seen c e _ ∙ sym (h .is)
+  chose-here at = chosen-seen c e _ ∙ sym (h .is)
 
   -- one step fires them all
-  pub step-here : (arg : ℤ) {sl : List ℤ} {q : Queue} {t : List ℤ} {at : ℕ} {w : Went} {a₁ : List Bool} {sl₁ v₁ t₁ : List ℤ}
-      → Did (each (fire c arg) (picked r)) a sl vs q t at w a₁ sl₁ v₁ t₁ → Did (step c e arg) a sl vs q t at w a₁ sl₁ v₁ t₁
+  pub step-here : (arg : ℤ) {at : ℕ} {w : Went} {k₁ : Lent} → Did (each (fire c arg) (picked r)) k at w k₁ → Did (step c e arg) k at w k₁
   unfolding step look
-  step-here arg {sl} {q} {t} {at} d =
-      record { does = d .does ∙ ap (λ ts. each (fire c arg) ts (ctx a sl vs q t at)) (sym (chose-here sl q t at)); fits = d .fits; kept = d .kept }
+  step-here arg {at} d = going.same-step (step c e arg) (ap (λ ts. each (fire c arg) ts (ctx k at)) (sym (chose-here at))) d
 
 -- ---- null steps
 
@@ -75,58 +72,64 @@ module _ (c : Chart) (k : Ctx) (ps : List ℕ) (e : chosen c 0 (k .state) ≡ ps
 
     one-more : (n : ℕ) → settle-in c (suc n) k ≡ (each (fire c (pos 0)) ps then settle-in c n) k
     unfolding settle-in look step _then_
-    one-more n = any-some (chosen c 0 (k .state)) _ k (λ q. z (sym (ap length e) ∙ q)) ∙ ap (λ ts. bind (each (fire c (pos 0)) ts k) (settle-in c n)) e
+    one-more n = any-some (chosen c 0 (k .state)) _ k (λ q. z (sym (ap length e) ∙ q))
+        ∙ ap (λ ts. bind (each (fire c (pos 0)) ts k) (settle-in c n)) e
 
-pub record Settling (v : List ℤ) (a : List Bool) (sl vs : List ℤ) (q : Queue) (t : List ℤ) (at : ℕ)
-    (turns : ℕ) (a₁ : List Bool) (sl₁ v₁ : List ℤ) (q₁ : Queue) (t₁ : List ℤ) (at₁ : ℕ) : Type 0 where
-  pub ready : Ready v a₁ sl₁ v₁ q₁ t₁ at₁
+pub record Settling (v : List ℤ) (k : Lent) (at : ℕ) (turns : ℕ) (k₁ : Lent) (at₁ : ℕ) : Type 0 where
+  pub ready : Ready v k₁ at₁
   pub few : turns ≤ NULL-STEPS
-  pub kept : length t₁ ≡ length t
-  pub owes : Owes (settle (chart-of v)) a sl vs q t at (settle-in (chart-of v) (NULL-STEPS - turns)) a₁ sl₁ v₁ q₁ t₁ at₁
+  pub kept : length (k₁ .trace) ≡ length (k .trace)
+  pub owes : Owes (settle (chart-of v)) k at (settle-in (chart-of v) (NULL-STEPS - turns)) k₁ at₁
 
-module _ {v : List ℤ} {a : List Bool} {sl vs : List ℤ} {q : Queue} {t : List ℤ} {at : ℕ} where
-  pub settling-begin : Ready v a sl vs q t at → Settling v a sl vs q t at 0 a sl vs q t at
+module _ {v : List ℤ} {k : Lent} {at : ℕ} where
+  pub settling-begin : Ready v k at → Settling v k at 0 k at
   unfolding settle
   settling-begin h = record { ready = h; few = omega arith; kept = refl; owes = going.owes-all (h .fits) }
 
-  module _ {turns : ℕ} {a₁ : List Bool} {sl₁ v₁ : List ℤ} {q₁ : Queue} {t₁ : List ℤ} {at₁ : ℕ} (h : Settling v a sl vs q t at turns a₁ sl₁ v₁ q₁ t₁ at₁)
-      {r : Chosen} (g : Chose (chart-of v) 0 a₁ v₁ r) where
+  module _ {turns : ℕ} {k₁ : Lent} {at₁ : ℕ} (h : Settling v k at turns k₁ at₁)
+      {r : Chosen} (g : Chose (chart-of v) 0 (k₁ .active) (k₁ .vars) r) where
     long : length (picked r) ≡ r .count
     long = fires-long (chart-of v) r (chose-fires g)
 
-    here : chosen (chart-of v) 0 (ctx a₁ sl₁ v₁ q₁ t₁ at₁ .state) ≡ picked r
-    here = chose-here g sl₁ q₁ t₁ at₁
+    here : chosen (chart-of v) 0 (ctx k₁ at₁ .state) ≡ picked r
+    here = chose-here k₁ g at₁
 
-    pub settling-end : r .count ≡ 0 → Did (settle (chart-of v)) a sl vs q t at (record { number = 0; at = at₁; queue = q₁ }) a₁ sl₁ v₁ t₁
-    settling-end z = going.owes-none (h .owes) (settled (chart-of v) (ctx a₁ sl₁ v₁ q₁ t₁ at₁) (picked r) here (NULL-STEPS - turns) (long ∙ z))
+    pub settling-end : r .count ≡ 0 → Did (settle (chart-of v)) k at (record { number = 0; at = at₁ }) k₁
+    settling-end z = going.owes-none (h .owes) (settled (chart-of v) (ctx k₁ at₁) (picked r) here (NULL-STEPS - turns) (long ∙ z))
 
     module _ (z : r .count ≡ 0 → ⊥) where
-      pub settling-full : turns ≡ NULL-STEPS → Did (settle (chart-of v)) a sl vs q t at (record { number = 12; at = at₁; queue = q₁ }) a₁ sl₁ v₁ t₁
+      pub settling-full : turns ≡ NULL-STEPS → Did (settle (chart-of v)) k at (record { number = 12; at = at₁ }) k₁
       unfolding went said
       settling-full e =
           let n : NULL-STEPS - turns ≡ 0 = omega arith in
           record {
-            does = sym (ap (λ m. settle-in (chart-of v) m (ctx a₁ sl₁ v₁ q₁ t₁ at₁)) n ∙ too-many (chart-of v) (ctx a₁ sl₁ v₁ q₁ t₁ at₁) (picked r) here (λ y. z (sym long ∙ y))) ∙ h .owes .gives;
+            does = λ l. sym (ap (λ m. settle-in (chart-of v) m (ctx k₁ at₁)) n
+                ∙ too-many (chart-of v) (ctx k₁ at₁) (picked r) here (λ y. z (sym long ∙ y))) ∙ h .owes .gives l;
             fits = h .ready .fits;
             kept = h .kept;
+            whole = h .owes .whole;
           }
 
-      module _ (m : turns ≡ NULL-STEPS → ⊥) {w : Went} {a₂ : List Bool} {sl₂ v₂ t₂ : List ℤ}
-          (d : Did (each (fire (chart-of v) (pos 0)) (picked r)) a₁ sl₁ v₁ q₁ t₁ at₁ w a₂ sl₂ v₂ t₂) where
-        due : Owes (settle (chart-of v)) a sl vs q t at (each (fire (chart-of v) (pos 0)) (picked r) then settle-in (chart-of v) (NULL-STEPS - (turns + 1))) a₁ sl₁ v₁ q₁ t₁ at₁
+      module _ (m : turns ≡ NULL-STEPS → ⊥) {w : Went} {k₂ : Lent}
+          (d : Did (each (fire (chart-of v) (pos 0)) (picked r)) k₁ at₁ w k₂) where
+        due : Owes (settle (chart-of v)) k at (each (fire (chart-of v) (pos 0)) (picked r) then settle-in (chart-of v) (NULL-STEPS -
+            (turns + 1))) k₁ at₁
         due =
             let l = h .few in
             let n : NULL-STEPS - turns ≡ suc (NULL-STEPS - (turns + 1)) = omega arith in
-            going.owes-as _ (h .owes) (sym (ap (λ x. settle-in (chart-of v) x (ctx a₁ sl₁ v₁ q₁ t₁ at₁)) n ∙ one-more (chart-of v) (ctx a₁ sl₁ v₁ q₁ t₁ at₁) (picked r) here (λ y. z (sym long ∙ y)) (NULL-STEPS - (turns + 1))))
+            going.owes-as _ (h .owes) (sym (ap (λ x. settle-in (chart-of v) x (ctx k₁ at₁)) n
+            ∙ one-more (chart-of v) (ctx k₁ at₁) (picked r) here (λ y. z (sym long ∙ y)) (NULL-STEPS - (turns + 1))))
 
-        pub settling-stop : (w .number ≡ 0 → ⊥) → Did (settle (chart-of v)) a sl vs q t at w a₂ sl₂ v₂ t₂
+        pub settling-stop : (w .number ≡ 0 → ⊥) → Did (settle (chart-of v)) k at w k₂
         settling-stop y = going.owes-stop (settle-in (chart-of v) (NULL-STEPS - (turns + 1))) due d y
 
-        pub settling-on : w .number ≡ 0 → Settling v a sl vs q t at (turns + 1) a₂ sl₂ v₂ (w .queue) t₂ (w .at)
+        pub settling-on : w .number ≡ 0 → Settling v k at (turns + 1) k₂ (w .at)
         settling-on y =
             let l = h .few in
             record {
-              ready = ready-next v (each-stays (Good (chart-of v)) (fire (chart-of v) (pos 0)) (λ x. x < length (chart-of v .transitions)) (fire-good (chart-of v) (sound v (h .ready .ruled)) (sized v (h .ready .ruled)) (pos 0)) (picked r) (chose-fires g .named)) d y (h .ready);
+              ready = ready-next v (each-stays (Good (chart-of v)) (fire (chart-of v) (pos 0))
+                  (λ x. x < length (chart-of v .transitions)) (fire-good (chart-of v) (sound v (h .ready .ruled)) (sized v
+                  (h .ready .ruled)) (pos 0)) (picked r) (chose-fires g .named)) d y (h .ready);
               few = omega arith;
               kept = d .kept ∙ h .kept;
               owes = going.owes-on (settle-in (chart-of v) (NULL-STEPS - (turns + 1))) due d y;

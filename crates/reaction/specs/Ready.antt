@@ -2,25 +2,24 @@
 -- and a place in the trace. Assumes nothing.
 use mathlib.Core.Path.{_≡_}
 use Prim.Native.Nat.{ℕ, _<_, _≤_}
-use mathlib.Core.Bool.{Bool, true}
 use mathlib.Core.List.{List}
-use lib.ListN.{length, getD}
-use lib.IntN.{ℤ, negsuc}
+use lib.ListN.{length}
+use lib.IntN.{ℤ}
 use Rattle.sizes.specs.Sizes.{TRANSITIONS}
-use Rattle.queue.specs.declared.Queue.{Queue}
 use Rattle.meaning.specs.Chart.{Chart}
 use Rattle.meaning.specs.Value.{chart-of}
 use Rattle.walks.specs.Walks.{Ruled}
-use Rattle.widget.specs.View.{ctx}
+use Rattle.widget.specs.View.{Lent, Whole, ctx}
 use Rattle.laws.proofs.Lists.{Each}
 use Rattle.invariants.proofs.Good.{Good}
 use Rattle.choice.specs.Choice.{picked}
 use Rattle.choice.specs.declared.Chosen.{Chosen}
 
-pub record Ready (v : List ℤ) (active : List Bool) (slots vars : List ℤ) (queue : Queue) (trace : List ℤ) (at : ℕ) : Type 0 where
+pub record Ready (v : List ℤ) (k : Lent) (at : ℕ) : Type 0 where
   pub ruled : Ruled v
-  pub good : Good (chart-of v) (ctx active slots vars queue trace at)
-  pub fits : at ≤ length trace
+  pub good : Good (chart-of v) (ctx k at)
+  pub whole : Whole k
+  pub fits : at ≤ length (k .trace)
 
 -- chosen transitions are transitions of the chart
 pub record Fires (c : Chart) (r : Chosen) : Type 0 where

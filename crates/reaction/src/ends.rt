@@ -4,6 +4,8 @@ use calls::answers::refused;
 use meaning::Answer;
 use meaning::Called;
 use meaning::State;
+use queue::lent::QUEUE_NUMBERS;
+use queue::lent::held;
 use sizes::STATES;
 use sizes::VARIABLES;
 use widget::Went;
@@ -12,7 +14,7 @@ ghost use mathlib.Core.Path.{_≡_};
 ghost use Prim.Native.Nat.{_≤_};
 ghost use lib.ListN.{length};
 ghost use Rattle.meaning.specs.Calls.{called, lent, outcome, refused as refusal};
-ghost use Rattle.widget.specs.View.{went as gone};
+ghost use Rattle.widget.specs.View.{all-lent, went as gone};
 
 // How many numbers an entry has.
 const ENTRY: usize = 3;
@@ -32,10 +34,11 @@ pub fn finish(
     active: [bool; STATES],
     slots: [i32; STATES],
     vars: [i32; VARIABLES],
+    queue: [i32; QUEUE_NUMBERS],
     trace: &mut [i32],
 ) -> Called
     requires { ⌜ went .at ≤ length (now trace) ⌝ }
-    ensures { λ r. ⌜ (r ≡ called (outcome state (gone went active slots vars (now (trace .entry))))) × (now (trace .exit) ≡ lent (length (now (trace .entry))) (outcome state (gone went active slots vars (now (trace .entry))))) ⌝ }
+    ensures { λ r. ⌜ (r ≡ called (outcome state (gone went (all-lent active slots vars queue (now (trace .entry)))))) × (now (trace .exit) ≡ lent (length (now (trace .entry))) (outcome state (gone went (all-lent active slots vars queue (now (trace .entry)))))) ⌝ }
 {
     if went.number != 0 {
         return refuse(went.number, 0, state, trace);
@@ -46,13 +49,13 @@ pub fn finish(
         number: 0,
         place: 0,
     };
-    let queue = went.queue;
+    let waiting = held(&queue);
     let after = State {
         started: true,
         active: active,
         slots: slots,
         vars: vars,
-        queue: queue,
+        queue: waiting,
     };
     Called {
         answer: answer,

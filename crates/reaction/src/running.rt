@@ -6,8 +6,12 @@ use super::steps::step;
 use calls::own::own;
 use meaning::Called;
 use meaning::State;
+use meaning::answers::FOREIGN;
+use meaning::answers::NOT_STARTED;
+use meaning::answers::QUEUE_EMPTY;
 use numbers::reference;
-use queue::Queue;
+use queue::lent::QUEUE_NUMBERS;
+use queue::lent::lend;
 use sizes::STATES;
 use sizes::VARIABLES;
 use widget::Went;
@@ -18,7 +22,7 @@ ghost use Rattle.meaning.specs.Reaction.{step as one-step, settle as settles};
 ghost use Rattle.meaning.specs.Calls.{called, lent, run as runs};
 ghost use Rattle.meaning.specs.Value.{chart-of};
 ghost use Rattle.walks.specs.Walks.{Ruled};
-ghost use Rattle.widget.specs.View.{Did};
+ghost use Rattle.widget.specs.View.{all-lent, Did};
 ghost use Rattle.reaction.specs.Ready.{Ready};
 
 // One step with the event, then null steps.
@@ -29,18 +33,17 @@ fn react(
     active: &mut [bool; STATES],
     slots: &mut [i32; STATES],
     vars: &mut [i32; VARIABLES],
-    queue: Queue,
+    queue: &mut [i32; QUEUE_NUMBERS],
     trace: &mut [i32],
 ) -> Went
-    requires { ⌜ Ready (now chart) (now active) (now slots) (now vars) queue (now trace) 0 ⌝ }
-    ensures { λ r. ⌜ Did (one-step (chart-of (now (chart .entry))) event arg then settles (chart-of (now (chart .entry)))) (now (active .entry)) (now (slots .entry)) (now (vars .entry)) queue (now (trace .entry)) 0 r (now (active .exit)) (now (slots .exit)) (now (vars .exit)) (now (trace .exit)) ⌝ }
+    requires { ⌜ Ready (now chart) (all-lent (now active) (now slots) (now vars) (now queue) (now trace)) 0 ⌝ }
+    ensures { λ r. ⌜ Did (one-step (chart-of (now (chart .entry))) event arg then settles (chart-of (now (chart .entry)))) (all-lent (now (active .entry)) (now (slots .entry)) (now (vars .entry)) (now (queue .entry)) (now (trace .entry))) 0 r (all-lent (now (active .exit)) (now (slots .exit)) (now (vars .exit)) (now (queue .exit)) (now (trace .exit))) ⌝ }
 {
     let went = step(chart, event, arg, active, slots, vars, queue, trace, 0);
     if went.number != 0 {
         return went;
     }
-    let waiting = went.queue;
-    settle(chart, active, slots, vars, waiting, trace, went.at)
+    settle(chart, active, slots, vars, queue, trace, went.at)
 }
 
 // "A run removes the front event and makes one step with it. Then null steps follow."
@@ -49,22 +52,23 @@ pub fn run_ruled(chart: &[i32], state: State, trace: &mut [i32]) -> Called
     ensures { λ r. ⌜ (r ≡ called (runs (chart-of (now (chart .entry))) state (length (now (trace .entry))))) × (now (trace .exit) ≡ lent (length (now (trace .entry))) (runs (chart-of (now (chart .entry))) state (length (now (trace .entry))))) ⌝ }
 {
     if !state.started {
-        return refuse(7, 0, state, trace);
+        return refuse(NOT_STARTED, 0, state, trace);
     }
     if !own(chart, state) {
-        return refuse(6, 0, state, trace);
+        return refuse(FOREIGN, 0, state, trace);
     }
     let queue = state.queue;
     let removed = queue.remove();
     if !removed.done {
-        return refuse(8, 0, state, trace);
+        return refuse(QUEUE_EMPTY, 0, state, trace);
     }
     let front = removed.front;
     let event = reference(front.event);
     let mut active = state.active;
     let mut slots = state.slots;
     let mut vars = state.vars;
-    let waiting = removed.queue;
+    let left = removed.queue;
+    let mut waiting = lend(left);
     let went = react(
         chart,
         event,
@@ -72,8 +76,8 @@ pub fn run_ruled(chart: &[i32], state: State, trace: &mut [i32]) -> Called
         &mut active,
         &mut slots,
         &mut vars,
-        waiting,
+        &mut waiting,
         trace,
     );
-    finish(state, went, active, slots, vars, trace)
+    finish(state, went, active, slots, vars, waiting, trace)
 }

@@ -2,13 +2,14 @@
 use super::ends::finish;
 use super::steps::settle;
 use acts::enter;
-use chart::state_count;
 use chart::var_count;
 use chart::var_row;
 use meaning::Called;
 use meaning::State;
 use moves::entering::by_defaults;
 use queue::Queue;
+use queue::lent::QUEUE_NUMBERS;
+use queue::lent::lend;
 use sizes::STATES;
 use sizes::VARIABLES;
 use widget::Went;
@@ -18,7 +19,7 @@ ghost use lib.ListN.{length};
 ghost use Rattle.meaning.specs.Calls.{called, lent, fresh, start-steps, start as starts};
 ghost use Rattle.meaning.specs.Value.{chart-of};
 ghost use Rattle.walks.specs.Walks.{Ruled};
-ghost use Rattle.widget.specs.View.{Did};
+ghost use Rattle.widget.specs.View.{all-lent, Did};
 ghost use Rattle.reaction.specs.Ready.{Ready};
 
 // "all variables at their first value"; places not in use are 0.
@@ -44,24 +45,21 @@ fn begin(
     active: &mut [bool; STATES],
     slots: &mut [i32; STATES],
     vars: &mut [i32; VARIABLES],
-    queue: Queue,
+    queue: &mut [i32; QUEUE_NUMBERS],
     trace: &mut [i32],
 ) -> Went
-    requires { ⌜ Ready (now chart) (now active) (now slots) (now vars) queue (now trace) 0 ⌝ }
-    ensures { λ r. ⌜ Did (start-steps (chart-of (now (chart .entry)))) (now (active .entry)) (now (slots .entry)) (now (vars .entry)) queue (now (trace .entry)) 0 r (now (active .exit)) (now (slots .exit)) (now (vars .exit)) (now (trace .exit)) ⌝ }
+    requires { ⌜ Ready (now chart) (all-lent (now active) (now slots) (now vars) (now queue) (now trace)) 0 ⌝ }
+    ensures { λ r. ⌜ Did (start-steps (chart-of (now (chart .entry)))) (all-lent (now (active .entry)) (now (slots .entry)) (now (vars .entry)) (now (queue .entry)) (now (trace .entry))) 0 r (all-lent (now (active .exit)) (now (slots .exit)) (now (vars .exit)) (now (queue .exit)) (now (trace .exit))) ⌝ }
 {
     let root = enter(chart, 0, 0, active, vars, queue, trace, 0);
     if root.number != 0 {
         return root;
     }
-    let left = state_count(chart);
-    let waiting = root.queue;
-    let down = by_defaults(chart, 0, 0, left, active, vars, waiting, trace, root.at);
+    let down = by_defaults(chart, 0, 0, active, vars, queue, trace, root.at);
     if down.number != 0 {
         return down;
     }
-    let onward = down.queue;
-    settle(chart, active, slots, vars, onward, trace, down.at)
+    settle(chart, active, slots, vars, queue, trace, down.at)
 }
 
 // "Start, with argument 0 and whatever the state held .. It tests neither 7 nor 6."
@@ -72,7 +70,7 @@ pub fn start_ruled(chart: &[i32], state: State, trace: &mut [i32]) -> Called
     let mut active: [bool; STATES] = [false; STATES];
     let mut slots: [i32; STATES] = [-1; STATES];
     let mut vars = first_values(chart);
-    let queue = Queue::empty();
-    let went = begin(chart, &mut active, &mut slots, &mut vars, queue, trace);
-    finish(state, went, active, slots, vars, trace)
+    let mut queue = lend(Queue::empty());
+    let went = begin(chart, &mut active, &mut slots, &mut vars, &mut queue, trace);
+    finish(state, went, active, slots, vars, queue, trace)
 }

@@ -2,7 +2,8 @@
 use choice::Chosen;
 use choice::choose;
 use firing::fire;
-use queue::Queue;
+use meaning::answers::UNSETTLED;
+use queue::lent::QUEUE_NUMBERS;
 use sizes::NULL_STEPS;
 use sizes::STATES;
 use sizes::VARIABLES;
@@ -10,7 +11,7 @@ use widget::Went;
 ghost use Rattle.meaning.specs.Steps.{each};
 ghost use Rattle.meaning.specs.Reaction.{fire as fires, step as one-step, settle as settles};
 ghost use Rattle.meaning.specs.Value.{chart-of};
-ghost use Rattle.widget.specs.View.{Did};
+ghost use Rattle.widget.specs.View.{all-lent, Did};
 ghost use Rattle.choice.specs.Choice.{picked};
 ghost use Rattle.reaction.specs.Ready.{Ready, Fires};
 
@@ -22,32 +23,29 @@ fn fire_all(
     active: &mut [bool; STATES],
     slots: &mut [i32; STATES],
     vars: &mut [i32; VARIABLES],
-    queue: Queue,
+    queue: &mut [i32; QUEUE_NUMBERS],
     trace: &mut [i32],
     at: usize,
 ) -> Went
-    requires { ⌜ Ready (now chart) (now active) (now slots) (now vars) queue (now trace) at × Fires (chart-of (now chart)) chosen ⌝ }
-    ensures { λ r. ⌜ Did (each (fires (chart-of (now (chart .entry))) arg) (picked chosen)) (now (active .entry)) (now (slots .entry)) (now (vars .entry)) queue (now (trace .entry)) at r (now (active .exit)) (now (slots .exit)) (now (vars .exit)) (now (trace .exit)) ⌝ }
+    requires { ⌜ Ready (now chart) (all-lent (now active) (now slots) (now vars) (now queue) (now trace)) at × Fires (chart-of (now chart)) chosen ⌝ }
+    ensures { λ r. ⌜ Did (each (fires (chart-of (now (chart .entry))) arg) (picked chosen)) (all-lent (now (active .entry)) (now (slots .entry)) (now (vars .entry)) (now (queue .entry)) (now (trace .entry))) at r (all-lent (now (active .exit)) (now (slots .exit)) (now (vars .exit)) (now (queue .exit)) (now (trace .exit))) ⌝ }
 {
-    let mut waiting = queue;
     let mut next = at;
     let n = chosen.count;
     let mut j: usize = 0;
     while j < n {
         let pick = chosen.picks[j];
         let t = pick.transition;
-        let went = fire(chart, arg, t, active, slots, vars, waiting, trace, next);
+        let went = fire(chart, arg, t, active, slots, vars, queue, trace, next);
         if went.number != 0 {
             return went;
         }
-        waiting = went.queue;
         next = went.at;
         j += 1;
     }
     Went {
         number: 0,
         at: next,
-        queue: waiting,
     }
 }
 
@@ -59,12 +57,12 @@ pub fn step(
     active: &mut [bool; STATES],
     slots: &mut [i32; STATES],
     vars: &mut [i32; VARIABLES],
-    queue: Queue,
+    queue: &mut [i32; QUEUE_NUMBERS],
     trace: &mut [i32],
     at: usize,
 ) -> Went
-    requires { ⌜ Ready (now chart) (now active) (now slots) (now vars) queue (now trace) at ⌝ }
-    ensures { λ r. ⌜ Did (one-step (chart-of (now (chart .entry))) event arg) (now (active .entry)) (now (slots .entry)) (now (vars .entry)) queue (now (trace .entry)) at r (now (active .exit)) (now (slots .exit)) (now (vars .exit)) (now (trace .exit)) ⌝ }
+    requires { ⌜ Ready (now chart) (all-lent (now active) (now slots) (now vars) (now queue) (now trace)) at ⌝ }
+    ensures { λ r. ⌜ Did (one-step (chart-of (now (chart .entry))) event arg) (all-lent (now (active .entry)) (now (slots .entry)) (now (vars .entry)) (now (queue .entry)) (now (trace .entry))) at r (all-lent (now (active .exit)) (now (slots .exit)) (now (vars .exit)) (now (queue .exit)) (now (trace .exit))) ⌝ }
 {
     let chosen = choose(chart, event, active, vars);
     fire_all(chart, arg, chosen, active, slots, vars, queue, trace, at)
@@ -76,14 +74,13 @@ pub fn settle(
     active: &mut [bool; STATES],
     slots: &mut [i32; STATES],
     vars: &mut [i32; VARIABLES],
-    queue: Queue,
+    queue: &mut [i32; QUEUE_NUMBERS],
     trace: &mut [i32],
     at: usize,
 ) -> Went
-    requires { ⌜ Ready (now chart) (now active) (now slots) (now vars) queue (now trace) at ⌝ }
-    ensures { λ r. ⌜ Did (settles (chart-of (now (chart .entry)))) (now (active .entry)) (now (slots .entry)) (now (vars .entry)) queue (now (trace .entry)) at r (now (active .exit)) (now (slots .exit)) (now (vars .exit)) (now (trace .exit)) ⌝ }
+    requires { ⌜ Ready (now chart) (all-lent (now active) (now slots) (now vars) (now queue) (now trace)) at ⌝ }
+    ensures { λ r. ⌜ Did (settles (chart-of (now (chart .entry)))) (all-lent (now (active .entry)) (now (slots .entry)) (now (vars .entry)) (now (queue .entry)) (now (trace .entry))) at r (all-lent (now (active .exit)) (now (slots .exit)) (now (vars .exit)) (now (queue .exit)) (now (trace .exit))) ⌝ }
 {
-    let mut waiting = queue;
     let mut next = at;
     let mut turns: usize = 0;
     let out = loop {
@@ -92,21 +89,18 @@ pub fn settle(
             break Went {
                 number: 0,
                 at: next,
-                queue: waiting,
             };
         }
         if turns == NULL_STEPS {
             break Went {
-                number: 12,
+                number: UNSETTLED,
                 at: next,
-                queue: waiting,
             };
         }
-        let went = fire_all(chart, 0, chosen, active, slots, vars, waiting, trace, next);
+        let went = fire_all(chart, 0, chosen, active, slots, vars, queue, trace, next);
         if went.number != 0 {
             break went;
         }
-        waiting = went.queue;
         next = went.at;
         turns += 1;
     };

@@ -15,24 +15,28 @@ use Rattle.meaning.specs.declared.Turns.{Turns}
 use Rattle.reader.specs.Order.{place-of, turns-after, Within, with-counts}
 use Rattle.reader.specs.Scanned.{zeros, Wide, Fit}
 use Rattle.reader.proofs.RowLaws.{RowFits}
-use Rattle.reader.proofs.LayLaws.{laid, laid-none, store, length-area, length-flat, wide-more, length-more}
+use Rattle.reader.specs.Onward.{laid}
+use Rattle.reader.proofs.LayLaws.{laid-none, store, length-area, length-flat, wide-more, length-more}
 
 -- ---- a row stored behind those of its kind
 five : ℤ → List ℤ → List ℤ
 five e l = pos 0 ∷ pos 0 ∷ e ∷ pos 0 ∷ pos 0 ∷ l
 
-module _ (e : ℤ) (q : List ℤ) (n k at : ℕ) (rs : List (List ℤ)) (y : List ℤ) (w : Wide k rs) (h : length y ≡ k) (f : length rs * k + k ≤ n) where
+module _ (e : ℤ) (q : List ℤ) (n k at : ℕ) (rs : List (List ℤ)) (y : List ℤ) (w : Wide k rs) (h : length y ≡ k)
+    (f : length rs * k + k ≤ n) where
   store-first : at ≡ 5 + length rs * k → sets (five e (area n rs ++ q)) at y ≡ five e (area n (rs ++ (y ∷ [])) ++ q)
   unfolding five
   store-first i = store (five e []) q n k at rs y w h f i
 
   module _ (s : List ℤ) where
-    store-second : at ≡ 5 + length s + length rs * k → sets (five e (s ++ (area n rs ++ q))) at y ≡ five e (s ++ (area n (rs ++ (y ∷ [])) ++ q))
+    store-second : at ≡ 5 + length s + length rs * k → sets (five e (s ++ (area n rs ++ q))) at y ≡ five e (s ++ (area n (rs ++
+        (y ∷ [])) ++ q))
     unfolding five
     store-second i = store (five e s) q n k at rs y w h f (omega arith)
 
     module _ (v : List ℤ) where
-      store-third : at ≡ 5 + length s + length v + length rs * k → sets (five e (s ++ (v ++ (area n rs ++ q)))) at y ≡ five e (s ++ (v ++ (area n (rs ++ (y ∷ [])) ++ q)))
+      store-third : at ≡ 5 + length s + length v + length rs * k → sets (five e (s ++ (v ++ (area n rs ++ q)))) at y ≡ five e (s ++ (v ++
+          (area n (rs ++ (y ∷ [])) ++ q)))
       unfolding five
       store-third i =
           let g = length-append s v in
@@ -46,7 +50,13 @@ module _ (e : ℤ) (q : List ℤ) (n k at : ℕ) (rs : List (List ℤ)) (y : Lis
           let g = length-append s (v ++ t) in
           let g′ = length-append v t in
           let a = store (five e (s ++ (v ++ t))) q n k at rs y w h f (omega arith) in
-          rw (append-assoc s (v ++ t) (area n rs ++ q), append-assoc v t (area n rs ++ q), append-assoc s (v ++ t) (area n (rs ++ (y ∷ [])) ++ q), append-assoc v t (area n (rs ++ (y ∷ [])) ++ q)) at a
+          rw (
+            append-assoc s (v ++ t) (area n rs ++ q),
+            append-assoc v t (area n rs ++ q),
+            append-assoc s (v ++ t) (area n (rs ++
+                (y ∷ [])) ++ q),
+            append-assoc v t (area n (rs ++ (y ∷ [])) ++ q),
+          ) at a
 
 module _ (r : Rows) (z y : List ℤ) (f : Fit r) where
   wide-area : (n k m : ℕ) (rs : List (List ℤ)) → Wide k rs → length rs ≤ m → m * k ≤ n → length rs * k ≤ m * k → length (area n rs) ≡ n
@@ -59,37 +69,47 @@ module _ (r : Rows) (z y : List ℤ) (f : Fit r) where
   v-long = let h = f .few-vars in wide-area (VARIABLES * VAR-ROW) VAR-ROW VARIABLES (r .vars) (f .vars) h (omega arith) (omega arith)
 
   pub t-long : length (area (TRANSITIONS * TRANS-ROW) (r .transitions)) ≡ TRANSITIONS * TRANS-ROW
-  t-long = let h = f .few-transitions in wide-area (TRANSITIONS * TRANS-ROW) TRANS-ROW TRANSITIONS (r .transitions) (f .transitions) h (omega arith) (omega arith)
+  t-long = let h = f .few-transitions in wide-area (TRANSITIONS * TRANS-ROW) TRANS-ROW TRANSITIONS (r .transitions) (f .transitions) h
+      (omega arith) (omega arith)
 
   pub a-long : length (area (ACTIONS * ACT-ROW) (r .actions)) ≡ ACTIONS * ACT-ROW
   a-long = let h = f .few-actions in wide-area (ACTIONS * ACT-ROW) ACT-ROW ACTIONS (r .actions) (f .actions) h (omega arith) (omega arith)
 
-  store-s : length (r .states) < STATES → length y ≡ STATE-ROW → sets (laid r z) (STATES-AT + length (r .states) * STATE-ROW) y ≡ laid (with-row s-record y r) z
+  store-s : length (r .states) < STATES → length y ≡ STATE-ROW
+      → sets (laid r z) (STATES-AT + length (r .states) * STATE-ROW) y ≡ laid (with-row s-record y r) z
   unfolding laid with-row five
-  store-s h e = store-first (r .events) _ (STATES * STATE-ROW) STATE-ROW (STATES-AT + length (r .states) * STATE-ROW) (r .states) y (f .states) e (omega arith) (omega arith)
+  store-s h e = store-first (r .events) _ (STATES * STATE-ROW) STATE-ROW (STATES-AT + length (r .states) * STATE-ROW) (r .states) y
+      (f .states) e (omega arith) (omega arith)
 
-  store-v : length (r .vars) < VARIABLES → length y ≡ VAR-ROW → sets (laid r z) (VARS-AT + length (r .vars) * VAR-ROW) y ≡ laid (with-row v-record y r) z
+  store-v : length (r .vars) < VARIABLES → length y ≡ VAR-ROW → sets (laid r z) (VARS-AT + length (r .vars) * VAR-ROW) y ≡ laid
+      (with-row v-record y r) z
   unfolding laid with-row five
   store-v h e =
       let i = s-long in
-      store-second (r .events) _ (VARIABLES * VAR-ROW) VAR-ROW (VARS-AT + length (r .vars) * VAR-ROW) (r .vars) y (f .vars) e (omega arith) (area (STATES * STATE-ROW) (r .states)) (omega arith)
+      store-second (r .events) _ (VARIABLES * VAR-ROW) VAR-ROW (VARS-AT + length (r .vars) * VAR-ROW) (r .vars) y (f .vars) e
+      (omega arith) (area (STATES * STATE-ROW) (r .states)) (omega arith)
 
-  store-t : length (r .transitions) < TRANSITIONS → length y ≡ TRANS-ROW → sets (laid r z) (TRANSITIONS-AT + length (r .transitions) * TRANS-ROW) y ≡ laid (with-row t-record y r) z
+  store-t : length (r .transitions) < TRANSITIONS → length y ≡ TRANS-ROW
+      → sets (laid r z) (TRANSITIONS-AT + length (r .transitions) * TRANS-ROW) y ≡ laid (with-row t-record y r) z
   unfolding laid with-row five
   store-t h e =
       let i = s-long in
       let j = v-long in
-      store-third (r .events) _ (TRANSITIONS * TRANS-ROW) TRANS-ROW (TRANSITIONS-AT + length (r .transitions) * TRANS-ROW) (r .transitions) y (f .transitions) e (omega arith)
+      store-third (r .events) _ (TRANSITIONS * TRANS-ROW) TRANS-ROW (TRANSITIONS-AT + length (r .transitions) * TRANS-ROW)
+      (r .transitions) y (f .transitions) e (omega arith)
       (area (STATES * STATE-ROW) (r .states)) (area (VARIABLES * VAR-ROW) (r .vars)) (omega arith)
 
-  store-a : length (r .actions) < ACTIONS → length y ≡ ACT-ROW → sets (laid r z) (ACTIONS-AT + length (r .actions) * ACT-ROW) y ≡ laid (with-row a-record y r) z
+  store-a : length (r .actions) < ACTIONS → length y ≡ ACT-ROW
+      → sets (laid r z) (ACTIONS-AT + length (r .actions) * ACT-ROW) y ≡ laid (with-row a-record y r) z
   unfolding laid with-row five
   store-a h e =
       let i = s-long in
       let j = v-long in
       let k = t-long in
-      store-fourth (r .events) _ (ACTIONS * ACT-ROW) ACT-ROW (ACTIONS-AT + length (r .actions) * ACT-ROW) (r .actions) y (f .actions) e (omega arith)
-      (area (STATES * STATE-ROW) (r .states)) (area (VARIABLES * VAR-ROW) (r .vars)) (area (TRANSITIONS * TRANS-ROW) (r .transitions)) (omega arith)
+      store-fourth (r .events) _ (ACTIONS * ACT-ROW) ACT-ROW (ACTIONS-AT + length (r .actions) * ACT-ROW) (r .actions) y (f .actions) e
+      (omega arith)
+      (area (STATES * STATE-ROW) (r .states)) (area (VARIABLES * VAR-ROW) (r .vars)) (area (TRANSITIONS * TRANS-ROW) (r .transitions))
+      (omega arith)
 
   one-is : (y : List ℤ) → length y ≡ 1 → y ≡ num y 0 ∷ []
   one-is [] e = absurd (omega arith)
@@ -102,7 +122,8 @@ module _ (r : Rows) (z y : List ℤ) (f : Fit r) where
 
 -- ---- one row more, of any kind
 module _ (w : Walk) (y z : List ℤ) (f : Fit (w .rows)) where
-  pub next-numbers : (k : Record) → RowFits k (turns-of w) y → sets (laid (w .rows) z) (place-of k (turns-of w)) y ≡ laid (with-row k y (w .rows)) z
+  pub next-numbers : (k : Record) → RowFits k (turns-of w) y → sets (laid (w .rows) z) (place-of k (turns-of w)) y ≡ laid (with-row k y
+      (w .rows)) z
   unfolding place-of turns-of
   next-numbers s-record q = store-s (w .rows) z y f (q .0) (q .1)
   next-numbers v-record q = store-v (w .rows) z y f (q .0) (q .1)
@@ -177,7 +198,16 @@ module _ (w : Walk) (y z : List ℤ) (f : Fit (w .rows)) where
 -- ---- at the start, and the counts
 pub fit-start : Fit no-rows
 unfolding Wide
-fit-start = record { states = tt; vars = tt; transitions = tt; actions = tt; few-states = omega arith; few-vars = omega arith; few-transitions = omega arith; few-actions = omega arith }
+fit-start = record {
+  states = tt;
+  vars = tt;
+  transitions = tt;
+  actions = tt;
+  few-states = omega arith;
+  few-vars = omega arith;
+  few-transitions = omega arith;
+  few-actions = omega arith;
+}
 
 pub turns-start : record { stage = 0; states = 0; vars = 0; transitions = 0; actions = 0 } ≡ turns-of start
 unfolding turns-of
@@ -185,12 +215,20 @@ turns-start = refl
 
 pub within-fit : (w : Walk) (t : Turns) → t ≡ turns-of w → Fit (w .rows) → Within t
 unfolding turns-of
-within-fit w t e f = rw e (record { states = f .few-states; vars = f .few-vars; transitions = f .few-transitions; actions = f .few-actions })
+within-fit w t e f = rw e (record {
+  states = f .few-states;
+  vars = f .few-vars;
+  transitions = f .few-transitions;
+  actions = f .few-actions;
+})
 
 -- the counts put in, the numbers are the value of the rows
 pub counted-numbers : (w : Walk) (t : Turns) (z : List ℤ) → t ≡ turns-of w → with-counts t (laid (w .rows) z) ≡ value-of (w .rows) ++ z
 unfolding turns-of with-counts laid value-of
-counted-numbers w t z e = rw e (ap (λ (l : List ℤ). pos (length (w .rows .states)) ∷ pos (length (w .rows .vars)) ∷ w .rows .events ∷ pos (length (w .rows .transitions)) ∷ pos (length (w .rows .actions)) ∷ l) (sym (four (area (STATES * STATE-ROW) (w .rows .states)) (area (VARIABLES * VAR-ROW) (w .rows .vars)) (area (TRANSITIONS * TRANS-ROW) (w .rows .transitions)) (area (ACTIONS * ACT-ROW) (w .rows .actions)) z)))
+counted-numbers w t z e = rw e (ap (λ (l : List ℤ). pos (length (w .rows .states)) ∷ pos (length (w .rows .vars)) ∷ w .rows .events ∷ pos
+    (length (w .rows .transitions)) ∷ pos (length (w .rows .actions)) ∷ l) (sym (four (area (STATES * STATE-ROW) (w .rows .states)) (area
+    (VARIABLES * VAR-ROW) (w .rows .vars)) (area (TRANSITIONS * TRANS-ROW) (w .rows .transitions)) (area (ACTIONS * ACT-ROW)
+    (w .rows .actions)) z)))
   where
     four : (a b c d z : List ℤ) → (a ++ (b ++ (c ++ d))) ++ z ≡ a ++ (b ++ (c ++ (d ++ z)))
     four a b c d z = simp append-assoc

@@ -12,6 +12,7 @@ use Rattle.meaning.specs.Lists.{padded}
 use Rattle.meaning.specs.Value.{Rows, VALUE, STATES-AT, STATE-ROW, VARS-AT, VAR-ROW, TRANSITIONS-AT, TRANS-ROW, ACTIONS-AT, ACT-ROW}
 use Rattle.meaning.specs.Text.{flat, area, no-rows}
 use Rattle.reader.specs.Scanned.{zeros, Wide, Fit}
+use Rattle.reader.specs.Onward.{laid}
 
 -- ---- lists of rows
 pub flat-more : (rs : List (List ℤ)) (y : List ℤ) → flat (rs ++ (y ∷ [])) ≡ flat rs ++ y
@@ -57,10 +58,12 @@ area-none : (n : ℕ) → zeros n ≡ area n []
 area-none n = let e : n - 0 ≡ n = omega arith in sym (area-is n [] ∙ ap zeros e)
 
 pub length-area : (n : ℕ) (rs : List (List ℤ)) → length (flat rs) ≤ n → length (area n rs) ≡ n
-length-area n rs h = rw (area-is n rs, length-append (flat rs) (zeros (n - length (flat rs))), length-zeros (n - length (flat rs))) (omega arith)
+length-area n rs h = rw (area-is n rs, length-append (flat rs) (zeros (n - length (flat rs))), length-zeros (n - length (flat rs)))
+    (omega arith)
 
 -- ---- a part stored behind one that is there
-fill : (p f y q : List ℤ) (m : ℕ) → length y ≤ m → sets (p ++ ((f ++ zeros m) ++ q)) (length p + length f) y ≡ p ++ ((f ++ (y ++ zeros (m - length y))) ++ q)
+fill : (p f y q : List ℤ) (m : ℕ) → length y ≤ m → sets (p ++ ((f ++ zeros m) ++ q)) (length p + length f) y ≡ p ++ ((f ++ (y ++ zeros
+    (m - length y))) ++ q)
 fill p f y q m h =
     let e : p ++ ((f ++ zeros m) ++ q) ≡ (p ++ f) ++ (zeros m ++ q) = simp append-assoc in
     let i : length p + length f ≡ length (p ++ f) = sym (length-append p f) in
@@ -76,18 +79,13 @@ module _ (p q : List ℤ) (n : ℕ) (rs : List (List ℤ)) (y : List ℤ) (h : l
       rw (area-is n rs, area-is n (rs ++ (y ∷ [])), flat-more rs y, m, append-assoc (flat rs) y) a
 
 -- at a place that is counted in rows of k numbers
-pub store : (p q : List ℤ) (n k at : ℕ) (rs : List (List ℤ)) (y : List ℤ) → Wide k rs → length y ≡ k → length rs * k + k ≤ n → at ≡ length p + length rs * k
+pub store : (p q : List ℤ) (n k at : ℕ) (rs : List (List ℤ)) (y : List ℤ) → Wide k rs → length y ≡ k → length rs * k + k ≤ n
+    → at ≡ length p + length rs * k
     → sets (p ++ (area n rs ++ q)) at y ≡ p ++ (area n (rs ++ (y ∷ [])) ++ q)
 store p q n k at rs y w e h f =
     let g = length-flat k rs w in
     let i : at ≡ length p + length (flat rs) = omega arith in
     rw i (fill-area p q n rs y (omega arith))
-
--- ---- a chart's numbers while its text is read: the counts still 0, but that of events; z is what lies past them
-unfoldable pub laid : Rows → List ℤ → List ℤ
-laid r z =
-    pos 0 ∷ pos 0 ∷ r .events ∷ pos 0 ∷ pos 0 ∷ (area (STATES * STATE-ROW) (r .states) ++ (area (VARIABLES * VAR-ROW) (r .vars)
-    ++ (area (TRANSITIONS * TRANS-ROW) (r .transitions) ++ (area (ACTIONS * ACT-ROW) (r .actions) ++ z))))
 
 five-zeros : (n : ℕ) → zeros (suc (suc (suc (suc (suc n))))) ≡ pos 0 ∷ pos 0 ∷ pos 0 ∷ pos 0 ∷ pos 0 ∷ zeros n
 unfolding zeros
@@ -95,14 +93,26 @@ five-zeros n = refl
 
 areas-none : (a b c d k : ℕ) → zeros (a + (b + (c + (d + k)))) ≡ area a [] ++ (area b [] ++ (area c [] ++ (area d [] ++ zeros k)))
 areas-none a b c d k =
-    rw (← area-none a, ← area-none b, ← area-none c, ← area-none d, ← zeros-add d k, ← zeros-add c (d + k), ← zeros-add b (c + (d + k)), ← zeros-add a (b + (c + (d + k))))
+    rw (
+      ← area-none a,
+      ← area-none b,
+      ← area-none c,
+      ← area-none d,
+      ← zeros-add d k,
+      ← zeros-add c (d + k),
+      ← zeros-add b (c +
+          (d + k)),
+      ← zeros-add a (b + (c + (d + k))),
+    )
 
 start-by : (a b c d k : ℕ) → zeros (suc (suc (suc (suc (suc (a + (b + (c + (d + k)))))))))
     ≡ pos 0 ∷ pos 0 ∷ pos 0 ∷ pos 0 ∷ pos 0 ∷ (area a [] ++ (area b [] ++ (area c [] ++ (area d [] ++ zeros k))))
-start-by a b c d k = five-zeros (a + (b + (c + (d + k)))) ∙ ap (λ (l : List ℤ). pos 0 ∷ pos 0 ∷ pos 0 ∷ pos 0 ∷ pos 0 ∷ l) (areas-none a b c d k)
+start-by a b c d k = five-zeros (a + (b + (c + (d + k)))) ∙ ap (λ (l : List ℤ). pos 0 ∷ pos 0 ∷ pos 0 ∷ pos 0 ∷ pos 0 ∷ l)
+    (areas-none a b c d k)
 
 pub laid-none : (n : ℕ) → VALUE ≤ n → zeros n ≡ laid no-rows (zeros (n - VALUE))
 unfolding laid
 laid-none n h =
-    let e : n ≡ suc (suc (suc (suc (suc (STATES * STATE-ROW + (VARIABLES * VAR-ROW + (TRANSITIONS * TRANS-ROW + (ACTIONS * ACT-ROW + (n - VALUE))))))))) = omega arith in
+    let e : n ≡ suc (suc (suc (suc (suc (STATES * STATE-ROW + (VARIABLES * VAR-ROW + (TRANSITIONS * TRANS-ROW + (ACTIONS * ACT-ROW +
+    (n - VALUE))))))))) = omega arith in
     ap zeros e ∙ start-by (STATES * STATE-ROW) (VARIABLES * VAR-ROW) (TRANSITIONS * TRANS-ROW) (ACTIONS * ACT-ROW) (n - VALUE)

@@ -3,4 +3,7 @@ pub mod LayLaws
 pub mod RowLaws
 pub mod HeldLaws
 pub mod ScanLaws
+pub mod Again
 pub mod ReadLaws
+pub mod RowsBack
+pub mod RuledLaws

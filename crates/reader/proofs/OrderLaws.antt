@@ -1,4 +1,5 @@
--- Laws of the order of records: a line in its place is read as its kind says, any other is wrong; what is counted after it. Assumes nothing.
+-- Laws of the order of records: a line in its place is read as its kind says, any other is wrong; what is counted after it. Assumes
+-- nothing.
 use mathlib.Core.Path.{_≡_, refl, sym, ap, _∙_, subst}
 use mathlib.Core.Bool.{Bool, true, false}
 use mathlib.Core.List.{List, [], _∷_}
@@ -53,15 +54,18 @@ module _ (q : Record) (t : Turns) (fs : List (List ℕ)) (xs : List ℤ) where
   misplaced r e h = took-wrong (line-of q t fs) (place-of q t) xs (rw (e, h))
 
   module _ (m : ℕ) (ys : List ℤ) where
-    placed : (r : Record) → q ≡ r → in-order (t .stage) r ≡ true → Took (line-by r t fs) (place-of r t) xs m ys → Took (line-of q t fs) (place-of q t) xs m ys
+    placed : (r : Record) → q ≡ r → in-order (t .stage) r ≡ true → Took (line-by r t fs) (place-of r t) xs m ys
+        → Took (line-of q t fs) (place-of q t) xs m ys
     unfolding line-of
     placed r e h w = rw (e, h) w
 
-    pub took-s : q ≡ s-record → t .stage ≡ 0 → Took (s-line (t .states) fs) (STATES-AT + t .states * STATE-ROW) xs m ys → Took (line-of q t fs) (place-of q t) xs m ys
+    pub took-s : q ≡ s-record → t .stage ≡ 0 → Took (s-line (t .states) fs) (STATES-AT + t .states * STATE-ROW) xs m ys
+        → Took (line-of q t fs) (place-of q t) xs m ys
     unfolding line-by place-of in-order
     took-s e h w = placed s-record e (eq-eqb (t .stage) 0 h) w
 
-    pub took-v : q ≡ v-record → t .stage ≤ 1 → Took (v-line (t .vars) fs) (VARS-AT + t .vars * VAR-ROW) xs m ys → Took (line-of q t fs) (place-of q t) xs m ys
+    pub took-v : q ≡ v-record → t .stage ≤ 1 → Took (v-line (t .vars) fs) (VARS-AT + t .vars * VAR-ROW) xs m ys
+        → Took (line-of q t fs) (place-of q t) xs m ys
     unfolding line-by place-of in-order
     took-v e h w = placed v-record e (le-leb (t .stage) 1 h) w
 
@@ -69,11 +73,13 @@ module _ (q : Record) (t : Turns) (fs : List (List ℕ)) (xs : List ℤ) where
     unfolding line-by place-of in-order
     took-e e h w = placed e-record e (le-leb (t .stage) 1 h) w
 
-    pub took-t : q ≡ t-record → t .stage ≡ 2 → Took (t-line (t .transitions) fs) (TRANSITIONS-AT + t .transitions * TRANS-ROW) xs m ys → Took (line-of q t fs) (place-of q t) xs m ys
+    pub took-t : q ≡ t-record → t .stage ≡ 2 → Took (t-line (t .transitions) fs) (TRANSITIONS-AT + t .transitions * TRANS-ROW) xs m ys
+        → Took (line-of q t fs) (place-of q t) xs m ys
     unfolding line-by place-of in-order
     took-t e h w = placed t-record e (eq-eqb (t .stage) 2 h) w
 
-    pub took-a : q ≡ a-record → 2 ≤ t .stage → Took (a-line (t .actions) fs) (ACTIONS-AT + t .actions * ACT-ROW) xs m ys → Took (line-of q t fs) (place-of q t) xs m ys
+    pub took-a : q ≡ a-record → 2 ≤ t .stage → Took (a-line (t .actions) fs) (ACTIONS-AT + t .actions * ACT-ROW) xs m ys
+        → Took (line-of q t fs) (place-of q t) xs m ys
     unfolding line-by place-of in-order
     took-a e h w = placed a-record e (le-leb 2 (t .stage) h) w
 
@@ -108,7 +114,8 @@ counts q r t u e h = rw e h
 pub count-set : (l : List ℤ) (at n : ℕ) (z : ℤ) → z ≡ pos n → n < NOWHERE → set l at (toZ w32 (ofZ w32 z)) ≡ set l at (pos n)
 count-set l at n z e h = rw (e, back32 (pos n) h)
 
-pub counts-set : (t : Turns) (l a b c d : List ℤ) → a ≡ set l 0 (pos (t .states)) → b ≡ set a 1 (pos (t .vars)) → c ≡ set b 3 (pos (t .transitions))
+pub counts-set : (t : Turns) (l a b c d : List ℤ) → a ≡ set l 0 (pos (t .states)) → b ≡ set a 1 (pos (t .vars))
+    → c ≡ set b 3 (pos (t .transitions))
     → d ≡ set c 4 (pos (t .actions)) → d ≡ with-counts t l
 unfolding with-counts
 counts-set t l a b c d ea eb ec ed = rw (ed, ec, eb, ea)

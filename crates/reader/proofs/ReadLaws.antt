@@ -15,7 +15,8 @@ use Rattle.sizes.specs.Sizes.{TEXT}
 use Rattle.meaning.specs.Value.{Rows, VALUE}
 use Rattle.meaning.specs.Split.{fields, lines}
 use Rattle.meaning.specs.Line.{line-of}
-use Rattle.meaning.specs.Text.{Outcome, done, refused, answer, answer-of, Walk, start, turns-of, taken, further, record-of, ending, walk, read-unless, read-text, value-of}
+use Rattle.meaning.specs.Text.{Outcome, done, refused, answer, answer-of, Walk, start, turns-of, taken, further, record-of, ending, walk}
+use Rattle.meaning.specs.Text.{read-unless, read-text, value-of}
 use Rattle.meaning.specs.declared.Answer.{Answer}
 use Rattle.reader.specs.Scanned.{zeros, Fit, Scanned}
 use Rattle.reader.specs.RowsRead.{roomy-if, roomy, Left, RowsRead}
@@ -45,9 +46,11 @@ never-zero n w ([] ∷ []) p e = go (leb 2 (w .stage)) e
     go true e = let z : _≡_ {A = ℕ} 0 1 = cc in absurd (omega arith)
     go false e = let z : _≡_ {A = ℕ} 0 1 = cc in absurd (omega arith)
 never-zero n w ((b ∷ bs) ∷ []) p e = let z : _≡_ {A = ℕ} 0 1 = cc in absurd (omega arith)
-never-zero n w (line ∷ next ∷ rest) p e = go (line-of (record-of (fields line)) (turns-of w) (fields line) .mark) e (λ v. never-zero (n + 1) v (next ∷ rest) p)
+never-zero n w (line ∷ next ∷ rest) p e = go (line-of (record-of (fields line)) (turns-of w) (fields line) .mark) e (λ v. never-zero
+    (n + 1) v (next ∷ rest) p)
   where
-    go : (m : ℕ) → further m n (taken (record-of (fields line)) (line-of (record-of (fields line)) (turns-of w) (fields line) .row) w) (λ v. walk (n + 1) v (next ∷ rest)) ≡ refused 0 p
+    go : (m : ℕ) → further m n (taken (record-of (fields line)) (line-of (record-of (fields line)) (turns-of w) (fields line) .row) w)
+        (λ v. walk (n + 1) v (next ∷ rest)) ≡ refused 0 p
         → ((v : Walk) → walk (n + 1) v (next ∷ rest) ≡ refused 0 p → ⊥) → ⊥
     go zero e ih = ih (taken (record-of (fields line)) (line-of (record-of (fields line)) (turns-of w) (fields line) .row) w) e
     go (suc m) e ih = let z : _≡_ {A = ℕ} 0 1 = cc in absurd (omega arith)
@@ -71,7 +74,8 @@ module _ (s : List ℕ) (n : ℕ) where
   rows-long l h e = rw (lt-ltb TEXT (length s) h) (record { answer = refl; numbers = e })
 
   module _ (h : length s ≤ TEXT) (a : Answer) (l : List ℤ) (q : Scanned (walk 1 start (lines s)) a n l) where
-    by-cases : (P : Outcome Rows → Type 0) → ((r : Rows) → walk 1 start (lines s) ≡ done r → P (done r)) → ((b p : ℕ) → walk 1 start (lines s) ≡ refused b p → P (refused b p)) → P (read-text s)
+    by-cases : (P : Outcome Rows → Type 0) → ((r : Rows) → walk 1 start (lines s) ≡ done r → P (done r)) → ((b p : ℕ)
+        → walk 1 start (lines s) ≡ refused b p → P (refused b p)) → P (read-text s)
     by-cases P f g = rw (read-walk h) (go (walk 1 start (lines s)) refl)
       where
         go : (o : Outcome Rows) → walk 1 start (lines s) ≡ o → P o
@@ -96,7 +100,11 @@ module _ (s : List ℕ) (n : ℕ) where
 
       pub rows-done : VALUE ≤ n → RowsRead (read-text s) n a l
       rows-done v = by-cases (λ o. RowsRead o n a l)
-          (λ r f. record { answer = rw (le-leb VALUE n v) (q .answer ∙ ap answer-of f); numbers = rw (le-leb VALUE n v) (q .numbers r f v) })
+          (λ r f. record {
+            answer = rw (le-leb VALUE n v) (q .answer ∙ ap answer-of f);
+            numbers = rw (le-leb VALUE n v)
+                (q .numbers r f v);
+          })
           (λ b p f. absurd (no-fault b p f))
 
 -- ---- numbers that were set to 0 before

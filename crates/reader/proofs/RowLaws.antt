@@ -10,7 +10,8 @@ use lib.ListN.{length}
 use Rattle.sizes.specs.Sizes.{STATES, VARIABLES, TRANSITIONS, ACTIONS}
 use Rattle.meaning.specs.Value.{STATE-ROW, VAR-ROW, TRANS-ROW, ACT-ROW}
 use Rattle.meaning.specs.Line.{Line, Record, s-record, v-record, e-record, t-record, a-record, no-record}
-use Rattle.meaning.specs.Line.{worse, worst, room, values, marks, line-if, field, formed, is-dash, starts-with-h, target-cells-by, target-cells, trans-cells}
+use Rattle.meaning.specs.Line.{worse, worst, room, values, marks, line-if, field, formed, is-dash, starts-with-h, target-cells-by}
+use Rattle.meaning.specs.Line.{target-cells, trans-cells}
 use Rattle.meaning.specs.Line.{s-line, v-line, e-line, t-line, a-line, in-order, line-by, line-in-order, line-of}
 use Rattle.meaning.specs.declared.Cell.{Cell}
 use Rattle.meaning.specs.declared.Turns.{Turns}
@@ -50,14 +51,28 @@ seven-cells g fs = rw (two-cells (field fs 7))
 
 by-kind : (k : Record) (t : Turns) (fs : List (List ℕ)) → line-by k t fs .mark ≡ 0 → RowFits k t (line-by k t fs .row)
 unfolding line-by s-line v-line e-line t-line a-line
-by-kind s-record t fs e = (has-room (t .states) STATES _ (taken-mark (formed 5 (t .states) fs) (room (t .states) STATES) _ e), taken-length (formed 5 (t .states) fs) (room (t .states) STATES) 3 _ e refl)
-by-kind v-record t fs e = (has-room (t .vars) VARIABLES _ (taken-mark (formed 5 (t .vars) fs) (room (t .vars) VARIABLES) _ e), taken-length (formed 5 (t .vars) fs) (room (t .vars) VARIABLES) 3 _ e refl)
+by-kind s-record t fs e = (
+  has-room (t .states) STATES _ (taken-mark (formed 5 (t .states) fs) (room
+      (t .states) STATES) _ e),
+  taken-length (formed 5 (t .states) fs) (room (t .states) STATES) 3 _ e refl,
+)
+by-kind v-record t fs e = (
+  has-room (t .vars) VARIABLES _ (taken-mark (formed 5 (t .vars) fs) (room
+      (t .vars) VARIABLES) _ e),
+  taken-length (formed 5 (t .vars) fs) (room (t .vars) VARIABLES) 3 _ e refl,
+)
 by-kind e-record t fs e = taken-length (eqb (length fs) 2) 0 1 _ e refl
 by-kind t-record t fs e = (
-  has-room (t .transitions) TRANSITIONS _ (taken-mark (formed 8 (t .transitions) fs) (room (t .transitions) TRANSITIONS) (trans-cells (not (is-dash (field fs 4))) fs) e),
-  taken-length (formed 8 (t .transitions) fs) (room (t .transitions) TRANSITIONS) 7 (trans-cells (not (is-dash (field fs 4))) fs) e (seven-cells (not (is-dash (field fs 4))) fs),
+  has-room (t .transitions) TRANSITIONS _ (taken-mark (formed 8 (t .transitions) fs) (room (t .transitions) TRANSITIONS) (trans-cells
+      (not (is-dash (field fs 4))) fs) e),
+  taken-length (formed 8 (t .transitions) fs) (room (t .transitions) TRANSITIONS) 7 (trans-cells (not (is-dash (field fs 4))) fs) e
+      (seven-cells (not (is-dash (field fs 4))) fs),
 )
-by-kind a-record t fs e = (has-room (t .actions) ACTIONS _ (taken-mark (eqb (length fs) 6) (room (t .actions) ACTIONS) _ e), taken-length (eqb (length fs) 6) (room (t .actions) ACTIONS) 5 _ e refl)
+by-kind a-record t fs e = (
+  has-room (t .actions) ACTIONS _ (taken-mark (eqb (length fs) 6) (room (t .actions) ACTIONS) _ e),
+  taken-length
+      (eqb (length fs) 6) (room (t .actions) ACTIONS) 5 _ e refl,
+)
 by-kind no-record t fs e = one-not-zero e
 
 pub row-fits : (k : Record) (t : Turns) (fs : List (List ℕ)) → line-of k t fs .mark ≡ 0 → RowFits k t (line-of k t fs .row)

@@ -12,14 +12,17 @@ use borrow.Author.Tests.{le-leb, lt-leb}
 use Rattle.meaning.specs.Value.{Rows, VALUE}
 use Rattle.meaning.specs.Split.{all, split, fields, lines}
 use Rattle.meaning.specs.Line.{Line, Record, letter-of, field, record-by, line-of}
-use Rattle.meaning.specs.Text.{Outcome, done, refused, answer, answer-of, Walk, start, turns-of, taken, further, after-line, line-taken, record-of, ending, walk, value-of}
+use Rattle.meaning.specs.Text.{Outcome, done, refused, answer, answer-of, Walk, start, turns-of, taken, further, after-line, line-taken}
+use Rattle.meaning.specs.Text.{record-of, ending, walk, value-of}
 use Rattle.meaning.specs.declared.Answer.{Answer}
 use Rattle.meaning.specs.declared.Turns.{Turns}
 use Rattle.fields.specs.Parts.{Stop}
 use Rattle.lines.specs.Took.{Took}
 use Rattle.reader.specs.Order.{place-of, turns-after, Within, with-counts}
 use Rattle.reader.specs.Scanned.{zeros, Fit, Scanned}
-use Rattle.reader.proofs.LayLaws.{laid, laid-none, length-zeros}
+use Rattle.reader.specs.Onward.{laid, Walking, Onward, begun, over}
+use Rattle.reader.specs.declared.scan.Progress.{Progress}
+use Rattle.reader.proofs.LayLaws.{laid-none, length-zeros}
 use Rattle.reader.proofs.RowLaws.{row-fits}
 use Rattle.reader.proofs.HeldLaws.{next-numbers, next-turns, next-fit, fit-start, turns-start, within-fit, counted-numbers}
 
@@ -38,7 +41,8 @@ module _ (s : List ℕ) (at e : ℕ) (q : Stop 10 s at (length s) e) where
     unfolding walk
     walk-cut h k = rw (lines-last h, slice-cons at (length s) s 0 k (omega arith))
 
-    walk-last : e ≡ length s → length s ≤ at → walk n w (lines (slice at (length s) s)) ≡ cond (leb 2 (w .stage)) (done (w .rows)) (refused 1 n)
+    walk-last : e ≡ length s → length s ≤ at → walk n w (lines (slice at (length s) s)) ≡ cond (leb 2 (w .stage)) (done (w .rows))
+        (refused 1 n)
     unfolding walk
     walk-last h k =
         let l = q .low in
@@ -46,22 +50,14 @@ module _ (s : List ℕ) (at e : ℕ) (q : Stop 10 s at (length s) e) where
         let y : slice at (length s) s ≡ [] = rw z (slice-empty (length s) s) in
         rw (lines-last h, y)
 
-    walk-next : (e ≡ length s → ⊥) → walk n w (lines (slice at (length s) s)) ≡ line-taken (fields (slice at e s)) n w (λ v. walk (n + 1) v (lines (slice (e + 1) (length s) s)))
+    walk-next : (e ≡ length s → ⊥) → walk n w (lines (slice at (length s) s)) ≡ line-taken (fields (slice at e s)) n w (λ v. walk
+        (n + 1) v (lines (slice (e + 1) (length s) s)))
     unfolding walk lines
     walk-next h = rw (lines-next h)
 
--- ---- what the loop keeps: n0 numbers are lent, s is the text
-pub record Walking (s : List ℕ) (n0 : ℕ) (l : List ℤ) (at n : ℕ) (t : Turns) : Type 0 where
-  pub read : Walk
-  pub turns : t ≡ turns-of read
-  pub numbers : VALUE ≤ n0 → l ≡ laid (read .rows) (zeros (n0 - VALUE))
-  pub fit : Fit (read .rows)
-  pub size : length l ≡ n0
-  pub inside : at ≤ length s
-  pub line : n ≤ at + 1
-  pub same : walk n read (lines (slice at (length s) s)) ≡ walk 1 start (lines s)
-
-pub walking-start : (s : List ℕ) (n0 : ℕ) (l : List ℤ) → l ≡ zeros n0 → Walking s n0 l 0 1 (record { stage = 0; states = 0; vars = 0; transitions = 0; actions = 0 })
+-- ---- what the loop keeps
+pub walking-start : (s : List ℕ) (n0 : ℕ) (l : List ℤ) → l ≡ zeros n0
+    → Walking s n0 l 0 1 (record { stage = 0; states = 0; vars = 0; transitions = 0; actions = 0 })
 walking-start s n0 l e = record {
   read = start;
   turns = turns-start;
@@ -84,7 +80,8 @@ module _ (s : List ℕ) (n0 : ℕ) (l : List ℤ) (at n : ℕ) (t : Turns) (w : 
   gives : (o : Outcome Rows) → walk n (w .read) (lines (slice at (length s) s)) ≡ o → walk 1 start (lines s) ≡ o
   gives o e = sym (w .same) ∙ e
 
-  refusal : (a p : ℕ) (l′ : List ℤ) → length l′ ≡ n0 → walk 1 start (lines s) ≡ refused a p → Scanned (walk 1 start (lines s)) (answer a p) n0 l′
+  refusal : (a p : ℕ) (l′ : List ℤ) → length l′ ≡ n0 → walk 1 start (lines s) ≡ refused a p
+      → Scanned (walk 1 start (lines s)) (answer a p) n0 l′
   refusal a p l′ z e = record { answer = sym (ap answer-of e); numbers = λ r f h. impossible r (sym e ∙ f); size = z }
     where
       impossible : (r : Rows) → refused a p ≡ done r → (l′ ≡ value-of r ++ zeros (n0 - VALUE)) × Fit r
@@ -98,14 +95,17 @@ module _ (s : List ℕ) (n0 : ℕ) (l : List ℤ) (at n : ℕ) (t : Turns) (w : 
     scan-missing h k d =
         let g = same-stage in
         let z : leb 2 (w .read .stage) ≡ false = lt-leb 2 (w .read .stage) (omega arith) in
-        refusal 1 n l (w .size) (gives (refused 1 n) (walk-last s at e q (w .read) n h k ∙ ap (λ (b : Bool). cond b (done (w .read .rows)) (refused 1 n)) z))
+        refusal 1 n l (w .size) (gives (refused 1 n) (walk-last s at e q (w .read) n h k ∙ ap (λ (b : Bool). cond b (done
+        (w .read .rows)) (refused 1 n)) z))
 
-    pub scan-done : (l′ : List ℤ) → l′ ≡ with-counts t l → e ≡ length s → length s ≤ at → 2 ≤ t .stage → Scanned (walk 1 start (lines s)) (answer 0 0) n0 l′
+    pub scan-done : (l′ : List ℤ) → l′ ≡ with-counts t l → e ≡ length s → length s ≤ at → 2 ≤ t .stage
+        → Scanned (walk 1 start (lines s)) (answer 0 0) n0 l′
     unfolding with-counts
     scan-done l′ f h k d =
         let g = same-stage in
         let z : leb 2 (w .read .stage) ≡ true = le-leb 2 (w .read .stage) (omega arith) in
-        let r : walk 1 start (lines s) ≡ done (w .read .rows) = gives (done (w .read .rows)) (walk-last s at e q (w .read) n h k ∙ ap (λ (b : Bool). cond b (done (w .read .rows)) (refused 1 n)) z) in
+        let r : walk 1 start (lines s) ≡ done (w .read .rows) = gives (done (w .read .rows)) (walk-last s at e q (w .read) n h k ∙ ap (λ
+        (b : Bool). cond b (done (w .read .rows)) (refused 1 n)) z) in
         record {
           answer = sym (ap answer-of r);
           numbers = λ rows i v. rest rows v (sym r ∙ i);
@@ -118,7 +118,8 @@ module _ (s : List ℕ) (n0 : ℕ) (l : List ℤ) (at n : ℕ) (t : Turns) (w : 
         rest : (rows : Rows) → VALUE ≤ n0 → done (w .read .rows) ≡ done rows → (l′ ≡ value-of rows ++ zeros (n0 - VALUE)) × Fit rows
         rest rows v i =
             let j : w .read .rows ≡ rows = cc in
-            let m : l′ ≡ value-of (w .read .rows) ++ zeros (n0 - VALUE) = f ∙ ap (with-counts t) (w .numbers v) ∙ counted-numbers (w .read) t (zeros (n0 - VALUE)) (w .turns) in
+            let m : l′ ≡ value-of (w .read .rows) ++ zeros (n0 - VALUE) = f ∙ ap (with-counts t) (w .numbers v) ∙ counted-numbers
+            (w .read) t (zeros (n0 - VALUE)) (w .turns) in
             (rw j at m, subst (λ (r : Rows). Fit r) j (w .fit))
 
     module _ (h : e ≡ length s → ⊥) (k m : ℕ) (l′ : List ℤ) (g : k ≡ letter-of (field (fields (slice at e s)) 0))
@@ -133,11 +134,14 @@ module _ (s : List ℕ) (n0 : ℕ) (l : List ℤ) (at n : ℕ) (t : Turns) (w : 
       mark-is : m ≡ line-of (record-of fs) (turns-of (w .read)) fs .mark
       mark-is = o .mark ∙ ap (λ (l : Line). l .mark) as-read
 
-      next-is : walk 1 start (lines s) ≡ further m n (taken (record-of fs) (line-of (record-of fs) (turns-of (w .read)) fs .row) (w .read)) (λ v. walk (n + 1) v (lines (slice (e + 1) (length s) s)))
-      next-is = sym (w .same) ∙ walk-next s at e q (w .read) n h ∙ ap (λ (a : ℕ). further a n (taken (record-of fs) (line-of (record-of fs) (turns-of (w .read)) fs .row) (w .read)) (λ v. walk (n + 1) v (lines (slice (e + 1) (length s) s)))) (sym mark-is)
+      next-is : walk 1 start (lines s) ≡ further m n (taken (record-of fs) (line-of (record-of fs) (turns-of (w .read)) fs .row)
+          (w .read)) (λ v. walk (n + 1) v (lines (slice (e + 1) (length s) s)))
+      next-is = sym (w .same) ∙ walk-next s at e q (w .read) n h ∙ ap (λ (a : ℕ). further a n (taken (record-of fs) (line-of
+          (record-of fs) (turns-of (w .read)) fs .row) (w .read)) (λ v. walk (n + 1) v (lines (slice (e + 1) (length s) s)))) (sym mark-is)
 
       pub scan-fault : (m ≡ 0 → ⊥) → Scanned (walk 1 start (lines s)) (answer m n) n0 l′
-      scan-fault z = refusal m n l′ (o .size ∙ w .size) (next-is ∙ stops m (taken (record-of fs) (line-of (record-of fs) (turns-of (w .read)) fs .row) (w .read)) (λ v. walk (n + 1) v (lines (slice (e + 1) (length s) s))) z)
+      scan-fault z = refusal m n l′ (o .size ∙ w .size) (next-is ∙ stops m (taken (record-of fs) (line-of (record-of fs) (turns-of
+          (w .read)) fs .row) (w .read)) (λ v. walk (n + 1) v (lines (slice (e + 1) (length s) s))) z)
         where
           stops : (m : ℕ) (v : Walk) (more : Walk → Outcome Rows) → (m ≡ 0 → ⊥) → further m n v more ≡ refused m n
           stops zero v more z = absurd (z refl)
@@ -162,3 +166,36 @@ module _ (s : List ℕ) (n0 : ℕ) (l : List ℤ) (at n : ℕ) (t : Turns) (w : 
             line = omega arith;
             same = sym (next-is ∙ rw z);
           }
+
+-- ---- how far the reading has come
+
+no-clash : {A : Type 0} → true ≡ false → A
+no-clash f = let z : _≡_ {A = ℕ} 0 1 = cc in absurd (omega arith)
+
+module _ (s : List ℕ) (n0 : ℕ) (l : List ℤ) where
+  -- before the first line
+  pub onward-start : l ≡ zeros n0 → Onward s n0 l begun
+  onward-start e = record { goes = λ f. walking-start s n0 l e; ends = no-clash }
+
+  pub onward-over : (at : ℕ) (a : Answer) (r : Progress) → r ≡ over a → Scanned (walk 1 start (lines s)) a n0 l
+      → Onward s n0 l r × (r .going ≡ true → at < r .at)
+  onward-over at a r e h = subst (λ x. Onward s n0 l x × (x .going ≡ true
+      → at < x .at)) (sym e) (record { goes = λ f. no-clash (sym f); ends = λ f. h }, λ f. no-clash (sym f))
+
+  pub onward-next : (at next n : ℕ) (t : Turns) → Walking s n0 l next n t → at < next
+      → Onward s n0 l (record { going = true; at = next; line = n; turns = t; answer = answer 0 0 }) × (true ≡ true → at < next)
+  onward-next at next n t w h = (record { goes = λ f. w; ends = no-clash }, λ f. h)
+
+-- what is left to read falls with each line
+pub left : List ℕ → Progress → ℕ
+left s p = cond (p .going) (suc (suc (length s)) - p .at) 0
+
+pub left-falls : (s : List ℕ) (n0 : ℕ) (l l′ : List ℤ) (p r : Progress) → p .going ≡ true → Onward s n0 l p → Onward s n0 l′ r
+    → (r .going ≡ true → p .at < r .at)
+    → left s r < left s p
+unfolding left
+left-falls s n0 l l′ p r g h k less = subst (λ b. left s r < cond b (suc (suc (length s)) - p .at) 0) (sym g) (by (r .going) refl)
+  where
+    by : (b : Bool) → r .going ≡ b → cond b (suc (suc (length s)) - r .at) 0 < suc (suc (length s)) - p .at
+    by true e = omega (arith, less e, k .goes e .inside)
+    by false e = omega (arith, h .goes g .inside)

@@ -1,4 +1,4 @@
--- Where the line ends that starts at a position: what the thin functions say, as a fact that a loop can use. Assumes nothing.
+-- Where the line ends that starts at a position, as a fact that whoever reads the line can use. Assumes nothing.
 use mathlib.Core.Path.{_≡_, refl, sym, ap, _∙_, subst}
 use mathlib.Core.List.{List, [], _∷_}
 use Prim.Native.Nat.{ℕ, _+_, _-_, _≤_, _<_}

@@ -1,4 +1,5 @@
--- The order of records in a text: where the next row of each kind stands in the chart's numbers, and what is counted after a line. Assumes nothing.
+-- The order of records in a text: where the next row of each kind stands in the chart's numbers, and what is counted after a line.
+-- Assumes nothing.
 use mathlib.Core.List.{List}
 use Prim.Native.Nat.{ℕ, _+_, _*_, _≤_}
 use lib.IntN.{ℤ, pos}

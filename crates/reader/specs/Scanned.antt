@@ -1,4 +1,5 @@
--- What the walk over a text's lines leaves: its answer, and where that is 0 and there is room the value of the rows read, 0 past it. Assumes nothing.
+-- What the walk over a text's lines leaves: its answer, and where that is 0 and there is room the value of the rows read, 0 past it.
+-- Assumes nothing.
 use mathlib.Core.Path.{_≡_}
 use mathlib.Core.List.{List, [], _∷_, _++_}
 use Prim.Native.Nat.{ℕ, _-_, _≤_}

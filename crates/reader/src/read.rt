@@ -1,8 +1,10 @@
 // A text's rows read into lent numbers (01, "Chart text", "Answer numbers"): any text, any number of lent numbers. A refused read
 // leaves all of them 0.
-use crate::scan::walk;
+use crate::walk;
 use chart::layout::VALUE;
 use meaning::Answer;
+use meaning::answers::OUTSIDE_SIZE;
+use meaning::answers::RULE_FAILS;
 use sizes::TEXT;
 ghost use mathlib.Core.Path.{_≡_};
 ghost use lib.ListN.{length};
@@ -28,7 +30,7 @@ pub fn read_rows(text: &[u8], chart: &mut [i32]) -> Answer
     clear(chart);
     if TEXT < text.len() {
         return Answer {
-            number: 2,
+            number: OUTSIDE_SIZE,
             place: 0,
         };
     }
@@ -40,7 +42,7 @@ pub fn read_rows(text: &[u8], chart: &mut [i32]) -> Answer
     if chart.len() < VALUE {
         clear(chart);
         return Answer {
-            number: 3,
+            number: RULE_FAILS,
             place: 0,
         };
     }

@@ -5,6 +5,7 @@ pub mod states;
 pub mod value;
 
 use meaning::Answer;
+use meaning::answers::RULE_FAILS;
 ghost use mathlib.Core.Path.{_≡_};
 ghost use mathlib.Core.Bool.{true};
 ghost use mathlib.Core.List.{_∷_};
@@ -17,7 +18,7 @@ fn fails(rule: usize) -> Answer
     ensures { λ r. ⌜ r ≡ record { number = 3; place = rule } ⌝ }
 {
     Answer {
-        number: 3,
+        number: RULE_FAILS,
         place: rule,
     }
 }

@@ -1,7 +1,7 @@
 -- Laws of opening the session: a text that is refused, and a chart that was read, which passes the rules. Assumes nothing.
 use mathlib.Core.Path.{_≡_, refl, sym, ap, _∙_}
 use mathlib.Core.Bool.{Bool, true, false, false≢true}
-use mathlib.Core.List.{List, _++_, append-nil}
+use mathlib.Core.List.{List, [], _∷_, _++_, append-nil}
 use mathlib.Core.Option.{Option, none, some}
 use Prim.Native.Nat.{ℕ, _+_, _-_, _≤_}
 use native.Mathlib.Omega.{arith}
@@ -15,12 +15,13 @@ use Rattle.meaning.specs.Rules.{failing-rule}
 use Rattle.meaning.specs.Calls.{start, unstarted}
 use Rattle.meaning.specs.Text.{Outcome, done, refused, answer-of, lent, lent-numbers, read, read-text, checked, checked-if, by-rule}
 use Rattle.meaning.specs.Program.{ROOM, reported, turn, output-by, output}
-use Rattle.walks.specs.Walks.{Ruled}
+use Rattle.promises.specs.Promises.{Accepted}
 use Rattle.reader.proofs.ReadLaws.{read-never-zero}
 use Rattle.round.proofs.Round.{read-then-rules, passes}
 use Rattle.round.proofs.Values.{enough}
-use Rattle.console.specs.Session.{all-printed}
-use Rattle.console.proofs.Session.{fresh, session-printed}
+use Rattle.console.specs.Session.{Turns, Passed, passed-all, finished, all-printed}
+use Rattle.console.specs.Session.{Under as Seen}
+use Rattle.console.proofs.Session.{fresh, session-printed, all-by-parts, under-append, printed-append, printed-none}
 use Rattle.session.specs.declared.Opened.{Opened}
 use Rattle.session.specs.Turned.{Went, Opens, quiet, turned, LARGEST}
 
@@ -66,7 +67,7 @@ module _ (text : List ℕ) (a : Answer) (l : List ℤ) (e : a ≡ answer-of (rea
     v : List ℤ
     is : read text VALUE ≡ done v
     here : l ≡ v
-    ruled : Ruled v
+    ruled : Accepted v
 
   read-done : Read
   unfolding lent-numbers lent
@@ -78,7 +79,7 @@ module _ (text : List ℕ) (a : Answer) (l : List ℤ) (e : a ≡ answer-of (rea
           let y : n ≡ 0 = sym (ap (λ x. x .number) e) ∙ z in
           absurd (never-zero text VALUE p (s ∙ ap (λ b. refused b p) y))
 
-  pub read-ruled : Ruled l
+  pub read-ruled : Accepted l
   read-ruled = rw (read-done .here) (read-done .ruled)
 
   pub open-started : (before after : List ℕ) (at : ℕ) (r : Opened) → r .going ≡ true
@@ -95,7 +96,7 @@ module _ (l : List ℤ) (before after : List ℕ) (at : ℕ) (r : Opened) where
   opens-whole (refused n p) w = w .went .whole
   opens-whole (done v) w = w .went .whole
 
-  pub opens-ruled : (o : Outcome (List ℤ)) → Opens o l before at after r → r .going ≡ true → Ruled l
+  pub opens-ruled : (o : Outcome (List ℤ)) → Opens o l before at after r → r .going ≡ true → Accepted l
   unfolding Opens
   opens-ruled (refused n p) w h = absurd (false≢true (sym (w .going) ∙ h))
   opens-ruled (done v) w h = rw (w .value) (w .ruled)
@@ -108,6 +109,48 @@ module _ (text input : List ℕ) where
   whole-refused n p e = rw e
 
   pub whole-started : (v : List ℤ) → read text VALUE ≡ done v
-      → (let t = reported (start (chart-of v) unstarted ROOM) in t .printed ++ all-printed (turn (chart-of v)) (fresh (t .state)) input) ≡ output text input
+      → (let t = reported (start (chart-of v) unstarted ROOM) in
+      t .printed ++ all-printed (turn (chart-of v)) (fresh (t .state)) input) ≡ output text input
   unfolding output output-by
   whole-started v e = rw e (session-printed (chart-of v) (reported (start (chart-of v) unstarted ROOM)) input)
+
+-- ---- the same in stretches, as the program meets the input: each is what one walk passes (its promise is `Walks`)
+
+unfoldable pub joined : List (List ℕ) → List ℕ
+joined [] = []
+joined (l ∷ ls) = l ++ joined ls
+
+-- stretch after stretch
+unfoldable pub in-turn : Turns → Seen → List (List ℕ) → Passed
+in-turn f u [] = record { under = u; printed = [] }
+in-turn f u (l ∷ ls) =
+    let p = passed-all f u l in
+    let q = in-turn f (p .under) ls in
+    record { under = q .under; printed = p .printed ++ q .printed }
+
+module _ (f : Turns) where
+  pub in-turn-under : (u : Seen) (ls : List (List ℕ)) → in-turn f u ls .under ≡ passed-all f u (joined ls) .under
+  unfolding in-turn joined
+  in-turn-under u [] = sym (ap (λ p. p .under) (printed-none f u))
+  in-turn-under u (l ∷ ls) = in-turn-under (passed-all f u l .under) ls ∙ sym (under-append f u l (joined ls))
+
+  pub in-turn-printed : (u : Seen) (ls : List (List ℕ)) → in-turn f u ls .printed ≡ passed-all f u (joined ls) .printed
+  unfolding in-turn joined
+  in-turn-printed u [] = sym (ap (λ p. p .printed) (printed-none f u))
+  in-turn-printed u (l ∷ ls) =
+      ap (λ bs. passed-all f u l .printed ++ bs) (in-turn-printed (passed-all f u l .under) ls) ∙ sym (printed-append f u l (joined ls))
+
+  stretches-printed : (u : Seen) (ls : List (List ℕ))
+      → (let p = in-turn f u ls in p .printed ++ finished f (p .under) .printed) ≡ all-printed f u (joined ls)
+  stretches-printed u ls =
+      ap (λ bs. bs ++ finished f (in-turn f u ls .under) .printed) (in-turn-printed u ls)
+      ∙ ap (λ w. passed-all f u (joined ls) .printed ++ finished f w .printed) (in-turn-under u ls)
+      ∙ sym (all-by-parts f u (joined ls))
+
+-- the start, the stretches in turn and the end of the input print the whole output, wherever the input was cut
+pub whole-in-stretches : (text : List ℕ) (ls : List (List ℕ)) (v : List ℤ) → read text VALUE ≡ done v
+    → (let f = turn (chart-of v) in let t = reported (start (chart-of v) unstarted ROOM) in let p = in-turn f (fresh (t .state)) ls in
+    t .printed ++ (p .printed ++ finished f (p .under) .printed)) ≡ output text (joined ls)
+whole-in-stretches text ls v e =
+    let t = reported (start (chart-of v) unstarted ROOM) in
+    ap (λ bs. t .printed ++ bs) (stretches-printed (turn (chart-of v)) (fresh (t .state)) ls) ∙ whole-started text (joined ls) v e

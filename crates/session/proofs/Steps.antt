@@ -7,7 +7,7 @@ use borrow.Author.Tests.{eq-eqb, ne-eqb}
 use native.Mathlib.Omega.{arith}
 use lib.IntN.{ℤ}
 use lib.ListN.{length}
-use Rattle.pen.specs.Pen.{pen, writes}
+use Rattle.pen.specs.Pen.{pen, put-all}
 use Rattle.meaning.specs.declared.State.{State}
 use Rattle.meaning.specs.declared.Called.{Called}
 use Rattle.meaning.specs.declared.Line.{Line}
@@ -16,8 +16,11 @@ use Rattle.meaning.specs.Chart.{Chart}
 use Rattle.meaning.specs.Steps.{Res, ok, refuse}
 use Rattle.meaning.specs.Split.{LF}
 use Rattle.meaning.specs.Widget.{Ctx, ENTRY}
-use Rattle.meaning.specs.Calls.{Outcome, called, lent, outcome, refused, post, run}
+use Rattle.meaning.specs.Value.{chart-of}
+use Rattle.meaning.specs.Calls.{Outcome, called, lent, outcome, refused, start, post, run, start-of, run-of}
 use Rattle.meaning.specs.Program.{ROOM, report, reported, turn, after-post}
+use Rattle.promises.specs.Promises.{Accepted, Started, Ran}
+use Rattle.engine.proofs.ByRules.{start-on, run-on}
 use Rattle.console.specs.declared.scan.Scan.{Scan}
 use Rattle.console.specs.Scan.{empty, fed, line-at, began}
 use Rattle.console.specs.Session.{Turns, by-end, by-began, passed, finished}
@@ -30,7 +33,8 @@ use Rattle.session.specs.Turned.{Went, Passes, quiet, LARGEST}
 -- what `report` gives
 abbrev pub Reported : ℕ → ℕ → List ℤ → List ℕ → ℕ → List ℕ → ℕ → Type 0
 Reported number entries trace before at after to =
-    (pen after to ≡ writes (report number (shown entries trace)) (pen before at)) × (at + largest trace ≤ length before → to ≤ at + largest trace)
+    (pen after to ≡ put-all (report number (shown entries trace)) (pen before at))
+    × (at + largest trace ≤ length before → to ≤ at + largest trace)
 
 module _ (before after : List ℕ) (at to : ℕ) where
   -- a call of the engine, reported
@@ -40,9 +44,22 @@ module _ (before after : List ℕ) (at to : ℕ) where
   unfolding called lent
   call-went o r l e m k w = record {
     widget = ap (λ x. x .state) e;
-    bytes = w .0 ∙ ap (λ b. writes b (pen before at)) (rw e (report-lent (o .number) ROOM (o .trace) l m k));
+    bytes = w .0 ∙ ap (λ b. put-all b (pen before at)) (rw e (report-lent (o .number) ROOM (o .trace) l m k));
     whole = λ h. let z : largest l ≡ LARGEST = rw k in let p = w .1 (omega arith) in omega arith;
   }
+
+  -- a start and a run on a chart that was accepted
+  module _ (v : List ℤ) (u : State) (h : Accepted v) (t l : List ℤ) (j : length t ≡ ROOM) (k : length l ≡ ROOM) (r : Called)
+      (w : Reported (r .answer .number) (r .entries) l before at after to) where
+    pub start-went : Started v u t r l → Went (reported (start (chart-of v) u ROOM)) before at after (record { state = r .state; at = to })
+    start-went p =
+        let e : start-of v u ROOM ≡ start (chart-of v) u ROOM = start-on v u h ROOM in
+        call-went (start (chart-of v) u ROOM) r l (rw (j, e) at (p .result)) (rw (j, e) at (p .lent)) k w
+
+    pub run-went : Ran v u t r l → Went (reported (run (chart-of v) u ROOM)) before at after (record { state = r .state; at = to })
+    run-went p =
+        let e : run-of v u ROOM ≡ run (chart-of v) u ROOM = run-on v u h ROOM in
+        call-went (run (chart-of v) u ROOM) r l (rw (j, e) at (p .result)) (rw (j, e) at (p .lent)) k w
 
   -- an answer with no entry, reported from a trace that holds none
   pub none-went : (number : ℕ) (u : State) (l : List ℤ) → length l ≡ 1 → Reported number 0 l before at after to
@@ -81,7 +98,8 @@ module _ (c : Chart) (u : State) (l : Line) (before after : List ℕ) (at : ℕ)
   turn-wrong e w = rw e w
 
   module _ (e a : ℤ) (is : l ≡ Posts e a) (p : Called) (posted : p ≡ called (post c u e a)) where
-    pub turn-refused : (p .answer .number ≡ 0 → ⊥) → Went (quiet (p .answer .number) (p .state)) before at after r → Went (turn c u l) before at after r
+    pub turn-refused : (p .answer .number ≡ 0 → ⊥) → Went (quiet (p .answer .number) (p .state)) before at after r
+        → Went (turn c u l) before at after r
     unfolding turn called
     turn-refused h w =
         let k : post c u e a .number ≡ 0 → ⊥ = λ z. h (ap (λ x. x .answer .number) posted ∙ z) in
@@ -98,33 +116,37 @@ module _ (f : Turns) (s : Scan) (u : State) (before : List ℕ) (at : ℕ) where
   abbrev under : Seen
   under = record { state = u; scan = s }
 
-  pub byte-ends : (b : ℕ) (after : List ℕ) (l : Line) (k : Scan) (r : Turned) → b ≡ LF → l ≡ line-at s → k ≡ empty → Went (f u l) before at after r
+  pub byte-ends : (b : ℕ) (after : List ℕ) (l : Line) (k : Scan) (r : Turned) → b ≡ LF → l ≡ line-at s → k ≡ empty
+      → Went (f u l) before at after r
       → Passes (passed f under b) before at after (record { state = r .state; scan = k; at = r .at })
   unfolding passed
   byte-ends b after l k r h e g w = rw (eq-eqb b LF h) (go (rw e at w))
     where
-      go : Went (f u (line-at s)) before at after r → Passes (by-end f under b true) before at after (record { state = r .state; scan = k; at = r .at })
+      go : Went (f u (line-at s)) before at after r
+          → Passes (by-end f under b true) before at after (record { state = r .state; scan = k; at = r .at })
       go w = record { widget = w .widget; line = g; bytes = w .bytes; whole = w .whole }
 
   pub byte-feeds : (b : ℕ) (k : Scan) → (b ≡ LF → ⊥) → k ≡ fed s b
       → Passes (passed f under b) before at before (record { state = u; scan = k; at = at })
-  unfolding passed writes
+  unfolding passed put-all
   byte-feeds b k h e = rw (ne-eqb b LF h) go
     where
       go : Passes (by-end f under b false) before at before (record { state = u; scan = k; at = at })
       go = record { widget = refl; line = e; bytes = refl; whole = λ h. omega arith }
 
   -- the end of the input
-  pub end-begun : (after : List ℕ) (l : Line) (k : Scan) (r : Turned) → began s ≡ true → l ≡ line-at s → k ≡ empty → Went (f u l) before at after r
+  pub end-begun : (after : List ℕ) (l : Line) (k : Scan) (r : Turned) → began s ≡ true → l ≡ line-at s → k ≡ empty
+      → Went (f u l) before at after r
       → Passes (finished f under) before at after (record { state = r .state; scan = k; at = r .at })
   unfolding finished
   end-begun after l k r h e g w = rw h (go (rw e at w))
     where
-      go : Went (f u (line-at s)) before at after r → Passes (by-began f under true) before at after (record { state = r .state; scan = k; at = r .at })
+      go : Went (f u (line-at s)) before at after r
+          → Passes (by-began f under true) before at after (record { state = r .state; scan = k; at = r .at })
       go w = record { widget = w .widget; line = g; bytes = w .bytes; whole = w .whole }
 
   pub end-none : began s ≡ false → Passes (finished f under) before at before (record { state = u; scan = s; at = at })
-  unfolding finished writes
+  unfolding finished put-all
   end-none h = rw h go
     where
       go : Passes (by-began f under false) before at before (record { state = u; scan = s; at = at })

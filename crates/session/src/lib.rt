@@ -1,28 +1,33 @@
 // The trace program's session over a chart that passes the rules (01, the end of "Checked by example"): it starts, then posts and runs
 // each line. The widget and the line under way go by value, what is printed is written into a lent slice, and each byte of the input is
 // one step. What the engine writes of a call goes into numbers of its own, with room for 1,000 entries.
+use console::ENTRY;
+use console::HEAD;
+use console::LF;
+use console::LINE;
 use console::Scan;
 use meaning::Line;
 use meaning::State;
-use queue::Queue;
-use sizes::STATES;
-use sizes::VARIABLES;
+use meaning::answers::WRONG_LINE;
 ghost use mathlib.Core.Path.{_≡_};
 ghost use lib.ListN.{length};
-ghost use Rattle.walks.specs.Walks.{Ruled};
+ghost use Rattle.promises.specs.Promises.{Accepted};
 ghost use Rattle.meaning.specs.Value.{VALUE, chart-of};
 ghost use Rattle.meaning.specs.Calls.{start as starts, run as runs, unstarted as none};
 ghost use Rattle.meaning.specs.Text.{read};
 ghost use Rattle.meaning.specs.Program.{ROOM as Room, reported, turn as turn-of};
 ghost use Rattle.console.specs.Session.{passed, finished};
+ghost use Rattle.pen.specs.Pen.{pen};
 ghost use Rattle.session.specs.Turned.{Went, Passes, Opens, quiet, seen};
+ghost use Rattle.session.specs.Walked.{Walks, roomy};
 
 // "With room for 1,000 entries", three numbers each.
-const ROOM: usize = 3000;
+const ENTRIES: usize = 1000;
 
-const LF: u8 = 10;
+const ROOM: usize = ENTRY * ENTRIES;
+
 // Free room in a slice of bytes that is enough for the report of any call.
-pub const LARGEST: usize = 36048;
+pub const LARGEST: usize = HEAD + LINE * ENTRIES;
 
 // The widget afterwards, and the place behind what was printed.
 pub struct Turned {
@@ -37,27 +42,17 @@ pub struct Under {
     pub at: usize,
 }
 
+// Where a walk over a part of the input stopped: the place of the next byte, the widget and the line under way.
+pub struct Walked {
+    pub upto: usize,
+    pub under: Under,
+}
+
 // What opening the session gave: whether it goes on, the widget, and the place behind what was printed.
 pub struct Opened {
     pub going: bool,
     pub state: State,
     pub at: usize,
-}
-
-// A widget not yet started.
-fn unstarted() -> State
-    ensures { λ r. ⌜ r ≡ none ⌝ }
-{
-    let active = [false; STATES];
-    let slots = [-1; STATES];
-    let vars = [0; VARIABLES];
-    State {
-        started: false,
-        active: active,
-        slots: slots,
-        vars: vars,
-        queue: Queue::empty(),
-    }
 }
 
 // What prints an answer and no entry: R, number, 0.
@@ -74,11 +69,11 @@ pub fn refusal(number: usize, state: State, out: &mut [u8], at: usize) -> Turned
 
 // "it starts"
 pub fn started(chart: &[i32], out: &mut [u8], at: usize) -> Turned
-    requires { ⌜ Ruled (now chart) ⌝ }
+    requires { ⌜ Accepted (now chart) ⌝ }
     ensures { λ r. ⌜ Went (reported (starts (chart-of (now (chart .entry))) none Room)) (now (out .entry)) at (now (out .exit)) r ⌝ }
 {
     let mut trace = [0; ROOM];
-    let called = reaction::starting::start_ruled(chart, unstarted(), &mut trace);
+    let called = engine::checked::start_checked(chart, engine::unstarted(), &mut trace);
     let answer = called.answer;
     let place = console::report(out, at, answer.number, &trace, called.entries);
     let after = called.state;
@@ -93,9 +88,9 @@ pub fn begin(bytes: &[u8], chart: &mut [i32], out: &mut [u8], at: usize) -> Open
     requires { ⌜ length (now chart) ≡ VALUE ⌝ }
     ensures { λ r. ⌜ Opens (read (now (bytes .entry)) VALUE) (now (chart .exit)) (now (out .entry)) at (now (out .exit)) r ⌝ }
 {
-    let answer = text::read(bytes, chart);
+    let answer = engine::read(bytes, chart);
     if answer.number != 0 {
-        let t = refusal(answer.number, unstarted(), out, at);
+        let t = refusal(answer.number, engine::unstarted(), out, at);
         let state = t.state;
         return Opened {
             going: false,
@@ -114,11 +109,11 @@ pub fn begin(bytes: &[u8], chart: &mut [i32], out: &mut [u8], at: usize) -> Open
 
 // "runs each line": the run of the front event.
 fn ran(chart: &[i32], state: State, out: &mut [u8], at: usize) -> Turned
-    requires { ⌜ Ruled (now chart) ⌝ }
+    requires { ⌜ Accepted (now chart) ⌝ }
     ensures { λ r. ⌜ Went (reported (runs (chart-of (now (chart .entry))) state Room)) (now (out .entry)) at (now (out .exit)) r ⌝ }
 {
     let mut trace = [0; ROOM];
-    let called = reaction::running::run_ruled(chart, state, &mut trace);
+    let called = engine::checked::run_checked(chart, state, &mut trace);
     let answer = called.answer;
     let place = console::report(out, at, answer.number, &trace, called.entries);
     let after = called.state;
@@ -130,12 +125,12 @@ fn ran(chart: &[i32], state: State, out: &mut [u8], at: usize) -> Turned
 
 // A line: "Of posts only a refused one prints: R, number, 0; it is not run"; "A line of another form prints `R 1 0`".
 pub fn turn(chart: &[i32], state: State, line: Line, out: &mut [u8], at: usize) -> Turned
-    requires { ⌜ Ruled (now chart) ⌝ }
+    requires { ⌜ Accepted (now chart) ⌝ }
     ensures { λ r. ⌜ Went (turn-of (chart-of (now (chart .entry))) state line) (now (out .entry)) at (now (out .exit)) r ⌝ }
 {
     match line {
         Line::Posts(event, argument) => {
-            let posted = calls::post_ruled(chart, state, event, argument);
+            let posted = engine::checked::post_checked(chart, state, event, argument);
             let answer = posted.answer;
             let number = answer.number;
             let after = posted.state;
@@ -144,25 +139,25 @@ pub fn turn(chart: &[i32], state: State, line: Line, out: &mut [u8], at: usize) 
             }
             ran(chart, after, out, at)
         }
-        Line::Wrong => refusal(1, state, out, at),
+        Line::Wrong => refusal(WRONG_LINE, state, out, at),
     }
 }
 
 // One byte of the input: LF ends the line.
 pub fn feed(chart: &[i32], under: Under, b: u8, out: &mut [u8]) -> Under
-    requires { ⌜ Ruled (now chart) ⌝ }
+    requires { ⌜ Accepted (now chart) ⌝ }
     ensures { λ r. ⌜ Passes (passed (turn-of (chart-of (now (chart .entry)))) (seen under) b) (now (out .entry)) (under .at) (now (out .exit)) r ⌝ }
 {
     let state = under.state;
     let scan = under.scan;
     let at = under.at;
     if b == LF {
-        let t = turn(chart, state, scan.line(), out, at);
-        let after = t.state;
+        let ended = turn(chart, state, scan.line(), out, at);
+        let after = ended.state;
         return Under {
             state: after,
             scan: Scan::empty(),
-            at: t.at,
+            at: ended.at,
         };
     }
     Under {
@@ -172,9 +167,40 @@ pub fn feed(chart: &[i32], under: Under, b: u8, out: &mut [u8]) -> Under
     }
 }
 
+// Whether there is room for one more report behind the place.
+fn has_room(out: &[u8], at: usize) -> bool
+    ensures { λ r. ⌜ r ≡ roomy (pen (now (out .entry)) at) ⌝ }
+{
+    let n = out.len();
+    if n < LARGEST {
+        return false;
+    }
+    at <= n - LARGEST
+}
+
+// The bytes of a part of the input from a place on: the walk stops at the part's end, or where there might not be room for one more report.
+pub fn walk(chart: &[i32], part: &[u8], from: usize, under: Under, out: &mut [u8]) -> Walked
+    requires { ⌜ Accepted (now chart) ⌝ }
+    ensures { λ r. ⌜ Walks (turn-of (chart-of (now (chart .entry)))) (now (part .entry)) from (seen under) (now (out .entry)) (under .at) (now (out .exit)) r ⌝ }
+{
+    let mut now = under;
+    let mut i = from;
+    while i < part.len() {
+        if !has_room(out, now.at) {
+            break;
+        }
+        now = feed(chart, now, part[i], out);
+        i += 1;
+    }
+    Walked {
+        upto: i,
+        under: now,
+    }
+}
+
 // The end of the input: "The last line may lack its LF".
 pub fn finish(chart: &[i32], under: Under, out: &mut [u8]) -> Under
-    requires { ⌜ Ruled (now chart) ⌝ }
+    requires { ⌜ Accepted (now chart) ⌝ }
     ensures { λ r. ⌜ Passes (finished (turn-of (chart-of (now (chart .entry)))) (seen under)) (now (out .entry)) (under .at) (now (out .exit)) r ⌝ }
 {
     let state = under.state;

@@ -4,7 +4,11 @@
 // the table of vectors in its order, then texts that it lacks: 65 states, 128 transitions, 257 actions, and 01's chart K.
 use chart::layout::VALUE;
 use libc::STDOUT_FILENO;
+use sizes::TEXT;
 ghost use Prim.Native.Nat.{_≤_};
+
+// The bytes lent for a text: one more than a text may have, so that a longer one is not cut to one that is accepted.
+const LENT: usize = TEXT + 1;
 
 // How many bytes of a file's name are the text's name: all but `.txt`.
 fn stem(named: usize) -> usize
@@ -35,8 +39,8 @@ fn begins_with(written: &[u8], n: usize, text: &[u8]) -> bool {
 
 // The chart that was read, written as text, is the text that it was read from.
 fn written_back(text: &[u8], chart: &[i32]) -> bool {
-    let mut buf = io::large_buffer();
-    let w = writer::write(chart, &mut buf);
+    let mut buf = [0u8; LENT];
+    let w = engine::write(chart, &mut buf);
     let answer = w.answer;
     if answer.number != 0 {
         return false;
@@ -47,7 +51,7 @@ fn written_back(text: &[u8], chart: &[i32]) -> bool {
 // Answer, place, and whether the text came back.
 fn report(text: &[u8]) {
     let mut chart = [0i32; VALUE];
-    let answer = text::read(text, &mut chart);
+    let answer = engine::read(text, &mut chart);
     print_number(answer.number);
     print_number(answer.place);
     if answer.number != 0 {
@@ -70,7 +74,7 @@ fn run(path: &[u8]) {
         print(b"\t-\t-\t-\n");
         return;
     }
-    let mut buf = io::large_buffer();
+    let mut buf = [0u8; LENT];
     let got = io::read_full(fd, &mut buf);
     libc::close(fd);
     report(&buf[..got]);

@@ -1,7 +1,11 @@
 // The trace program (01, the end of "Checked by example"): reads chart.txt, a missing one as empty, and standard input to its end, in
-// parts; what it prints is collected and written whenever there might not be room for one more report. It decides nothing itself: what a
-// text, a byte and a line do is said by the functions that it calls. A line may have any length, and the input any size.
+// parts; what it prints is collected and written whenever there might not be room for one more report. It reads and writes, and decides
+// nothing itself: what a text and the bytes of a part do is said by the functions that it calls. A line may have any length, and the input
+// any size.
 use console::Scan;
+use engine::VALUE;
+use files::LENT;
+use files::chart_text;
 use libc::STDIN_FILENO;
 use libc::STDOUT_FILENO;
 use meaning::State;
@@ -9,30 +13,16 @@ use session::LARGEST;
 use session::Under;
 ghost use Prim.Native.Nat.{_+_, _≤_};
 ghost use lib.ListN.{length};
-ghost use Rattle.io.specs.Counts.{Counts};
-ghost use Rattle.walks.specs.Walks.{Ruled};
-ghost use Rattle.session.specs.Turned.{LARGEST as Largest};
-
-// The numbers of a chart as a value.
-const VALUE: usize = 2421;
+ghost use Rattle.meaning.specs.Value.{chart-of};
+ghost use Rattle.meaning.specs.Program.{turn};
+ghost use Rattle.promises.specs.Promises.{Accepted};
+ghost use Rattle.session.specs.Turned.{LARGEST as Largest, seen};
+ghost use Rattle.session.specs.Walked.{Fed};
 
 // One part of the input: whether there may be more, and where the session stands.
 struct Part {
     more: bool,
     under: Under,
-}
-
-// The chart's text, and its length: 0 where the file is missing. The buffer is longer than any text that is not refused for its length.
-fn chart_text(buffer: &mut [u8]) -> usize
-    ensures { λ r. ⌜ Counts r (now (buffer .exit)) ⌝ }
-{
-    let file = os::open_read(b"chart.txt");
-    if file < 0 {
-        return 0;
-    }
-    let n = io::read_full(file, buffer);
-    libc::close(file);
-    n
 }
 
 // Writes what was collected, up to the place.
@@ -54,15 +44,16 @@ fn with_room(out: &[u8], at: usize) -> usize
     at
 }
 
-// Each byte of a part of the input.
-fn feed_all(chart: &[i32], bytes: &[u8], under: Under, out: &mut [u8]) -> Under
-    requires { ⌜ Ruled (now chart) × (under .at + Largest ≤ length (now out)) ⌝ }
-    ensures { λ r. ⌜ r .at + Largest ≤ length (now (out .exit)) ⌝ }
+// All bytes of a part of the input, in as many walks as the room needs: what was collected is written between them.
+fn feed_all(chart: &[i32], part: &[u8], under: Under, out: &mut [u8]) -> Under
+    requires { ⌜ Accepted (now chart) × (under .at + Largest ≤ length (now out)) ⌝ }
+    ensures { λ r. ⌜ Fed (turn (chart-of (now (chart .entry)))) (now (part .entry)) (seen under) (now (out .exit)) r ⌝ }
 {
     let mut now = under;
     let mut i = 0;
-    while i < bytes.len() {
-        let next = session::feed(chart, now, bytes[i], out);
+    while i < part.len() {
+        let walked = session::walk(chart, part, i, now, out);
+        let next = walked.under;
         let state = next.state;
         let scan = next.scan;
         now = Under {
@@ -70,14 +61,14 @@ fn feed_all(chart: &[i32], bytes: &[u8], under: Under, out: &mut [u8]) -> Under
             scan: scan,
             at: with_room(out, next.at),
         };
-        i += 1;
+        i = walked.upto;
     }
     now
 }
 
 // One part of the input.
 fn read_some(chart: &[i32], under: Under, out: &mut [u8]) -> Part
-    requires { ⌜ Ruled (now chart) × (under .at + Largest ≤ length (now out)) ⌝ }
+    requires { ⌜ Accepted (now chart) × (under .at + Largest ≤ length (now out)) ⌝ }
     ensures { λ r. ⌜ r .under .at + Largest ≤ length (now (out .exit)) ⌝ }
 {
     let mut buffer = io::large_buffer();
@@ -97,7 +88,7 @@ fn read_some(chart: &[i32], under: Under, out: &mut [u8]) -> Part
 
 // All of the input. A proved loop has to end, and nothing says that the input does: the count of parts is larger than any.
 fn read_all(chart: &[i32], under: Under, out: &mut [u8]) -> Under
-    requires { ⌜ Ruled (now chart) × (under .at + Largest ≤ length (now out)) ⌝ }
+    requires { ⌜ Accepted (now chart) × (under .at + Largest ≤ length (now out)) ⌝ }
     ensures { λ r. ⌜ r .at + Largest ≤ length (now (out .exit)) ⌝ }
 {
     let mut now = under;
@@ -116,7 +107,7 @@ fn read_all(chart: &[i32], under: Under, out: &mut [u8]) -> Under
 
 // "then posts and runs each line"
 fn run_session(chart: &[i32], state: State, at: usize, out: &mut [u8])
-    requires { ⌜ Ruled (now chart) × (at ≤ length (now out)) × (Largest ≤ length (now out)) ⌝ }
+    requires { ⌜ Accepted (now chart) × (at ≤ length (now out)) × (Largest ≤ length (now out)) ⌝ }
 {
     let first = Under {
         state: state,
@@ -129,7 +120,7 @@ fn run_session(chart: &[i32], state: State, at: usize, out: &mut [u8])
 }
 
 fn main() {
-    let mut bytes = io::large_buffer();
+    let mut bytes = [0u8; LENT];
     let n = chart_text(&mut bytes);
     let mut chart = [0; VALUE];
     let mut out = io::large_buffer();

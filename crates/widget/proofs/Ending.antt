@@ -2,25 +2,23 @@
 -- slice past the last entry, or the whole of it on a refusal, is 0. Assumes nothing.
 use mathlib.Core.Path.{_≡_, refl, sym, ap, _∙_}
 use Prim.Native.Nat.{ℕ, zero, suc, _-_, _/_, _≤_}
-use mathlib.Core.Bool.{Bool}
-use mathlib.Core.List.{List, [], _++_}
+use mathlib.Core.List.{List, _++_}
 use native.Mathlib.Omega.{arith}
 use lib.ListN.{length, take, replicate}
 use lib.Seq.{length-take-le}
 use lib.IntN.{ℤ, pos}
-use Rattle.queue.specs.declared.Queue.{Queue}
 use Rattle.meaning.specs.declared.State.{State}
-use Rattle.meaning.specs.Steps.{Res, ok, refuse, Step}
+use Rattle.meaning.specs.Steps.{Step}
 use Rattle.meaning.specs.Lists.{padded}
 use Rattle.meaning.specs.Widget.{Ctx, begin, ENTRY}
 use Rattle.meaning.specs.Calls.{Outcome, refused, outcome, lent}
 use Rattle.widget.specs.declared.Went.{Went}
-use Rattle.widget.specs.View.{tracing, widget, ctx, said, went, Did}
+use Rattle.widget.specs.View.{Lent, Whole, tracing, widget, ctx, said, went, Did}
 
 -- at the place 0 nothing is written, and the whole slice is room
-pub begins : (a : List Bool) (s v : List ℤ) (q : Queue) (t : List ℤ) → ctx a s v q t 0 ≡ begin (widget a s v q) (length t)
+pub begins : (k : Lent) → ctx k 0 ≡ begin (widget k) (length (k .trace))
 unfolding ctx tracing begin
-begins a s v q t = let z : length t - 0 ≡ length t = omega arith in rw z
+begins k = let z : length (k .trace) - 0 ≡ length (k .trace) = omega arith in rw z
 
 -- the outcome of steps that went to the end
 abbrev pub ended : State → List ℤ → Outcome
@@ -36,18 +34,17 @@ unfolding said outcome
 said-refused u zero k z = absurd (z refl)
 said-refused u (suc n) k z = refl
 
-module _ (u : State) {D : Step Ctx} {a : List Bool} {s v : List ℤ} {q : Queue} {t : List ℤ} {r : Went} {a′ : List Bool} {s′ v′ t′ : List ℤ}
-    (d : Did D a s v q t 0 r a′ s′ v′ t′) where
-  goes-to : D (begin (widget a s v q) (length t)) ≡ said (r .number) (ctx a′ s′ v′ (r .queue) t′ (r .at))
+module _ (u : State) {D : Step Ctx} {k : Lent} {r : Went} {k′ : Lent} (d : Did D k 0 r k′) (l : Whole k) where
+  goes-to : D (begin (widget k) (length (k .trace))) ≡ said (r .number) (ctx k′ (r .at))
   unfolding went
-  goes-to = ap D (sym (begins a s v q t)) ∙ sym (d .does)
+  goes-to = ap D (sym (begins k)) ∙ sym (d .does l)
 
-  pub ends-done : r .number ≡ 0 → outcome u (D (begin (widget a s v q) (length t))) ≡ ended (widget a′ s′ v′ (r .queue)) (take (r .at) t′)
+  pub ends-done : r .number ≡ 0 → outcome u (D (begin (widget k) (length (k .trace)))) ≡ ended (widget k′) (take (r .at) (k′ .trace))
   unfolding ctx tracing
-  ends-done z = ap (outcome u) goes-to ∙ said-done u (r .number) (ctx a′ s′ v′ (r .queue) t′ (r .at)) z
+  ends-done z = ap (outcome u) goes-to ∙ said-done u (r .number) (ctx k′ (r .at)) z
 
-  pub ends-refused : (r .number ≡ 0 → ⊥) → outcome u (D (begin (widget a s v q) (length t))) ≡ refused (r .number) 0 u
-  ends-refused z = ap (outcome u) goes-to ∙ said-refused u (r .number) (ctx a′ s′ v′ (r .queue) t′ (r .at)) z
+  pub ends-refused : (r .number ≡ 0 → ⊥) → outcome u (D (begin (widget k) (length (k .trace)))) ≡ refused (r .number) 0 u
+  ends-refused z = ap (outcome u) goes-to ∙ said-refused u (r .number) (ctx k′ (r .at)) z
 
 -- ---- the lent slice after the call, as `clear_from` leaves it
 
@@ -56,7 +53,8 @@ pub lent-done : (u : State) (t t′ : List ℤ) (at : ℕ) → at ≤ length t�
 unfolding lent padded
 lent-done u t t′ at h e = rw (length-take-le at t′ h, e)
 
-pub lent-refused : (u : State) (n p : ℕ) (t t′ : List ℤ) → length t′ ≡ length t → take 0 t′ ++ replicate (length t′ - 0) (pos 0) ≡ lent (length t) (refused n p u)
+pub lent-refused : (u : State) (n p : ℕ) (t t′ : List ℤ) → length t′ ≡ length t
+    → take 0 t′ ++ replicate (length t′ - 0) (pos 0) ≡ lent (length t) (refused n p u)
 unfolding lent padded refused
 lent-refused u n p t t′ e = rw e
 

@@ -2,7 +2,6 @@
 -- numbers is `emit` of the entry. Assumes nothing.
 use mathlib.Core.Path.{_≡_, refl, sym, ap, _∙_}
 use Prim.Native.Nat.{ℕ, zero, suc, _+_, _-_, _≤_, _<_}
-use mathlib.Core.Bool.{Bool, true, false}
 use mathlib.Core.List.{List, [], _∷_, _++_, append-assoc, append-nil}
 use native.Mathlib.Omega.{arith}
 use native.Mathlib.Numerals.{add-one}
@@ -10,8 +9,7 @@ use borrow.Author.Tests.{le-leb, lt-leb}
 use lib.ListN.{length, take, drop, getD, set, replicate, length-set, length-append, length-replicate, take-append-drop}
 use lib.Seq.{length-take-le, take-suc-set, drop-length, drop-cons, set-at}
 use lib.IntN.{ℤ, pos}
-use Rattle.meaning.specs.declared.State.{State}
-use Rattle.meaning.specs.Steps.{Res, ok, refuse, Step, bind, _then_, require}
+use Rattle.meaning.specs.Steps.{bind, _then_, require}
 use Rattle.meaning.specs.Widget.{Ctx, written, Entry, emit, numbers}
 use Rattle.widget.specs.View.{tracing, said, note, Noted}
 
@@ -28,14 +26,16 @@ no-room t at ns l m = record {
   kept = refl;
 }
 
-three : (s : List ℤ) (n : ℕ) (a b c : ℤ) → n + 3 ≤ length s → take (n + 3) (set (set (set s n a) (n + 1) b) (n + 2) c) ≡ take n s ++ (a ∷ b ∷ c ∷ [])
+three : (s : List ℤ) (n : ℕ) (a b c : ℤ) → n + 3 ≤ length s
+    → take (n + 3) (set (set (set s n a) (n + 1) b) (n + 2) c) ≡ take n s ++ (a ∷ b ∷ c ∷ [])
 three s n a b c l =
     let q₃ : n + 3 ≡ suc (n + 2) = omega arith in
     let q₂ : n + 2 ≡ suc (n + 1) = omega arith in
     let q₁ : n + 1 ≡ suc n = omega arith in
     ap (λ i. take i (set (set (set s n a) (n + 1) b) (n + 2) c)) q₃
     ∙ take-suc-set (set (set s n a) (n + 1) b) (n + 2) c (simp length-set (omega arith))
-    ∙ ap (λ l₁. l₁ ++ (c ∷ [])) (ap (λ i. take i (set (set s n a) (n + 1) b)) q₂ ∙ take-suc-set (set s n a) (n + 1) b (simp length-set (omega arith))
+    ∙ ap (λ l₁. l₁ ++ (c ∷ [])) (ap (λ i. take i (set (set s n a) (n + 1) b)) q₂
+    ∙ take-suc-set (set s n a) (n + 1) b (simp length-set (omega arith))
     ∙ ap (λ l₁. l₁ ++ (b ∷ [])) (ap (λ i. take i (set s n a)) q₁ ∙ take-suc-set s n a (omega arith)))
     ∙ simp append-assoc
 
@@ -66,7 +66,9 @@ zero-more l d at i h g e =
     let p : i + 1 - at ≡ suc j = omega arith in
     let head = take at d ++ replicate j (pos 0) in
     let long : length head ≡ i = rw (length-append, length-take-le at d (omega arith), length-replicate) (omega arith) in
-    let e₁ : l ≡ head ++ (getD d i (pos 0) ∷ drop (suc i) d) = e ∙ ap (λ x. take at d ++ (replicate j (pos 0) ++ x)) (drop-cons d i (pos 0) g) ∙ sym (append-assoc (take at d) (replicate j (pos 0)) _) in
+    let e₁ : l ≡ head ++ (getD d i (pos 0) ∷ drop (suc i) d) = e
+    ∙ ap (λ x. take at d ++ (replicate j (pos 0) ++ x)) (drop-cons d i (pos 0) g)
+    ∙ sym (append-assoc (take at d) (replicate j (pos 0)) _) in
     ap (λ x. set x i (pos 0)) e₁
     ∙ set-at head (getD d i (pos 0)) (drop (suc i) d) (pos 0) i long
     ∙ append-assoc (take at d) (replicate j (pos 0)) _

@@ -3,6 +3,8 @@
 // what it leaves behind is what the definition's step gives. What a function does not touch may be anything.
 pub mod fits;
 
+use meaning::answers::NO_ROOM;
+use meaning::answers::QUEUE_FULL;
 use meaning::chart::Act;
 use meaning::chart::VarRow;
 use numbers::Place;
@@ -10,50 +12,46 @@ use numbers::add_held;
 use numbers::hold;
 use numbers::number;
 use numbers::wide;
-use queue::Queue;
+use queue::lent::QUEUE_NUMBERS;
+use queue::lent::append;
 use sizes::STATES;
 use sizes::VARIABLES;
 ghost use mathlib.Core.Path.{_≡_};
-ghost use mathlib.Core.Bool.{Bool};
-ghost use mathlib.Core.List.{List, [], _∷_, _++_};
-ghost use Prim.Native.Nat.{ℕ, _-_, _≤_, _<_};
+ghost use mathlib.Core.List.{[], _∷_, _++_};
+ghost use Prim.Native.Nat.{_-_, _≤_, _<_};
 ghost use lib.ListN.{length, take, replicate};
-ghost use lib.IntN.{ℤ, pos};
+ghost use lib.IntN.{pos};
 ghost use Rattle.sizes.specs.Sizes.{STATES as states, VARIABLES as variables};
 ghost use Rattle.numbers.specs.Reference.{NOWHERE};
 ghost use Rattle.meaning.specs.Widget.{emit as emits, taken, told};
 ghost use Rattle.meaning.specs.Effects.{act-on, mark-left, mark-entered};
-ghost use Rattle.widget.specs.View.{Noted, Within, Did};
+ghost use Rattle.widget.specs.View.{Lent, with-active, with-slots, with-vars, with-queue, with-trace, Noted, Within, Did};
 ghost use Rattle.widget.specs.Acts.{stored, sending, Named, Below};
 
 // How many numbers an entry has.
 const ENTRY: usize = 3;
 
-// The answer number of 01 (0: written) and the next free place.
-pub struct Wrote {
-    pub number: usize,
-    pub at: usize,
-}
-
-// How a step went: 0 to go on, else the refusal met; the trace's next free place; the queue.
+// How a step went: 0 to go on, else the refusal met; and the trace's next free place.
 pub struct Went {
     pub number: usize,
     pub at: usize,
-    pub queue: Queue,
 }
 
 // 01, "Trace": three numbers an entry; 11, no room for the next trace entry.
-pub fn emit(trace: &mut [i32], at: usize, a: i32, b: i32, c: i32) -> Wrote
+pub fn emit(trace: &mut [i32], at: usize, a: i32, b: i32, c: i32) -> Went
     requires { ⌜ at ≤ length (now trace) ⌝ }
     ensures { λ r. ⌜ Noted (a ∷ b ∷ c ∷ []) (now (trace .entry)) at r (now (trace .exit)) ⌝ }
 {
     if trace.len() - at < ENTRY {
-        return Wrote { number: 11, at: at };
+        return Went {
+            number: NO_ROOM,
+            at: at,
+        };
     }
     trace[at] = a;
     trace[at + 1] = b;
     trace[at + 2] = c;
-    Wrote {
+    Went {
         number: 0,
         at: at + ENTRY,
     }
@@ -72,30 +70,20 @@ pub fn clear_from(trace: &mut [i32], at: usize)
 }
 
 // 01, "Trace": 1, transition taken.
-pub fn mark_taken(t: usize, queue: Queue, trace: &mut [i32], at: usize) -> Went
+pub fn mark_taken(t: usize, trace: &mut [i32], at: usize) -> Went
     requires { ⌜ (t < NOWHERE) × (at ≤ length (now trace)) ⌝ }
-    ensures { λ r. ⌜ Within (now (trace .entry)) r (now (trace .exit)) × ((active : List Bool) (slots vars : List ℤ) → Did (emits (taken t)) active slots vars queue (now (trace .entry)) at r active slots vars (now (trace .exit))) ⌝ }
+    ensures { λ r. ⌜ Within (now (trace .entry)) r (now (trace .exit)) × ((k : Lent) → Did (emits (taken t)) (with-trace (now (trace .entry)) k) at r (with-trace (now (trace .exit)) k)) ⌝ }
 {
     let named = number(t);
-    let wrote = emit(trace, at, 1, named, 0);
-    Went {
-        number: wrote.number,
-        at: wrote.at,
-        queue: queue,
-    }
+    emit(trace, at, 1, named, 0)
 }
 
 // 01, "Trace": 6, number told.
-pub fn tell(x: i32, queue: Queue, trace: &mut [i32], at: usize) -> Went
+pub fn tell(x: i32, trace: &mut [i32], at: usize) -> Went
     requires { ⌜ at ≤ length (now trace) ⌝ }
-    ensures { λ r. ⌜ Within (now (trace .entry)) r (now (trace .exit)) × ((active : List Bool) (slots vars : List ℤ) → Did (emits (told x)) active slots vars queue (now (trace .entry)) at r active slots vars (now (trace .exit))) ⌝ }
+    ensures { λ r. ⌜ Within (now (trace .entry)) r (now (trace .exit)) × ((k : Lent) → Did (emits (told x)) (with-trace (now (trace .entry)) k) at r (with-trace (now (trace .exit)) k)) ⌝ }
 {
-    let wrote = emit(trace, at, 6, x, 0);
-    Went {
-        number: wrote.number,
-        at: wrote.at,
-        queue: queue,
-    }
+    emit(trace, at, 6, x, 0)
 }
 
 // 01, "Trace": 4, variable and its new value, written before the effect goes on.
@@ -103,58 +91,44 @@ pub fn store(
     v: usize,
     value: i32,
     vars: &mut [i32; VARIABLES],
-    queue: Queue,
     trace: &mut [i32],
     at: usize,
 ) -> Went
     requires { ⌜ (v < variables) × (at ≤ length (now trace)) ⌝ }
-    ensures { λ r. ⌜ Within (now (trace .entry)) r (now (trace .exit)) × ((active : List Bool) (slots : List ℤ) → Did (stored v value) active slots (now (vars .entry)) queue (now (trace .entry)) at r active slots (now (vars .exit)) (now (trace .exit))) ⌝ }
+    ensures { λ r. ⌜ Within (now (trace .entry)) r (now (trace .exit)) × ((k : Lent) → Did (stored v value) (with-vars (now (vars .entry)) (with-trace (now (trace .entry)) k)) at r (with-vars (now (vars .exit)) (with-trace (now (trace .exit)) k))) ⌝ }
 {
     let named = number(v);
     let wrote = emit(trace, at, 4, named, value);
     if wrote.number != 0 {
-        return Went {
-            number: wrote.number,
-            at: wrote.at,
-            queue: queue,
-        };
+        return wrote;
     }
     vars[v] = value;
-    Went {
-        number: 0,
-        at: wrote.at,
-        queue: queue,
-    }
+    wrote
 }
 
 // 01, "Trace": 5, event sent and its argument; at a send 11 before 9.
-pub fn send(e: usize, x: i32, queue: Queue, trace: &mut [i32], at: usize) -> Went
+pub fn send(
+    e: usize,
+    x: i32,
+    queue: &mut [i32; QUEUE_NUMBERS],
+    trace: &mut [i32],
+    at: usize,
+) -> Went
     requires { ⌜ (e < NOWHERE) × (at ≤ length (now trace)) ⌝ }
-    ensures { λ r. ⌜ Within (now (trace .entry)) r (now (trace .exit)) × ((active : List Bool) (slots vars : List ℤ) → Did (sending e x) active slots vars queue (now (trace .entry)) at r active slots vars (now (trace .exit))) ⌝ }
+    ensures { λ r. ⌜ Within (now (trace .entry)) r (now (trace .exit)) × ((k : Lent) → Did (sending e x) (with-queue (now (queue .entry)) (with-trace (now (trace .entry)) k)) at r (with-queue (now (queue .exit)) (with-trace (now (trace .exit)) k))) ⌝ }
 {
     let event = number(e);
     let wrote = emit(trace, at, 5, event, x);
     if wrote.number != 0 {
+        return wrote;
+    }
+    if !append(queue, event, x) {
         return Went {
-            number: wrote.number,
+            number: QUEUE_FULL,
             at: wrote.at,
-            queue: queue,
         };
     }
-    let queued = queue.append(event, x);
-    if !queued.done {
-        return Went {
-            number: 9,
-            at: wrote.at,
-            queue: queue,
-        };
-    }
-    let after = queued.queue;
-    Went {
-        number: 0,
-        at: wrote.at,
-        queue: after,
-    }
+    wrote
 }
 
 // 01, acts s, a, k, q, o, with the row of the act's variable and the event's argument: set, add and take hold the value at
@@ -164,28 +138,28 @@ pub fn perform(
     arg: i32,
     act: Act,
     vars: &mut [i32; VARIABLES],
-    queue: Queue,
+    queue: &mut [i32; QUEUE_NUMBERS],
     trace: &mut [i32],
     at: usize,
 ) -> Went
     requires { ⌜ Named act × (at ≤ length (now trace)) ⌝ }
-    ensures { λ r. ⌜ Within (now (trace .entry)) r (now (trace .exit)) × ((active : List Bool) (slots : List ℤ) → Did (act-on row arg act) active slots (now (vars .entry)) queue (now (trace .entry)) at r active slots (now (vars .exit)) (now (trace .exit))) ⌝ }
+    ensures { λ r. ⌜ Within (now (trace .entry)) r (now (trace .exit)) × ((k : Lent) → Did (act-on row arg act) (with-vars (now (vars .entry)) (with-queue (now (queue .entry)) (with-trace (now (trace .entry)) k))) at r (with-vars (now (vars .exit)) (with-queue (now (queue .exit)) (with-trace (now (trace .exit)) k)))) ⌝ }
 {
     match act {
         Act::SetTo(v, x) => {
             let value = hold(wide(x), row.low, row.high);
-            store(v, value, vars, queue, trace, at)
+            store(v, value, vars, trace, at)
         }
         Act::AddTo(v, x) => {
             let value = add_held(vars[v], x, row.low, row.high);
-            store(v, value, vars, queue, trace, at)
+            store(v, value, vars, trace, at)
         }
         Act::TakeTo(v) => {
             let value = hold(wide(arg), row.low, row.high);
-            store(v, value, vars, queue, trace, at)
+            store(v, value, vars, trace, at)
         }
         Act::Send(e, x) => send(e, x, queue, trace, at),
-        Act::Tell(x) => tell(x, queue, trace, at),
+        Act::Tell(x) => tell(x, trace, at),
     }
 }
 
@@ -195,21 +169,15 @@ pub fn mark_left(
     s: usize,
     active: &mut [bool; STATES],
     slots: &mut [i32; STATES],
-    queue: Queue,
     trace: &mut [i32],
     at: usize,
 ) -> Went
     requires { ⌜ Below states p × (s < states) × (at ≤ length (now trace)) ⌝ }
-    ensures { λ r. ⌜ Within (now (trace .entry)) r (now (trace .exit)) × ((vars : List ℤ) → Did (mark-left p s) (now (active .entry)) (now (slots .entry)) vars queue (now (trace .entry)) at r (now (active .exit)) (now (slots .exit)) vars (now (trace .exit))) ⌝ }
+    ensures { λ r. ⌜ Within (now (trace .entry)) r (now (trace .exit)) × ((k : Lent) → Did (mark-left p s) (with-active (now (active .entry)) (with-slots (now (slots .entry)) (with-trace (now (trace .entry)) k))) at r (with-active (now (active .exit)) (with-slots (now (slots .exit)) (with-trace (now (trace .exit)) k)))) ⌝ }
 {
     let named = number(s);
-    let wrote = emit(trace, at, 2, named, 0);
-    let went = Went {
-        number: wrote.number,
-        at: wrote.at,
-        queue: queue,
-    };
-    if wrote.number != 0 {
+    let went = emit(trace, at, 2, named, 0);
+    if went.number != 0 {
         return went;
     }
     active[s] = false;
@@ -221,24 +189,13 @@ pub fn mark_left(
 }
 
 // 01, "Trace": 3, state entered.
-pub fn mark_entered(
-    s: usize,
-    active: &mut [bool; STATES],
-    queue: Queue,
-    trace: &mut [i32],
-    at: usize,
-) -> Went
+pub fn mark_entered(s: usize, active: &mut [bool; STATES], trace: &mut [i32], at: usize) -> Went
     requires { ⌜ (s < states) × (at ≤ length (now trace)) ⌝ }
-    ensures { λ r. ⌜ Within (now (trace .entry)) r (now (trace .exit)) × ((slots vars : List ℤ) → Did (mark-entered s) (now (active .entry)) slots vars queue (now (trace .entry)) at r (now (active .exit)) slots vars (now (trace .exit))) ⌝ }
+    ensures { λ r. ⌜ Within (now (trace .entry)) r (now (trace .exit)) × ((k : Lent) → Did (mark-entered s) (with-active (now (active .entry)) (with-trace (now (trace .entry)) k)) at r (with-active (now (active .exit)) (with-trace (now (trace .exit)) k))) ⌝ }
 {
     let named = number(s);
-    let wrote = emit(trace, at, 3, named, 0);
-    let went = Went {
-        number: wrote.number,
-        at: wrote.at,
-        queue: queue,
-    };
-    if wrote.number != 0 {
+    let went = emit(trace, at, 3, named, 0);
+    if went.number != 0 {
         return went;
     }
     active[s] = true;

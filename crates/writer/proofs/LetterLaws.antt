@@ -14,7 +14,7 @@ use Rattle.meaning.specs.Value.{num, is-letter, one-of-letters, number-if, guar
 use Rattle.round.proofs.Cells.{both, letter-is}
 use Rattle.round.proofs.LinesKept.{KINDS, SIGNS, OWNERS, ACTS, SECOND}
 use Rattle.round.proofs.TransRead.{GuardIs, none-is, some-is, guard-is}
-use Rattle.writer.specs.Pen.{IsLetter}
+use Rattle.writer.specs.Letters.{IsLetter}
 
 abbrev bytes : List ℕ → Bool
 bytes [] = true

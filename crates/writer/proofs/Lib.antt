@@ -1,5 +1,4 @@
-pub mod PenLaws
-pub mod SizeLaws
+pub mod MarkLaws
 pub mod RowLaws
 pub mod LetterLaws
 pub mod LoopLaws

@@ -20,9 +20,10 @@ use Rattle.chart.proofs.Rows.{chunk-at, length-chunks}
 use Rattle.round.proofs.Cells.{both}
 use Rattle.round.proofs.Splits.{ended-append}
 use Rattle.round.proofs.Values.{value-shaped}
-use Rattle.writer.specs.Pen.{Pen, put-all, IsLetter}
+use Rattle.pen.specs.Pen.{Pen, put-all}
+use Rattle.writer.specs.Letters.{IsLetter}
 use Rattle.writer.specs.Row.{row-in, with-lf}
-use Rattle.writer.proofs.PenLaws.{all-append}
+use Rattle.pen.proofs.Laws.{all-append}
 use Rattle.writer.proofs.LetterLaws.{state-letter, trans-letter, action-letters}
 
 -- ---- what is left

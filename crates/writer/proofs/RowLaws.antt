@@ -11,9 +11,10 @@ use Rattle.meaning.specs.Number.{numeral}
 use Rattle.meaning.specs.Split.{TAB, LF, tails, joined}
 use Rattle.meaning.specs.Line.{number-text, letter-text, target-text, s-text, v-text, e-text, t-text, a-text}
 use Rattle.chart.proofs.Rows.{num-at, num-first}
-use Rattle.writer.specs.Pen.{Pen, put-byte, put-all, IsLetter}
+use Rattle.pen.specs.Pen.{Pen, put-byte, put-all}
+use Rattle.writer.specs.Letters.{IsLetter}
 use Rattle.writer.specs.Row.{row-in, with-lf}
-use Rattle.writer.proofs.PenLaws.{all-append}
+use Rattle.pen.proofs.Laws.{all-append}
 
 -- ---- one field more
 

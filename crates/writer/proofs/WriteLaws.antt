@@ -17,7 +17,9 @@ use Rattle.meaning.specs.Rules.{failing-rule-of, verdict}
 use Rattle.meaning.specs.Text.{answer, answer-of, count-of, lent, text-of, written-by, write, written, lent-bytes}
 use Rattle.meaning.specs.declared.Answer.{Answer}
 use Rattle.meaning.specs.declared.Written.{Written}
-use Rattle.writer.specs.Pen.{Pen, pen, put-if, put-byte, put-all, zeros}
+use Rattle.pen.specs.Pen.{Pen, pen, put-if, put-byte, put-all}
+use Rattle.pen.proofs.Laws.{all-over}
+use Rattle.writer.specs.Letters.{zeros}
 
 -- ---- a slice set to 0, from its start on
 
@@ -43,19 +45,6 @@ fits (b ∷ bs) l n h =
     let e : n + 1 + length bs ≡ n + suc (length bs) = omega arith in
     let k : n + 1 + length bs ≤ length (set l n b) = rw length-set (omega arith) in
     rw (lt-ltb n (length l) (omega arith)) (fits bs (set l n b) (n + 1) k ∙ rw (e, add-one))
-
-over : (bs l : List ℕ) (n : ℕ) → length l < n + length bs → length l < put-all bs (pen l n) .at
-unfolding put-all put-byte
-over [] l n h = omega arith
-over (b ∷ bs) l n h = go (ltb n (length l)) refl (λ m k. over bs m (n + 1) k) (λ k. over bs l (length l + 1) k)
-  where
-    go : (t : Bool) → ltb n (length l) ≡ t → ((m : List ℕ) → length m < n + 1 + length bs → length m < put-all bs (pen m (n + 1)) .at)
-        → (length l < length l + 1 + length bs → length l < put-all bs (pen l (length l + 1)) .at) → length l < put-all bs (put-if t b (pen l n)) .at
-    go true e f g =
-        let s : length (set l n b) ≡ length l = length-set l n b in
-        let k = f (set l n b) (rw s (omega arith)) in
-        rw s at k
-    go false e f g = g (omega arith)
 
 drop-zeros : (k n : ℕ) → drop k (replicate {A = ℕ} n 0) ≡ replicate (n - k) 0
 drop-zeros zero n = let e : n - 0 ≡ n = omega arith in rw e
@@ -89,7 +78,7 @@ module _ (v : List ℤ) (allowed : failing-rule-of v ≡ none) (o l : List ℕ) 
   ended-over : n < length (text-of v) → n < e
   ended-over h =
       let b = zeros-length in
-      let x = over (text-of v) (zeros n) 0 (omega arith) in
+      let x = all-over (text-of v) (zeros n) 0 (omega arith) in
       let q : e ≡ put-all (text-of v) (pen (zeros n) 0) .at = ap (λ (p : Pen). p .at) w-zeros in
       omega arith
 
@@ -125,14 +114,6 @@ module _ (v : List ℤ) (allowed : failing-rule-of v ≡ none) (o l : List ℕ) 
 -- ---- the verdict of the rules
 
 module _ (v : List ℤ) (a : Answer) (e : a ≡ verdict (failing-rule-of v)) where
-  pub passed : a .number ≡ 0 → failing-rule-of v ≡ none
-  unfolding verdict
-  passed h = go (failing-rule-of v) (ap (λ (x : Answer). x .number) (sym e) ∙ h)
-    where
-      go : (o : Option ℕ) → verdict o .number ≡ 0 → o ≡ none
-      go none h = refl
-      go (some k) h = absurd (omega arith)
-
   pub wrote-refused : (n k : ℕ) (m : List ℕ) → (a .number ≡ 0 → ⊥) → k ≡ n → m ≡ zeros k → (record { answer = a; length = 0 } ≡ written v n) × (m ≡ lent-bytes n (write v n))
   unfolding verdict written write lent-bytes lent zeros
   wrote-refused n k m h ek em = go (failing-rule-of v) e

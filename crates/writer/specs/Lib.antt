@@ -1,2 +1,2 @@
-pub mod Pen
+pub mod Letters
 pub mod Row

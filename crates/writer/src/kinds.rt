@@ -15,7 +15,7 @@ ghost use Rattle.meaning.specs.Value.{rows-of, rule-0};
 ghost use Rattle.meaning.specs.Split.{ended};
 ghost use Rattle.meaning.specs.Line.{s-text, v-text, t-text, a-text};
 ghost use Rattle.meaning.specs.Text.{text-of};
-ghost use Rattle.writer.specs.Pen.{pen, put-all};
+ghost use Rattle.pen.specs.Pen.{pen, put-all};
 
 // The S lines.
 fn put_states(chart: &[i32], text: &mut [u8], at: usize) -> usize

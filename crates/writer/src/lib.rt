@@ -1,19 +1,20 @@
 // The writer (01, "Chart text"): the text of a chart that passes the rules, in a lent slice; 13 where it is too long for the slice.
 pub mod kinds;
-pub mod pen;
+pub mod marks;
 pub mod rows;
 
 use meaning::Answer;
 use meaning::Written;
+use meaning::answers::TEXT_TOO_LONG;
 ghost use mathlib.Core.Path.{_≡_};
 ghost use mathlib.Core.Option.{none};
 ghost use lib.ListN.{length};
 ghost use Rattle.meaning.specs.Rules.{failing-rule-of};
 ghost use Rattle.meaning.specs.Text.{write as written-out, written, lent-bytes};
-ghost use Rattle.writer.specs.Pen.{zeros};
+ghost use Rattle.writer.specs.Letters.{zeros};
 
 // The whole slice is 0.
-fn clear(text: &mut [u8])
+pub fn clear(text: &mut [u8])
     ensures { λ _. ⌜ now (text .exit) ≡ zeros (length (now (text .entry))) ⌝ }
 {
     let mut i = 0;
@@ -24,7 +25,7 @@ fn clear(text: &mut [u8])
 }
 
 // The text of a chart that passes the rules; 13 where it is longer than the slice.
-fn write_passed(chart: &[i32], text: &mut [u8]) -> Written
+pub fn write_passed(chart: &[i32], text: &mut [u8]) -> Written
     requires { ⌜ failing-rule-of (now chart) ≡ none ⌝ }
     ensures { λ r. ⌜ (r ≡ written (now (chart .entry)) (length (now (text .entry)))) × (now (text .exit) ≡ lent-bytes (length (now (text .entry))) (written-out (now (chart .entry)) (length (now (text .entry))))) ⌝ }
 {
@@ -33,7 +34,7 @@ fn write_passed(chart: &[i32], text: &mut [u8]) -> Written
     if text.len() < end {
         clear(text);
         let answer = Answer {
-            number: 13,
+            number: TEXT_TOO_LONG,
             place: 0,
         };
         return Written {
@@ -49,20 +50,4 @@ fn write_passed(chart: &[i32], text: &mut [u8]) -> Written
         answer: answer,
         length: end,
     }
-}
-
-// A chart written as text: 3 with the rule where the value fails one of R0 to R7, 13 where the text is longer than the slice, else
-// the text and 0 past it, with its length. A refusal leaves the slice 0.
-pub fn write(chart: &[i32], text: &mut [u8]) -> Written
-    ensures { λ r. ⌜ (r ≡ written (now (chart .entry)) (length (now (text .entry)))) × (now (text .exit) ≡ lent-bytes (length (now (text .entry))) (written-out (now (chart .entry)) (length (now (text .entry))))) ⌝ }
-{
-    let verdict = rules::check(chart);
-    if verdict.number != 0 {
-        clear(text);
-        return Written {
-            answer: verdict,
-            length: 0,
-        };
-    }
-    write_passed(chart, text)
 }

@@ -1,10 +1,9 @@
 // The lines of the five kinds of records (01, "Chart text"), each put whole, its LF included.
-use super::pen::LF;
-use super::pen::put;
-use super::pen::put_field;
-use super::pen::put_letter;
-use super::pen::put_number;
-use super::pen::put_target;
+use super::marks::LF;
+use super::marks::put_field;
+use super::marks::put_letter;
+use super::marks::put_number;
+use super::marks::put_target;
 use chart::layout::ACT_ROW;
 use chart::layout::ACTIONS_AT;
 use chart::layout::EVENT_COUNT;
@@ -15,6 +14,7 @@ use chart::layout::TRANSITIONS_AT;
 use chart::layout::VAR_ROW;
 use chart::layout::VARS_AT;
 use chart::number_at;
+use pen::put;
 ghost use mathlib.Core.Path.{_≡_};
 ghost use Prim.Native.Nat.{_<_};
 ghost use lib.ListN.{getD};
@@ -22,7 +22,8 @@ ghost use lib.IntN.{pos};
 ghost use Rattle.sizes.specs.Sizes.{STATES, VARIABLES, TRANSITIONS, ACTIONS};
 ghost use Rattle.meaning.specs.Value.{num, STATE-ROW, VAR-ROW, TRANS-ROW, ACT-ROW, STATES-AT, VARS-AT, TRANSITIONS-AT, ACTIONS-AT};
 ghost use Rattle.meaning.specs.Line.{s-text, v-text, e-text, t-text, a-text};
-ghost use Rattle.writer.specs.Pen.{pen, put-all, IsLetter};
+ghost use Rattle.pen.specs.Pen.{pen, put-all};
+ghost use Rattle.writer.specs.Letters.{IsLetter};
 ghost use Rattle.writer.specs.Row.{row-in, with-lf};
 
 // S, number, parent, kind, default.

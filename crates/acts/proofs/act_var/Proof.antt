@@ -4,21 +4,6 @@ use borrow.Author.Needs.{needs}
 use Rattle.acts.proofs.act_var.Statement.{statement}
 use Rattle.acts.proofs.act_var.Tie as tie
 
-enum-known-act : tie.Need-enum-known-act
-enum-known-act c = search needs
-
-enum-known-act-2 : tie.Need-enum-known-act-2
-enum-known-act-2 c = search needs
-
-enum-known-act-3 : tie.Need-enum-known-act-3
-enum-known-act-3 c = search needs
-
-enum-known-act-4 : tie.Need-enum-known-act-4
-enum-known-act-4 c = search needs
-
-enum-known-act-5 : tie.Need-enum-known-act-5
-enum-known-act-5 c = search needs
-
 returns : tie.Need-returns
 unfolding act-var
 returns c = rw (c .before .act .given .1)
@@ -41,15 +26,5 @@ returns-5 c = rw (c .before .act5 .given .1)
 
 pub act-var-spec : {M : Type 1} → statement M
 act-var-spec =
-    tie.close
-    (tie.spec
-    enum-known-act
-    enum-known-act-2
-    enum-known-act-3
-    enum-known-act-4
-    enum-known-act-5
-    returns
-    returns-2
-    returns-3
-    returns-4
-    returns-5)
+    tie.close (tie.spec (λ c. search needs) (λ c. search needs) (λ c. search needs) (λ c. search needs)
+    (λ c. search needs) returns returns-2 returns-3 returns-4 returns-5)

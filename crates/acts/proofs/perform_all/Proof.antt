@@ -12,82 +12,91 @@ use Rattle.acts.proofs.perform_all.Statement.{statement}
 use Rattle.acts.proofs.perform_all.Tie as tie
 
 abbrev Inv-loop : tie.InvT-loop
-Inv-loop chart arg owner vars₀ trace₀ at went₀ i₀ i-end vars trace went i = Acting chart (toZ w32 arg) owner vars₀ (went₀ .queue) trace₀ (went₀ .at) i vars trace went
+Inv-loop chart arg owner vars₀ queue₀ trace₀ at went₀ i₀ i-end vars queue trace went i =
+    Acting chart (toZ w32 arg) owner vars₀ queue₀ trace₀ (went₀ .at) i vars queue trace went
 
 abbrev μ-loop : tie.MeasureT-loop
-μ-loop chart arg owner vars₀ trace₀ at went₀ i₀ i-end vars trace went i = i-end - i
+μ-loop chart arg owner vars₀ queue₀ trace₀ at went₀ i₀ i-end vars queue trace went i = i-end - i
 
-action-count-requires : tie.Need-action-count-requires Inv-loop μ-loop
-action-count-requires c κs = search needs
+abbrev at-loop-from-then1 : tie.Then1 Inv-loop μ-loop → tie.At-loop Inv-loop μ-loop
+at-loop-from-then1 c = c .before .before .before .before
+
+abbrev action-row-from-perform-arg3 : tie.After-perform-arg3 Inv-loop μ-loop → tie.After-action-row Inv-loop μ-loop
+action-row-from-perform-arg3 c = c .before .before .before .before .before .before .before
+
+abbrev var-row-from-else2 : tie.Else2 Inv-loop μ-loop → tie.After-var-row Inv-loop μ-loop
+var-row-from-else2 c = c .before .before .before .before .before .before .before
+
+abbrev var-row-from-then2 : tie.Then2 Inv-loop μ-loop → tie.After-var-row Inv-loop μ-loop
+var-row-from-then2 c = c .before .before .before .before .before .before .before
+
+abbrev at-loop-from-perform-arg3 : tie.After-perform-arg3 Inv-loop μ-loop → tie.At-loop Inv-loop μ-loop
+at-loop-from-perform-arg3 c = action-row-from-perform-arg3 c .before .before
+
+abbrev action-row-from-else2 : tie.Else2 Inv-loop μ-loop → tie.After-action-row Inv-loop μ-loop
+action-row-from-else2 c = var-row-from-else2 c .before .before .before .before
+
+abbrev action-row-from-then2 : tie.Then2 Inv-loop μ-loop → tie.After-action-row Inv-loop μ-loop
+action-row-from-then2 c = var-row-from-then2 c .before .before .before .before
 
 loop-holds : tie.Need-loop-holds Inv-loop μ-loop
 loop-holds c = acting-begin (c .before .pre .1)
 
-action-row-requires : tie.Need-action-row-requires Inv-loop μ-loop
-action-row-requires c κs = search needs
-
-same-owner-requires : tie.Need-same-owner-requires Inv-loop μ-loop
-same-owner-requires c κs = search needs
-
-add-i : tie.Need-add-i Inv-loop μ-loop
-add-i c = search needs
-
-loop-less : tie.Need-loop-less Inv-loop μ-loop
-loop-less c = search needs
-
 loop-again : tie.Need-loop-again Inv-loop μ-loop
-loop-again c = acting-skip (c .before .before .before .before .loop .inv) (omega (arith, c .before .before .before .loop-test .taken, c .before .before .before .before .before .action-count .ensures)) (c .before .before .action-row .ensures) (sym (c .before .same-owner .ensures) ∙ not-true _ (c .if1 .taken))
-
-act-var-requires : tie.Need-act-var-requires Inv-loop μ-loop
-act-var-requires c κs = search needs
-
-var-row-requires : tie.Need-var-row-requires Inv-loop μ-loop
-var-row-requires c κs = search needs
+loop-again c =
+    acting-skip (at-loop-from-then1 c .loop .inv)
+    (omega (
+      arith,
+      c .before .before .before .loop-test .taken,
+      at-loop-from-then1 c .before .action-count .ensures,
+    )) (c .before .before .action-row .ensures)
+    (sym (c .before .same-owner .ensures) ∙ not-true _ (c .if1 .taken))
 
 perform-requires : tie.Need-perform-requires Inv-loop μ-loop
-perform-requires c κs = (row-named _ (c .before .before .before .before .before .before .before .before .before .before .before .pre .0) (c .before .before .before .before .before .before .before .before .before .loop .i) (omega (arith, c .before .before .before .before .before .before .before .before .loop-test .taken, c .before .before .before .before .before .before .before .before .before .before .action-count .ensures)) _ (c .before .before .before .before .before .before .before .action-row .ensures), c .before .before .before .before .before .before .before .before .before .loop .inv .fits)
-
-same-length : tie.Need-same-length Inv-loop μ-loop
-same-length c = search needs
+perform-requires c κs = (
+  row-named _ (at-loop-from-perform-arg3 c .before .before .pre .0) (at-loop-from-perform-arg3 c .loop .i)
+      (omega (
+        arith,
+        action-row-from-perform-arg3 c .before .loop-test .taken,
+        at-loop-from-perform-arg3 c .before .action-count .ensures,
+      )) _ (action-row-from-perform-arg3 c .action-row .ensures),
+  at-loop-from-perform-arg3 c .loop .inv .fits,
+)
 
 returns : tie.Need-returns Inv-loop μ-loop
-returns c = rw (toZ-ofZ (c .before .before .before .before .before .before .before .before .before .before .before .before .before .before .before .fits .arg)) at (acting-stop (c .before .before .before .before .before .before .before .before .before .before .before .before .before .loop .inv) (omega (arith, c .before .before .before .before .before .before .before .before .before .before .before .before .loop-test .taken, c .before .before .before .before .before .before .before .before .before .before .before .before .before .before .action-count .ensures)) (c .before .before .before .before .before .before .before .before .before .before .before .action-row .ensures) (sym (c .before .before .before .before .before .before .before .before .before .before .same-owner .ensures) ∙ not-false _ (c .before .before .before .before .before .before .before .before .before .if1 .left)) (c .before .before .before .before .before .before .before .before .act-var .ensures) (c .before .before .before .before .before .before .before .var-row .ensures) (c .before .before .before .perform .ensures) (c .if2 .taken))
-
-add-i-2 : tie.Need-add-i-2 Inv-loop μ-loop
-add-i-2 c = search needs
-
-loop-less-2 : tie.Need-loop-less-2 Inv-loop μ-loop
-loop-less-2 c = search needs
+returns c =
+    rw (toZ-ofZ (action-row-from-then2 c .before .before .before .before .fits .arg)) at
+    (acting-stop (action-row-from-then2 c .before .before .loop .inv)
+    (omega (
+      arith,
+      action-row-from-then2 c .before .loop-test .taken,
+      action-row-from-then2 c .before .before .before .action-count .ensures,
+    )) (action-row-from-then2 c .action-row .ensures)
+    (sym (var-row-from-then2 c .before .before .before .same-owner .ensures) ∙ not-false _
+    (var-row-from-then2 c .before .before .if1 .left)) (var-row-from-then2 c .before .act-var .ensures)
+    (var-row-from-then2 c .var-row .ensures) (c .before .before .before .perform .ensures) (c .if2 .taken))
 
 loop-again-2 : tie.Need-loop-again-2 Inv-loop μ-loop
-loop-again-2 c = acting-on (c .before .before .before .before .before .before .before .before .before .before .before .before .before .loop .inv) (omega (arith, c .before .before .before .before .before .before .before .before .before .before .before .before .loop-test .taken, c .before .before .before .before .before .before .before .before .before .before .before .before .before .before .action-count .ensures)) (c .before .before .before .before .before .before .before .before .before .before .before .action-row .ensures) (sym (c .before .before .before .before .before .before .before .before .before .before .same-owner .ensures) ∙ not-false _ (c .before .before .before .before .before .before .before .before .before .if1 .left)) (c .before .before .before .before .before .before .before .before .act-var .ensures) (c .before .before .before .before .before .before .before .var-row .ensures) (c .before .before .before .perform .ensures) (c .if2 .left)
-
-same-length-2 : tie.Need-same-length-2 Inv-loop μ-loop
-same-length-2 c = search needs
+loop-again-2 c =
+    acting-on (action-row-from-else2 c .before .before .loop .inv)
+    (omega (
+      arith,
+      action-row-from-else2 c .before .loop-test .taken,
+      action-row-from-else2 c .before .before .before .action-count .ensures,
+    )) (action-row-from-else2 c .action-row .ensures)
+    (sym (var-row-from-else2 c .before .before .before .same-owner .ensures) ∙ not-false _
+    (var-row-from-else2 c .before .before .if1 .left)) (var-row-from-else2 c .before .act-var .ensures)
+    (var-row-from-else2 c .var-row .ensures) (c .before .before .before .perform .ensures) (c .if2 .left)
 
 returns-2 : tie.Need-returns-2 Inv-loop μ-loop
-returns-2 c = rw (toZ-ofZ (c .before .before .before .fits .arg)) at (acting-end (c .before .loop .inv) (omega (arith, c .loop-test .left, c .before .before .action-count .ensures)))
+returns-2 c =
+    rw (toZ-ofZ (c .before .before .before .fits .arg)) at
+    (acting-end (c .before .loop .inv)
+    (omega (arith, c .loop-test .left, c .before .before .action-count .ensures)))
 
 pub perform-all-spec : {M : Type 1} → statement M
 perform-all-spec =
-    tie.close
-    (tie.spec
-    Inv-loop
-    μ-loop
-    action-count-requires
-    loop-holds
-    action-row-requires
-    same-owner-requires
-    add-i
-    loop-less
-    loop-again
-    act-var-requires
-    var-row-requires
-    perform-requires
-    same-length
-    returns
-    add-i-2
-    loop-less-2
-    loop-again-2
-    same-length-2
-    returns-2)
+    tie.close (tie.spec Inv-loop μ-loop (λ c κs. search needs) loop-holds (λ c κs. search needs)
+    (λ c κs. search needs) (λ c. search needs) (λ c. search needs) loop-again (λ c κs. search needs)
+    (λ c κs. search needs) perform-requires (λ c. search needs) returns (λ c. search needs)
+    (λ c. search needs) loop-again-2 (λ c. search needs) returns-2)

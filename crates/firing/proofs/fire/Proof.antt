@@ -2,84 +2,117 @@
 use native.Mathlib.Omega.{arith}
 use mir.Facts.{toZ-ofZ}
 use Rattle.chart.proofs.Rows.{transitions-most}
+use Rattle.widget.specs.View.{all-lent}
 use Rattle.firing.proofs.Taking.{to-inside, history-inside, fired-stop, fired-to, fired-history, fired-in-place}
 use borrow.Author.Needs.{needs}
 use Rattle.firing.proofs.fire.Statement.{statement}
 use Rattle.firing.proofs.fire.Tie as tie
 
-mark-taken-requires : tie.Need-mark-taken-requires
-mark-taken-requires c κs = (omega (arith, c .before .pre .1, transitions-most (c .before .args .chart .now)), c .before .pre .3)
+abbrev enum-told-from-trace4 : tie.After-trace4 → tie.After-enum-told
+enum-told-from-trace4 c = c .before .before .before .before .before
 
-same-length : tie.Need-same-length
-same-length c = search needs
+abbrev scope-from-move-to-arg5 : tie.After-move-to-arg5 → tie.After-scope
+scope-from-move-to-arg5 c = c .before .before .before .before .before
+
+abbrev scope2-from-move-to-arg10 : tie.After-move-to-arg10 → tie.After-scope2
+scope2-from-move-to-arg10 c = c .before .before .before .before .before
+
+abbrev start-from-then1 : tie.Then1 → tie.Start
+start-from-then1 c = c .before .before .before .before .before
+
+abbrev target-from-trace2 : tie.After-trace2 → tie.After-target
+target-from-trace2 c = scope-from-move-to-arg5 (c .before .before) .before .before
+
+abbrev target2-from-trace3 : tie.After-trace3 → tie.After-target2
+target2-from-trace3 c = scope2-from-move-to-arg10 (c .before .before) .before .before
+
+abbrev start-from-trace4 : tie.After-trace4 → tie.Start
+start-from-trace4 c = enum-told-from-trace4 c .before .before .before .before .before .before .before .before
+
+abbrev start-from-move-to-arg10 : tie.After-move-to-arg10 → tie.Start
+start-from-move-to-arg10 c = scope2-from-move-to-arg10 c .before .before .before .before .before .before .before .before .before .before
+
+abbrev start-from-move-to-arg5 : tie.After-move-to-arg5 → tie.Start
+start-from-move-to-arg5 c = scope-from-move-to-arg5 c .before .before .before .before .before .before .before .before .before .before
+
+abbrev start-from-trace2 : tie.After-trace2 → tie.Start
+start-from-trace2 c = start-from-move-to-arg5 (c .before .before)
+
+abbrev start-from-trace3 : tie.After-trace3 → tie.Start
+start-from-trace3 c = start-from-move-to-arg10 (c .before .before)
+
+mark-taken-requires : tie.Need-mark-taken-requires
+mark-taken-requires c κs = (omega (arith, c .before .pre .1, transitions-most (c .before .args .chart .now)), c .before .pre .4)
 
 returns : tie.Need-returns
-returns c = fired-stop _ _ _ (c .before .before .before .before .before .args .slots .now) (c .before .before .before .before .before .args .vars .now) (c .before .before .before .mark-taken .ensures) (c .if1 .taken)
-
-trans-row-requires : tie.Need-trans-row-requires
-trans-row-requires c κs = search needs
-
-enum-known-target : tie.Need-enum-known-target
-enum-known-target c = search needs
-
-scope-requires : tie.Need-scope-requires
-scope-requires c κs = search needs
+returns c =
+    fired-stop _ _ _ (start-from-then1 c .args .active .now) (start-from-then1 c .args .slots .now)
+    (start-from-then1 c .args .vars .now) (start-from-then1 c .args .queue .now)
+    (c .before .before .before .mark-taken .ensures) (c .if1 .taken)
 
 move-to-requires : tie.Need-move-to-requires
-move-to-requires c κs = let i = to-inside _ (c .before .before .before .before .before .before .before .before .before .before .before .before .before .before .pre .0) _ (c .before .before .before .before .before .before .before .before .before .before .before .before .before .before .pre .1) _ (c .before .before .before .before .before .before .before .before .trans-row .ensures) _ (c .before .before .before .before .before .before .target .given .1) in (c .before .before .before .before .before .before .before .before .before .before .before .before .before .before .pre .0, i .0, omega (arith, c .before .before .before .before .scope .ensures, i .1), c .before .before .before .before .before .before .before .before .before .before .before .before .before .before .pre .2, record { going = c .before .before .before .before .before .before .before .before .before .if1 .left; fits = c .before .before .before .before .before .before .before .before .before .before .before .before .mark-taken .ensures .0 .fits })
-
-enum-known-target-2 : tie.Need-enum-known-target-2
-enum-known-target-2 c = search needs
-
-scope-requires-2 : tie.Need-scope-requires-2
-scope-requires-2 c κs = search needs
+move-to-requires c κs =
+    let i = to-inside _ (start-from-move-to-arg5 c .pre .0) _ (start-from-move-to-arg5 c .pre .1) _
+    (scope-from-move-to-arg5 c .before .before .before .before .trans-row .ensures) _
+    (scope-from-move-to-arg5 c .before .before .target .given .1) in (
+      start-from-move-to-arg5 c .pre .0,
+      i .0,
+      omega (arith, scope-from-move-to-arg5 c .scope .ensures, i .1),
+      start-from-move-to-arg5 c .pre .2,
+      start-from-move-to-arg5 c .pre .3,
+      scope-from-move-to-arg5 c .before .before .before .before .before .before .before .before .mark-taken .ensures .0 .fits,
+    )
 
 move-to-requires-2 : tie.Need-move-to-requires-2
-move-to-requires-2 c κs = let i = history-inside _ (c .before .before .before .before .before .before .before .before .before .before .before .before .before .before .pre .0) _ (c .before .before .before .before .before .before .before .before .before .before .before .before .before .before .pre .1) _ (c .before .before .before .before .before .before .before .before .trans-row .ensures) _ (c .before .before .before .before .before .before .target2 .given .1) in (c .before .before .before .before .before .before .before .before .before .before .before .before .before .before .pre .0, i .0, omega (arith, c .before .before .before .before .scope2 .ensures, i .1), c .before .before .before .before .before .before .before .before .before .before .before .before .before .before .pre .2, record { going = c .before .before .before .before .before .before .before .before .before .if1 .left; fits = c .before .before .before .before .before .before .before .before .before .before .before .before .mark-taken .ensures .0 .fits })
-
-enum-told : tie.Need-enum-told
-enum-told c = search needs
-
-perform-all-requires : tie.Need-perform-all-requires
-perform-all-requires c κs = search needs
-
-same-length-2 : tie.Need-same-length-2
-same-length-2 c = search needs
+move-to-requires-2 c κs =
+    let i = history-inside _ (start-from-move-to-arg10 c .pre .0) _ (start-from-move-to-arg10 c .pre .1) _
+    (scope2-from-move-to-arg10 c .before .before .before .before .trans-row .ensures) _
+    (scope2-from-move-to-arg10 c .before .before .target2 .given .1) in (
+      start-from-move-to-arg10 c .pre .0,
+      i .0,
+      omega (arith, scope2-from-move-to-arg10 c .scope2 .ensures, i .1),
+      start-from-move-to-arg10 c .pre .2,
+      start-from-move-to-arg10 c .pre .3,
+      scope2-from-move-to-arg10 c .before .before .before .before .before .before .before .before .mark-taken .ensures .0 .fits,
+    )
 
 returns-2 : tie.Need-returns-2
-returns-2 c = fired-to _ _ _ (c .before .before .before .before .before .before .before .before .before .before .before .before .before .before .before .before .args .slots .now) (c .before .before .before .before .before .before .before .before .before .before .before .before .before .before .before .before .args .vars .now) (c .before .before .before .before .before .before .before .before .before .before .before .before .before .before .mark-taken .ensures) (c .before .before .before .before .before .before .before .before .before .before .before .if1 .left) _ (c .before .before .before .before .before .before .before .before .before .before .trans-row .ensures) (c .before .before .before .before .before .before .before .before .target .given .1) (c .before .before .before .before .before .before .scope .ensures) (rw (toZ-ofZ (c .before .before .before .before .before .before .before .before .before .before .before .before .before .before .before .before .fits .arg)) at (c .before .move-to .ensures))
-
-same-length-3 : tie.Need-same-length-3
-same-length-3 c = search needs
+returns-2 c =
+    fired-to _ _ _ (start-from-trace2 c .args .active .now) (start-from-trace2 c .args .slots .now)
+    (start-from-trace2 c .args .vars .now) (start-from-trace2 c .args .queue .now)
+    (target-from-trace2 c .before .before .before .before .before .before .mark-taken .ensures)
+    (target-from-trace2 c .before .before .before .if1 .left) _
+    (target-from-trace2 c .before .before .trans-row .ensures) (target-from-trace2 c .target .given .1)
+    (scope-from-move-to-arg5 (c .before .before) .scope .ensures)
+    (rw (toZ-ofZ (start-from-trace2 c .fits .arg)) at (c .before .move-to .ensures))
 
 returns-3 : tie.Need-returns-3
-returns-3 c = fired-history _ _ _ (c .before .before .before .before .before .before .before .before .before .before .before .before .before .before .before .before .args .slots .now) (c .before .before .before .before .before .before .before .before .before .before .before .before .before .before .before .before .args .vars .now) (c .before .before .before .before .before .before .before .before .before .before .before .before .before .before .mark-taken .ensures) (c .before .before .before .before .before .before .before .before .before .before .before .if1 .left) _ (c .before .before .before .before .before .before .before .before .before .before .trans-row .ensures) (c .before .before .before .before .before .before .before .before .target2 .given .1) (c .before .before .before .before .before .before .scope2 .ensures) (rw (toZ-ofZ (c .before .before .before .before .before .before .before .before .before .before .before .before .before .before .before .before .fits .arg)) at (c .before .move-to2 .ensures))
-
-same-length-4 : tie.Need-same-length-4
-same-length-4 c = search needs
+returns-3 c =
+    fired-history _ _ _ (start-from-trace3 c .args .active .now) (start-from-trace3 c .args .slots .now)
+    (start-from-trace3 c .args .vars .now) (start-from-trace3 c .args .queue .now)
+    (target2-from-trace3 c .before .before .before .before .before .before .mark-taken .ensures)
+    (target2-from-trace3 c .before .before .before .if1 .left) _
+    (target2-from-trace3 c .before .before .trans-row .ensures) (target2-from-trace3 c .target2 .given .1)
+    (scope2-from-move-to-arg10 (c .before .before) .scope2 .ensures)
+    (rw (toZ-ofZ (start-from-trace3 c .fits .arg)) at (c .before .move-to2 .ensures))
 
 returns-4 : tie.Need-returns-4
-returns-4 c = fired-in-place _ _ _ (c .before .before .before .before .before .before .before .before .before .before .before .before .before .args .slots .now) (c .before .before .before .before .before .before .before .before .before .before .before .before .before .args .vars .now) (c .before .before .before .before .before .before .before .before .before .before .before .mark-taken .ensures) (c .before .before .before .before .before .before .before .before .if1 .left) _ (c .before .before .before .before .before .before .before .trans-row .ensures) (c .before .before .before .before .before .enum-told .given .1) (rw (toZ-ofZ (c .before .before .before .before .before .before .before .before .before .before .before .before .before .fits .arg)) at (c .before .perform-all .ensures .1 (c .before .before .before .before .before .before .before .before .before .before .before .before .before .args .active .now) (c .before .before .before .before .before .before .before .before .before .before .before .before .before .args .slots .now)))
+returns-4 c =
+    fired-in-place _ _ _ (start-from-trace4 c .args .active .now) (start-from-trace4 c .args .slots .now)
+    (start-from-trace4 c .args .vars .now) (start-from-trace4 c .args .queue .now)
+    (enum-told-from-trace4 c .before .before .before .before .before .before .mark-taken .ensures)
+    (enum-told-from-trace4 c .before .before .before .if1 .left) _
+    (enum-told-from-trace4 c .before .before .trans-row .ensures)
+    (enum-told-from-trace4 c .enum-told .given .1)
+    (rw (toZ-ofZ (start-from-trace4 c .fits .arg)) at
+    (c .before .perform-all .ensures .1
+    (all-lent (start-from-trace4 c .args .active .now) (start-from-trace4 c .args .slots .now)
+    (start-from-trace4 c .args .vars .now) (start-from-trace4 c .args .queue .now)
+    (start-from-trace4 c .args .trace .now))))
 
 pub fire-spec : {M : Type 1} → statement M
 fire-spec =
-    tie.close
-    (tie.spec
-    mark-taken-requires
-    same-length
-    returns
-    trans-row-requires
-    enum-known-target
-    scope-requires
-    move-to-requires
-    enum-known-target-2
-    scope-requires-2
-    move-to-requires-2
-    enum-told
-    perform-all-requires
-    same-length-2
-    returns-2
-    same-length-3
-    returns-3
-    same-length-4
-    returns-4)
+    tie.close (tie.spec mark-taken-requires (λ c. search needs) returns (λ c κs. search needs)
+    (λ c. search needs) (λ c κs. search needs) move-to-requires (λ c. search needs) (λ c κs. search needs)
+    move-to-requires-2 (λ c. search needs) (λ c κs. search needs) (λ c. search needs) returns-2
+    (λ c. search needs) returns-3 (λ c. search needs) returns-4)

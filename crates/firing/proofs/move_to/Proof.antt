@@ -5,47 +5,64 @@ use borrow.Author.Needs.{needs}
 use Rattle.firing.proofs.move_to.Statement.{statement}
 use Rattle.firing.proofs.move_to.Tie as tie
 
-leave-below-requires : tie.Need-leave-below-requires
-leave-below-requires c κs = search needs
+abbrev else1-from-then2 : tie.Then2 → tie.Else1
+else1-from-then2 c = c .before .before .before .before .before .before .before
 
-same-length : tie.Need-same-length
-same-length c = search needs
+abbrev else2-from-trace3 : tie.After-trace3 → tie.Else2
+else2-from-trace3 c = c .before .before .before .before .before .before .before
+
+abbrev start-from-then1 : tie.Then1 → tie.Start
+start-from-then1 c = c .before .before .before .before .before .before .before .before .before
+
+abbrev else1-from-towards-arg5 : tie.After-towards-arg5 → tie.Else1
+else1-from-towards-arg5 c = c .before .before .before .before .before .before .before .before .before .before .before .before
+
+abbrev start-from-then2 : tie.Then2 → tie.Start
+start-from-then2 c = else1-from-then2 c .before .before .before .before .before .before .before .before .before
+
+abbrev start-from-towards-arg5 : tie.After-towards-arg5 → tie.Start
+start-from-towards-arg5 c = else1-from-towards-arg5 c .before .before .before .before .before .before .before .before .before
+
+abbrev start-from-trace3 : tie.After-trace3 → tie.Start
+start-from-trace3 c = start-from-towards-arg5 (c .before .before)
 
 returns : tie.Need-returns
-returns c = moved-stop _ _ _ (c .before .before .before .before .before .before .before .before .before .args .goal) _ (rw (toZ-ofZ (c .before .before .before .before .before .before .before .before .before .fits .arg)) at (c .before .before .before .leave-below .ensures)) (c .if1 .taken)
-
-perform-all-requires : tie.Need-perform-all-requires
-perform-all-requires c κs = search needs
-
-same-length-2 : tie.Need-same-length-2
-same-length-2 c = search needs
+returns c =
+    moved-stop _ _ _ (start-from-then1 c .args .goal) _
+    (rw (toZ-ofZ (start-from-then1 c .fits .arg)) at (c .before .before .before .leave-below .ensures))
+    (c .if1 .taken)
 
 returns-2 : tie.Need-returns-2
-returns-2 c = moved-stop-acts _ _ _ (c .before .before .before .before .before .before .before .before .before .before .before .before .before .before .before .before .args .goal) _ (rw (toZ-ofZ (c .before .before .before .before .before .before .before .before .before .before .before .before .before .before .before .before .fits .arg)) at (c .before .before .before .before .before .before .before .before .before .before .leave-below .ensures)) (c .before .before .before .before .before .before .before .if1 .left) (rw (toZ-ofZ (c .before .before .before .before .before .before .before .before .before .before .before .before .before .before .before .before .fits .arg)) at (c .before .before .before .perform-all .ensures)) (c .if2 .taken)
-
-state-count-requires : tie.Need-state-count-requires
-state-count-requires c κs = search needs
+returns-2 c =
+    moved-stop-acts _ _ _ (start-from-then2 c .args .goal) _
+    (rw (toZ-ofZ (start-from-then2 c .fits .arg)) at
+    (else1-from-then2 c .before .before .before .leave-below .ensures)) (else1-from-then2 c .if1 .left)
+    (rw (toZ-ofZ (start-from-then2 c .fits .arg)) at (c .before .before .before .perform-all .ensures))
+    (c .if2 .taken)
 
 towards-requires : tie.Need-towards-requires
-towards-requires c κs = (c .before .before .before .before .before .before .before .before .before .before .before .before .before .before .before .before .before .before .before .before .before .pre .0, c .before .before .before .before .before .before .before .before .before .before .before .before .before .before .before .before .before .before .before .before .before .pre .1, c .before .before .before .before .before .before .before .before .before .before .before .before .before .before .before .before .before .before .before .before .before .pre .2, left-led _ (c .before .before .before .before .before .before .before .before .before .before .before .before .before .before .before .before .before .before .before .before .before .pre .0) _ _ (c .before .before .before .before .before .before .before .before .before .before .before .before .before .before .before .leave-below .ensures) (c .before .before .before .before .before .before .before .before .before .before .before .before .if1 .left) (c .before .before .before .before .before .before .before .before .before .before .before .before .before .before .before .before .before .before .before .before .before .pre .3), record { going = c .before .before .before .before .before .if2 .left; fits = c .before .before .before .before .before .before .before .before .perform-all .ensures .0 .fits })
-
-same-length-3 : tie.Need-same-length-3
-same-length-3 c = search needs
+towards-requires c κs = (
+  start-from-towards-arg5 c .pre .0,
+  start-from-towards-arg5 c .pre .1,
+  start-from-towards-arg5 c .pre .2,
+  left-led _ (start-from-towards-arg5 c .pre .0) _ _
+      (else1-from-towards-arg5 c .before .before .before .leave-below .ensures)
+      (start-from-towards-arg5 c .pre .4) (else1-from-towards-arg5 c .if1 .left)
+      (start-from-towards-arg5 c .pre .3),
+  c .before .before .before .before .before .before .before .before .perform-all .ensures .0 .fits,
+)
 
 returns-3 : tie.Need-returns-3
-returns-3 c = moved-on _ _ _ (c .before .before .before .before .before .before .before .before .before .before .before .before .before .before .before .before .before .before .before .before .before .before .before .args .goal) _ (rw (toZ-ofZ (c .before .before .before .before .before .before .before .before .before .before .before .before .before .before .before .before .before .before .before .before .before .before .before .fits .arg)) at (c .before .before .before .before .before .before .before .before .before .before .before .before .before .before .before .before .before .leave-below .ensures)) (c .before .before .before .before .before .before .before .before .before .before .before .before .before .before .if1 .left) (rw (toZ-ofZ (c .before .before .before .before .before .before .before .before .before .before .before .before .before .before .before .before .before .before .before .before .before .before .before .fits .arg)) at (c .before .before .before .before .before .before .before .before .before .before .perform-all .ensures)) (c .before .before .before .before .before .before .before .if2 .left) (c .before .before .before .before .before .before .state-count .ensures) (rw (toZ-ofZ (c .before .before .before .before .before .before .before .before .before .before .before .before .before .before .before .before .before .before .before .before .before .before .before .fits .arg)) at (c .before .towards .ensures))
+returns-3 c =
+    moved-on _ _ _ (start-from-trace3 c .args .goal) _
+    (rw (toZ-ofZ (start-from-trace3 c .fits .arg)) at
+    (else1-from-towards-arg5 (c .before .before) .before .before .before .leave-below .ensures))
+    (else1-from-towards-arg5 (c .before .before) .if1 .left)
+    (rw (toZ-ofZ (start-from-trace3 c .fits .arg)) at
+    (else2-from-trace3 c .before .before .before .perform-all .ensures)) (else2-from-trace3 c .if2 .left)
+    (rw (toZ-ofZ (start-from-trace3 c .fits .arg)) at (c .before .towards .ensures))
 
 pub move-to-spec : {M : Type 1} → statement M
 move-to-spec =
-    tie.close
-    (tie.spec
-    leave-below-requires
-    same-length
-    returns
-    perform-all-requires
-    same-length-2
-    returns-2
-    state-count-requires
-    towards-requires
-    same-length-3
-    returns-3)
+    tie.close (tie.spec (λ c κs. search needs) (λ c. search needs) returns (λ c κs. search needs)
+    (λ c. search needs) returns-2 towards-requires (λ c. search needs) returns-3)

@@ -1,5 +1,5 @@
 -- `put_digits` writes `digits`. The measure of the recursion is the number. Assumes nothing.
-use Rattle.pen.proofs.Laws.{puts-one, puts-more}
+use Rattle.pen.proofs.Laws.{digits-put-one, digits-put-more}
 use borrow.Author.Needs.{needs}
 use Prim.Native.Nat.{ℕ, _<_}
 use borrow.Fn.Kinds.{In}
@@ -60,7 +60,7 @@ put-digits-returns : (t : ℕ) → put-digits-lts.Need-returns (
   put-digits-below t,
   put-digits.Post,
 ) (put-digits-at t) put-digits.Post
-put-digits-returns t c = puts-one _ _ _ (c .before .before .before .before .if1 .taken) (c .before .before .put .ensures)
+put-digits-returns t c = digits-put-one _ _ _ (c .before .before .before .before .if1 .taken) (c .before .before .put .ensures)
 
 put-digits-put-digits-requires : (t : ℕ) → put-digits-lts.Need-put-digits-requires (
   put-reads.Asked,
@@ -110,7 +110,7 @@ put-digits-returns-2 : (t : ℕ) → put-digits-lts.Need-returns-2 (
 ) (put-digits-at t) put-digits.Post
 put-digits-returns-2 t c =
     let p = c .before .before .before .before .before .before in
-    puts-more _ _ _ _ (p .before .before .if1 .left) (p .put-digits .ensures) (c .before .before .put2 .ensures)
+    digits-put-more _ _ _ _ (p .before .before .if1 .left) (p .put-digits .ensures) (c .before .before .put2 .ensures)
 
 pub +put-digits-spec : {M : Type 1} → statement M
 +put-digits-spec = close μ-put-digits λ t. put-digits-lts.spec (

@@ -1,5 +1,5 @@
 -- `put` is `write`: with room the byte is stored, without it the place lies past the length. Assumes nothing.
-use Rattle.pen.proofs.Laws.{write-in, write-out}
+use Rattle.pen.proofs.Laws.{put-in, put-out}
 use borrow.Author.Needs.{needs}
 use Rattle.pen.proofs.put.Statement.{statement}
 use Rattle.pen.proofs.put.Tie as tie
@@ -14,13 +14,13 @@ same-length : tie.Need-same-length
 same-length c = search needs
 
 returns : tie.Need-returns
-returns c = write-in _ _ _ (c .if1 .taken)
+returns c = put-in _ _ _ (c .if1 .taken)
 
 add-result-2 : tie.Need-add-result-2
 add-result-2 c = search needs
 
 returns-2 : tie.Need-returns-2
-returns-2 c = write-out _ _ _ (c .if1 .left)
+returns-2 c = put-out _ _ _ (c .if1 .left)
 
 pub put-spec : {M : Type 1} → statement M
 put-spec =

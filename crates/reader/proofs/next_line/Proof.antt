@@ -8,14 +8,8 @@ use Rattle.reader.proofs.next_line.Tie as tie
 returns : tie.Need-returns
 returns c = λ h. absurd (omega arith)
 
-stop-requires : tie.Need-stop-requires
-stop-requires c κs = search needs
-
 returns-2 : tie.Need-returns-2
 returns-2 c = λ h. stop-at (c .if2 .taken) (c .before .stop .ensures)
 
-returns-3 : tie.Need-returns-3
-returns-3 c = search needs
-
 pub next-line-spec : {M : Type 1} → statement M
-next-line-spec = tie.close (tie.spec returns stop-requires returns-2 returns-3)
+next-line-spec = tie.close (tie.spec returns (λ c κs. search needs) returns-2 (λ c. search needs))

@@ -1,4 +1,5 @@
--- `begin` reads the chart; a refused one prints its answer, and one that was read passes the rules, so that the widget may start. Assumes nothing.
+-- `begin` reads the chart; a refused one prints its answer, and one that was read passes the rules, so that the widget may start.
+-- Assumes nothing.
 use mathlib.Core.Path.{_≡_, refl, _∙_}
 use lib.ListN.{length}
 use Rattle.meaning.specs.Value.{VALUE}
@@ -7,47 +8,44 @@ use borrow.Author.Needs.{needs}
 use Rattle.session.proofs.begin.Statement.{statement}
 use Rattle.session.proofs.begin.Tie as tie
 
-read-requires : tie.Need-read-requires
-read-requires c κs = search needs
-
-unstarted-requires : tie.Need-unstarted-requires
-unstarted-requires c κs = search needs
-
-refusal-requires : tie.Need-refusal-requires
-refusal-requires c κs = search needs
-
-same-length : tie.Need-same-length
-same-length c = search needs
-
-same-length-2 : tie.Need-same-length-2
-same-length-2 c = search needs
-
 returns : tie.Need-returns
-returns c = open-refused _ _ _ _ _ _ _ (rw (c .before .before .before .before .before .before .before .before .before .before .before .before .before .pre) at (c .before .before .before .before .before .before .before .before .before .read .ensures .0)) (c .before .before .before .before .before .before .if1 .taken) refl (rw (c .before .before .before .before .before .unstarted .ensures) at (c .before .before .before .refusal .ensures))
+returns c =
+    let none = c .before .before .before .before .before in
+    let test = none .before in
+    let call = test .before .before .before in
+    open-refused _ _ _ _ _ _ _ (rw (call .before .before .before .before .pre) at (call .read .ensures .result)) (test .if1 .taken) refl
+    (rw (none .unstarted .ensures .result) at (c .before .before .before .refusal .ensures))
 
 started-requires : tie.Need-started-requires
-started-requires c κs = let p = c .before .before .before .before .before .before .before .before .before .pre in let e = rw p at (c .before .before .before .before .before .read .ensures .0) in let m = rw p at (c .before .before .before .before .before .read .ensures .1) in let k : length (c .before .before .before .before .before .read .last .1 .0) ≡ VALUE = (let j : length (c .before .before .before .before .before .read .last .1 .0) ≡ length (c .before .before .before .before .before .before .before .before .before .args .chart .now) = search needs in j ∙ p) in read-ruled _ _ _ e m k (c .before .before .if1 .left)
-
-same-length-3 : tie.Need-same-length-3
-same-length-3 c = search needs
-
-same-length-4 : tie.Need-same-length-4
-same-length-4 c = search needs
+started-requires c κs =
+    let call = c .before .before .before .before .before in
+    let top = call .before .before .before .before in
+    let e = rw (top .pre) at (call .read .ensures .result) in
+    let m = rw (top .pre) at (call .read .ensures .lent) in
+    let j : length (call .read .last .1 .0) ≡ length (top .args .chart .now) = search needs in
+    read-ruled _ _ _ e m (j ∙ top .pre) (c .before .before .if1 .left)
 
 returns-2 : tie.Need-returns-2
-returns-2 c = let p = c .before .before .before .before .before .before .before .before .before .before .before .before .before .pre in let e = rw p at (c .before .before .before .before .before .before .before .before .before .read .ensures .0) in let m = rw p at (c .before .before .before .before .before .before .before .before .before .read .ensures .1) in let k : length (c .before .before .before .before .before .before .before .before .before .read .last .1 .0) ≡ VALUE = (let j : length (c .before .before .before .before .before .before .before .before .before .read .last .1 .0) ≡ length (c .before .before .before .before .before .before .before .before .before .before .before .before .before .args .chart .now) = search needs in j ∙ p) in open-started _ _ _ e m k (c .before .before .before .before .before .before .if1 .left) _ _ _ _ refl (c .before .before .before .started .ensures)
+returns-2 c =
+    let test = c .before .before .before .before .before .before in
+    let call = test .before .before .before in
+    let top = call .before .before .before .before in
+    let e = rw (top .pre) at (call .read .ensures .result) in
+    let m = rw (top .pre) at (call .read .ensures .lent) in
+    let j : length (call .read .last .1 .0) ≡ length (top .args .chart .now) = search needs in
+    open-started _ _ _ e m (j ∙ top .pre) (test .if1 .left) _ _ _ _ refl (c .before .before .before .started .ensures)
 
 pub begin-spec : {M : Type 1} → statement M
 begin-spec =
     tie.close
     (tie.spec
-    read-requires
-    unstarted-requires
-    refusal-requires
-    same-length
-    same-length-2
+    (λ c κs. search needs)
+    (λ c κs. search needs)
+    (λ c κs. search needs)
+    (λ c. search needs)
+    (λ c. search needs)
     returns
     started-requires
-    same-length-3
-    same-length-4
+    (λ c. search needs)
+    (λ c. search needs)
     returns-2)

@@ -5,17 +5,8 @@ use borrow.Author.Needs.{needs}
 use Rattle.session.proofs.refusal.Statement.{statement}
 use Rattle.session.proofs.refusal.Tie as tie
 
-slice-aggregate-report : tie.Need-slice-aggregate-report
-slice-aggregate-report c = search needs
-
-report-requires : tie.Need-report-requires
-report-requires c κs = search needs
-
-same-length : tie.Need-same-length
-same-length c = search needs
-
 returns : tie.Need-returns
 returns c = none-went _ _ _ _ _ _ _ refl (c .before .before .report .ensures)
 
 pub refusal-spec : {M : Type 1} → statement M
-refusal-spec = tie.close (tie.spec slice-aggregate-report report-requires same-length returns)
+refusal-spec = tie.close (tie.spec (λ c. search needs) (λ c κs. search needs) (λ c. search needs) returns)

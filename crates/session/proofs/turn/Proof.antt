@@ -1,44 +1,38 @@
 -- `turn` is the turn of one line: a post that is refused prints its answer, one that is done is run. Assumes nothing.
+use mathlib.Core.Path.{_∙_, ap}
 use Prim.Native.Nat.{_<_, _^_}
 use lib.Signed.{mag}
 use Rattle.numbers.proofs.Laws.{back32}
+use Rattle.meaning.specs.Calls.{called}
+use Rattle.engine.proofs.ByRules.{post-on}
 use Rattle.session.proofs.Steps.{turn-wrong, turn-refused, turn-ran}
 use borrow.Author.Needs.{needs}
 use Rattle.session.proofs.turn.Statement.{statement}
 use Rattle.session.proofs.turn.Tie as tie
 
-enum-known-line : tie.Need-enum-known-line
-enum-known-line c = search needs
-
-post-ruled-requires : tie.Need-post-ruled-requires
-post-ruled-requires c κs = search needs
-
-refusal-requires : tie.Need-refusal-requires
-refusal-requires c κs = search needs
-
-same-length : tie.Need-same-length
-same-length c = search needs
-
 returns : tie.Need-returns
-returns c = let m : mag (c .before .before .before .before .before .before .before .before .before .line .given .0 .0) < 2 ^ 31 = search needs in let n : mag (c .before .before .before .before .before .before .before .before .before .line .given .0 .1 .0) < 2 ^ 31 = search needs in turn-refused _ _ _ _ _ _ _ _ _ (c .before .before .before .before .before .before .before .before .before .line .given .1) _ (rw (back32 (c .before .before .before .before .before .before .before .before .before .line .given .0 .0) m, back32 (c .before .before .before .before .before .before .before .before .before .line .given .0 .1 .0) n) at (c .before .before .before .before .before .before .before .post-ruled .ensures)) (c .before .before .before .before .if1 .taken) (c .before .before .refusal .ensures)
-
-ran-requires : tie.Need-ran-requires
-ran-requires c κs = search needs
-
-enum-told : tie.Need-enum-told
-enum-told c = search needs
-
-refusal-requires-2 : tie.Need-refusal-requires-2
-refusal-requires-2 c κs = search needs
-
-same-length-2 : tie.Need-same-length-2
-same-length-2 c = search needs
+returns c =
+    let posted = c .before .before .before .before .before .before .before in
+    let said = posted .before .before in
+    let top = said .before .before .before in
+    let m : mag (said .line .given .0 .0) < 2 ^ 31 = search needs in
+    let n : mag (said .line .given .0 .1 .0) < 2 ^ 31 = search needs in
+    let told = rw (back32 (said .line .given .0 .0) m, back32 (said .line .given .0 .1 .0) n) at (posted .post-checked .ensures .result) in
+    turn-refused _ _ _ _ _ _ _ _ _ (said .line .given .1) _
+    (told ∙ ap called (post-on (top .args .chart .now) (top .args .state) (top .pre) _ _))
+    (c .before .before .before .before .if1 .taken) (c .before .before .refusal .ensures)
 
 returns-2 : tie.Need-returns-2
-returns-2 c = let m : mag (c .before .before .before .before .before .before .before .before .before .line .given .0 .0) < 2 ^ 31 = search needs in let n : mag (c .before .before .before .before .before .before .before .before .before .line .given .0 .1 .0) < 2 ^ 31 = search needs in turn-ran _ _ _ _ _ _ _ _ _ (c .before .before .before .before .before .before .before .before .before .line .given .1) _ (rw (back32 (c .before .before .before .before .before .before .before .before .before .line .given .0 .0) m, back32 (c .before .before .before .before .before .before .before .before .before .line .given .0 .1 .0) n) at (c .before .before .before .before .before .before .before .post-ruled .ensures)) (c .before .before .before .before .if1 .left) (c .before .before .ran .ensures)
-
-same-length-3 : tie.Need-same-length-3
-same-length-3 c = search needs
+returns-2 c =
+    let posted = c .before .before .before .before .before .before .before in
+    let said = posted .before .before in
+    let top = said .before .before .before in
+    let m : mag (said .line .given .0 .0) < 2 ^ 31 = search needs in
+    let n : mag (said .line .given .0 .1 .0) < 2 ^ 31 = search needs in
+    let told = rw (back32 (said .line .given .0 .0) m, back32 (said .line .given .0 .1 .0) n) at (posted .post-checked .ensures .result) in
+    turn-ran _ _ _ _ _ _ _ _ _ (said .line .given .1) _
+    (told ∙ ap called (post-on (top .args .chart .now) (top .args .state) (top .pre) _ _))
+    (c .before .before .before .before .if1 .left) (c .before .before .ran .ensures)
 
 returns-3 : tie.Need-returns-3
 returns-3 c = turn-wrong _ _ _ _ _ _ _ (c .before .before .before .before .enum-told .given .1) (c .before .before .refusal2 .ensures)
@@ -47,15 +41,15 @@ pub turn-spec : {M : Type 1} → statement M
 turn-spec =
     tie.close
     (tie.spec
-    enum-known-line
-    post-ruled-requires
-    refusal-requires
-    same-length
+    (λ c. search needs)
+    (λ c κs. search needs)
+    (λ c κs. search needs)
+    (λ c. search needs)
     returns
-    ran-requires
-    enum-told
-    refusal-requires-2
-    same-length-2
+    (λ c κs. search needs)
+    (λ c. search needs)
+    (λ c κs. search needs)
+    (λ c. search needs)
     returns-2
-    same-length-3
+    (λ c. search needs)
     returns-3)

@@ -1,45 +1,52 @@
--- `feed_all` keeps room for one more report before each byte. The measure is what is left of the part. Assumes nothing.
+-- `feed_all` leaves the widget and the line as the whole part does, with room for one more report. The measure is what is left of the part:
+-- each walk goes on, since there is room. Assumes nothing.
 use mathlib.Core.Path.{_≡_}
 use Prim.Native.Nat.{_+_, _≤_, _-_}
 use native.Mathlib.Omega.{arith}
 use lib.ListN.{length}
 use borrow.Author.Needs.{needs}
-use Rattle.session.specs.Turned.{LARGEST}
+use Rattle.meaning.specs.Value.{chart-of}
+use Rattle.meaning.specs.Program.{turn}
+use Rattle.session.specs.Turned.{LARGEST, seen}
+use Rattle.session.proofs.WalkLaws.{walks-on}
+use Rattle.trace.proofs.Feeding.{Feeding, feeding-begins, feeding-on, feeding-done}
 use Rattle.trace.proofs.feed_all.Statement.{statement}
 use Rattle.trace.proofs.feed_all.Tie as tie
 
 abbrev Inv-loop : tie.InvT-loop
-Inv-loop chart bytes out₀ now₀ i₀ out now i = (i ≤ length bytes) × (length out ≡ length out₀) × (now .at + LARGEST ≤ length out)
+Inv-loop chart part out₀ now₀ i₀ out now i =
+    Feeding (turn (chart-of chart)) part (seen now₀) i (seen now) × (length out ≡ length out₀) × (now .at + LARGEST ≤ length out)
 
 abbrev μ-loop : tie.MeasureT-loop
-μ-loop chart bytes out₀ now₀ i₀ out now i = length bytes - i
+μ-loop chart part out₀ now₀ i₀ out now i = length part - i
 
 loop-holds : tie.Need-loop-holds Inv-loop μ-loop
-loop-holds c = search needs
-
-shared-slice-read-feed : tie.Need-shared-slice-read-feed Inv-loop μ-loop
-shared-slice-read-feed c = search needs
-
-feed-requires : tie.Need-feed-requires Inv-loop μ-loop
-feed-requires c κs = search needs
+loop-holds c = (feeding-begins _ _ _, search needs, search needs)
 
 with-room-requires : tie.Need-with-room-requires Inv-loop μ-loop
-with-room-requires c κs = let w = c .before .before .before .before .feed .ensures .whole (c .before .before .before .before .before .before .before .before .loop .inv .2) in let k : length (c .before .before .before .before .feed .last .1 .1 .1 .0) ≡ length (c .before .before .before .before .before .before .before .before .loop .out) = search needs in (omega arith, omega arith)
-
-add-i : tie.Need-add-i Inv-loop μ-loop
-add-i c = search needs
-
-loop-less : tie.Need-loop-less Inv-loop μ-loop
-loop-less c = search needs
+with-room-requires c κs =
+    let walk = c .before .before .before .before .before in
+    let top = walk .before .before .before in
+    let w = walk .walk .ensures .whole (omega (arith, top .loop .inv .2)) in
+    let k : length (walk .walk .last .1 .1 .1 .1 .0) ≡ length (top .loop .out) = search needs in
+    (omega arith, omega (arith, top .loop .inv .2))
 
 loop-again : tie.Need-loop-again Inv-loop μ-loop
-loop-again c = search needs
+loop-again c =
+    let walk = c .before .before .before .before .before .before in
+    let top = walk .before .before .before in
+    (feeding-on _ _ _ _ _ (top .loop .inv .0) _ _ _ _ (walk .walk .ensures), search needs, search needs)
 
-same-length : tie.Need-same-length Inv-loop μ-loop
-same-length c = search needs
+loop-less : tie.Need-loop-less Inv-loop μ-loop
+loop-less c =
+    let walk = c .before .before .before .before .before .before in
+    let test = walk .before .before in
+    let on = walks-on _ _ _ _ _ _ _ _ (walk .walk .ensures) (test .loop-test .taken) (test .before .loop .inv .2) in
+    let more = test .loop-test .taken in
+    omega arith
 
 returns : tie.Need-returns Inv-loop μ-loop
-returns c = search needs
+returns c = record { under = feeding-done _ _ _ _ _ (c .before .loop .inv .0) (c .loop-test .left); room = c .before .loop .inv .2 }
 
 pub feed-all-spec : {M : Type 1} → statement M
 feed-all-spec =
@@ -48,11 +55,9 @@ feed-all-spec =
     Inv-loop
     μ-loop
     loop-holds
-    shared-slice-read-feed
-    feed-requires
+    (λ c κs. search needs)
     with-room-requires
-    add-i
     loop-less
     loop-again
-    same-length
+    (λ c. search needs)
     returns)

@@ -13,45 +13,18 @@ Inv-loop chart out₀ now₀ parts₀ out now parts = (length out ≡ length out
 abbrev μ-loop : tie.MeasureT-loop
 μ-loop chart out₀ now₀ parts₀ out now parts = parts
 
-loop-holds : tie.Need-loop-holds Inv-loop μ-loop
-loop-holds c = search needs
-
-read-some-requires : tie.Need-read-some-requires Inv-loop μ-loop
-read-some-requires c κs = search needs
-
-sub-parts : tie.Need-sub-parts Inv-loop μ-loop
-sub-parts c = search needs
-
-loop-less : tie.Need-loop-less Inv-loop μ-loop
-loop-less c = search needs
-
-loop-again : tie.Need-loop-again Inv-loop μ-loop
-loop-again c = search needs
-
-same-length : tie.Need-same-length Inv-loop μ-loop
-same-length c = search needs
-
-returns : tie.Need-returns Inv-loop μ-loop
-returns c = search needs
-
-same-length-2 : tie.Need-same-length-2 Inv-loop μ-loop
-same-length-2 c = search needs
-
-returns-2 : tie.Need-returns-2 Inv-loop μ-loop
-returns-2 c = search needs
-
 pub read-all-spec : {M : Type 1} → statement M
 read-all-spec =
     tie.close
     (tie.spec
     Inv-loop
     μ-loop
-    loop-holds
-    read-some-requires
-    sub-parts
-    loop-less
-    loop-again
-    same-length
-    returns
-    same-length-2
-    returns-2)
+    (λ c. search needs)
+    (λ c κs. search needs)
+    (λ c. search needs)
+    (λ c. search needs)
+    (λ c. search needs)
+    (λ c. search needs)
+    (λ c. search needs)
+    (λ c. search needs)
+    (λ c. search needs))

@@ -6,35 +6,22 @@ use borrow.Author.Needs.{needs}
 use Rattle.trace.proofs.run_session.Statement.{statement}
 use Rattle.trace.proofs.run_session.Tie as tie
 
-empty-requires : tie.Need-empty-requires
-empty-requires c κs = search needs
-
-with-room-requires : tie.Need-with-room-requires
-with-room-requires c κs = search needs
-
-read-all-requires : tie.Need-read-all-requires
-read-all-requires c κs = search needs
-
-finish-requires : tie.Need-finish-requires
-finish-requires c κs = search needs
-
 print-requires : tie.Need-print-requires
-print-requires c κs = let w = c .before .before .before .finish .ensures .whole (c .before .before .before .before .before .before .before .read-all .ensures) in let k : length (c .before .before .before .finish .last .1 .1 .0) ≡ length (c .before .before .before .before .before .before .before .read-all .last .1 .1 .0) = search needs in omega (arith, c .before .before .before .before .before .before .before .read-all .ensures)
-
-same-length : tie.Need-same-length
-same-length c = search needs
-
-returns : tie.Need-returns
-returns c = search needs
+print-requires c κs =
+    let end = c .before .before .before in
+    let read = end .before .before .before .before in
+    let w = end .finish .ensures .whole (read .read-all .ensures) in
+    let k : length (end .finish .last .1 .1 .0) ≡ length (read .read-all .last .1 .1 .0) = search needs in
+    omega (arith, read .read-all .ensures)
 
 pub run-session-spec : {M : Type 1} → statement M
 run-session-spec =
     tie.close
     (tie.spec
-    empty-requires
-    with-room-requires
-    read-all-requires
-    finish-requires
+    (λ c κs. search needs)
+    (λ c κs. search needs)
+    (λ c κs. search needs)
+    (λ c κs. search needs)
     print-requires
-    same-length
-    returns)
+    (λ c. search needs)
+    (λ c. search needs))

@@ -12,7 +12,8 @@ use Rattle.widget.proofs.clear_from.Tie as tie
 
 abbrev Inv-loop : tie.InvT-loop
 Inv-loop trace₀ at i₀ trace i =
-    (at ≤ i) × (i ≤ length trace₀) × (trace ≡ take at trace₀ ++ (replicate (i - at) (pos 0) ++ drop i trace₀)) × (length trace ≡ length trace₀)
+    (at ≤ i) × (i ≤ length trace₀) × (trace ≡ take at trace₀ ++ (replicate (i - at) (pos 0) ++ drop i trace₀))
+    × (length trace ≡ length trace₀)
 
 abbrev μ-loop : tie.MeasureT-loop
 μ-loop trace₀ at i₀ trace i = length trace₀ - i
@@ -20,40 +21,22 @@ abbrev μ-loop : tie.MeasureT-loop
 loop-holds : tie.Need-loop-holds Inv-loop μ-loop
 loop-holds c = (omega arith, omega arith, zero-start (c .args .at) (c .args .trace .now), refl)
 
-mul-trace : tie.Need-mul-trace Inv-loop μ-loop
-mul-trace c = search needs
-
-slice-set-of-trace : tie.Need-slice-set-of-trace Inv-loop μ-loop
-slice-set-of-trace c = search needs
-
-add-i : tie.Need-add-i Inv-loop μ-loop
-add-i c = search needs
-
-loop-less : tie.Need-loop-less Inv-loop μ-loop
-loop-less c = search needs
-
 loop-again : tie.Need-loop-again Inv-loop μ-loop
 loop-again c =
-    let l = c .before .loop .inv in
-    (omega arith, omega arith, zero-more _ (c .before .before .args .trace .now) (c .before .before .args .at) (c .before .loop .i) (l .0) (omega arith) (l .2), search needs)
-
-same-length : tie.Need-same-length Inv-loop μ-loop
-same-length c = search needs
+    let l = c .before .loop .inv in (
+      omega arith,
+      omega arith,
+      zero-more _ (c .before .before .args .trace .now) (c .before .before .args .at) (c .before .loop .i)
+          (l .0) (omega arith) (l .2),
+      search needs,
+    )
 
 returns : tie.Need-returns Inv-loop μ-loop
-returns c = zero-all _ (c .before .before .args .trace .now) (c .before .before .args .at) (c .before .loop .i) (c .before .loop .inv .1) (omega arith) (c .before .loop .inv .2)
+returns c =
+    zero-all _ (c .before .before .args .trace .now) (c .before .before .args .at) (c .before .loop .i)
+    (c .before .loop .inv .1) (omega arith) (c .before .loop .inv .2)
 
 pub clear-from-spec : {M : Type 1} → statement M
 clear-from-spec =
-    tie.close
-    (tie.spec
-    Inv-loop
-    μ-loop
-    loop-holds
-    mul-trace
-    slice-set-of-trace
-    add-i
-    loop-less
-    loop-again
-    same-length
-    returns)
+    tie.close (tie.spec Inv-loop μ-loop loop-holds (λ c. search needs) (λ c. search needs) (λ c. search needs)
+    (λ c. search needs) loop-again (λ c. search needs) returns)

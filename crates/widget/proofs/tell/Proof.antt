@@ -5,14 +5,8 @@ use borrow.Author.Needs.{needs}
 use Rattle.widget.proofs.tell.Statement.{statement}
 use Rattle.widget.proofs.tell.Tie as tie
 
-emit-requires : tie.Need-emit-requires
-emit-requires c κs = search needs
-
-same-length : tie.Need-same-length
-same-length c = search needs
-
 returns : tie.Need-returns
-returns c = (search needs, λ active slots vars. told-on (rw (toZ-ofZ (c .before .before .before .fits .x)) at (c .before .emit .ensures)))
+returns c = (search needs, λ k. told-on (rw (toZ-ofZ (c .before .before .before .fits .x)) at (c .before .emit .ensures)))
 
 pub tell-spec : {M : Type 1} → statement M
-tell-spec = tie.close (tie.spec emit-requires same-length returns)
+tell-spec = tie.close (tie.spec (λ c κs. search needs) (λ c. search needs) returns)

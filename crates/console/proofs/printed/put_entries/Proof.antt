@@ -4,7 +4,7 @@ use Prim.Native.Nat.{_+_, _*_, _≤_, _-_}
 use native.Mathlib.Omega.{arith}
 use lib.ListN.{length}
 use borrow.Author.Needs.{needs}
-use Rattle.pen.specs.Pen.{pen, writes}
+use Rattle.pen.specs.Pen.{pen, put-all}
 use Rattle.console.specs.Shown.{LINE}
 use Rattle.console.proofs.ReportLaws.{from-entry, entries-done, entries-more}
 use Rattle.console.proofs.printed.put_entries.Statement.{statement}
@@ -12,7 +12,7 @@ use Rattle.console.proofs.printed.put_entries.Tie as tie
 
 abbrev Inv-loop : tie.InvT-loop
 Inv-loop out₀ at trace n p₀ k₀ out p k =
-    (k ≤ n) × (length out ≡ length out₀) × (at + LINE * n ≤ length out₀ → p ≤ at + LINE * k) × (writes (from-entry trace n k) (pen out p) ≡ writes (from-entry trace n 0) (pen out₀ at))
+    (k ≤ n) × (length out ≡ length out₀) × (at + LINE * n ≤ length out₀ → p ≤ at + LINE * k) × (put-all (from-entry trace n k) (pen out p) ≡ put-all (from-entry trace n 0) (pen out₀ at))
 
 abbrev μ-loop : tie.MeasureT-loop
 μ-loop out₀ at trace n p₀ k₀ out p k = n - k

@@ -2,52 +2,42 @@
 use native.Mathlib.Omega.{arith}
 use mir.Facts.{toZ-ofZ}
 use Rattle.chart.proofs.Rows.{states-most}
+use Rattle.widget.specs.View.{all-lent}
 use Rattle.moves.proofs.Arriving.{restored-stored, restored-default}
 use borrow.Author.Needs.{needs}
 use Rattle.moves.proofs.entering.restore.Statement.{statement}
 use Rattle.moves.proofs.entering.restore.Tie as tie
 
-state-count-requires : tie.Need-state-count-requires
-state-count-requires c κs = search needs
+abbrev enum-told-from-trace2 : tie.After-trace2 → tie.After-enum-told
+enum-told-from-trace2 c = c .before .before .before .before .before .before
+
+abbrev enum-told2-from-trace : tie.After-trace → tie.After-enum-told2
+enum-told2-from-trace c = c .before .before .before .before .before .before
+
+abbrev start-from-trace2 : tie.After-trace2 → tie.Start
+start-from-trace2 c = enum-told-from-trace2 c .before .before .before
 
 slot-of-requires : tie.Need-slot-of-requires
-slot-of-requires c κs = (omega (arith, states-most (c .before .args .chart .now)), c .before .pre .2 .long)
-
-enum-told : tie.Need-enum-told
-enum-told c = search needs
-
-enum-told-2 : tie.Need-enum-told-2
-enum-told-2 c = search needs
-
-by-slots-requires : tie.Need-by-slots-requires
-by-slots-requires c κs = search needs
-
-same-length : tie.Need-same-length
-same-length c = search needs
+slot-of-requires c κs = (omega (arith, states-most (c .args .chart .now)), c .pre .2 .long)
 
 returns : tie.Need-returns
-returns c = restored-stored _ _ _ (c .before .before .before .before .before .before .before .before .state-count .ensures) (c .before .before .before .before .before .before .before .slot-of .ensures) (c .before .before .before .before .before .enum-told2 .given .1) (rw (toZ-ofZ (c .before .before .before .before .before .before .before .before .before .fits .arg)) at (c .before .by-slots .ensures))
-
-by-defaults-requires : tie.Need-by-defaults-requires
-by-defaults-requires c κs = search needs
-
-same-length-2 : tie.Need-same-length-2
-same-length-2 c = search needs
+returns c =
+    restored-stored _ _ _ (enum-told2-from-trace c .before .before .slot-of .ensures)
+    (enum-told2-from-trace c .enum-told2 .given .1)
+    (rw (toZ-ofZ (enum-told2-from-trace c .before .before .before .fits .arg)) at
+    (c .before .by-slots .ensures))
 
 returns-2 : tie.Need-returns-2
-returns-2 c = restored-default _ _ _ (c .before .before .before .before .before .before .before .before .before .state-count .ensures) (c .before .before .before .before .before .before .before .before .slot-of .ensures) (c .before .before .before .before .before .before .enum-told .given .1) (rw (toZ-ofZ (c .before .before .before .before .before .before .before .before .before .before .fits .arg)) at (c .before .by-defaults .ensures .1 (c .before .before .before .before .before .before .before .before .before .before .args .slots .now)))
+returns-2 c =
+    restored-default _ _ _ (enum-told-from-trace2 c .before .before .slot-of .ensures)
+    (enum-told-from-trace2 c .enum-told .given .1)
+    (rw (toZ-ofZ (start-from-trace2 c .fits .arg)) at
+    (c .before .by-defaults .ensures .1
+    (all-lent (start-from-trace2 c .args .active .now) (start-from-trace2 c .args .slots .now)
+    (start-from-trace2 c .args .vars .now) (start-from-trace2 c .args .queue .now)
+    (start-from-trace2 c .args .trace .now))))
 
 pub restore-spec : {M : Type 1} → statement M
 restore-spec =
-    tie.close
-    (tie.spec
-    state-count-requires
-    slot-of-requires
-    enum-told
-    enum-told-2
-    by-slots-requires
-    same-length
-    returns
-    by-defaults-requires
-    same-length-2
-    returns-2)
+    tie.close (tie.spec slot-of-requires (λ c. search needs) (λ c. search needs) (λ c κs. search needs)
+    (λ c. search needs) returns (λ c κs. search needs) (λ c. search needs) returns-2)

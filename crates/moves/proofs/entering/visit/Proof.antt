@@ -5,47 +5,40 @@ use borrow.Author.Needs.{needs}
 use Rattle.moves.proofs.entering.visit.Statement.{statement}
 use Rattle.moves.proofs.entering.visit.Tie as tie
 
-by-default-requires : tie.Need-by-default-requires
-by-default-requires c κs = search needs
+abbrev else2-from-trace3 : tie.After-trace3 → tie.Else2
+else2-from-trace3 c = c .before .before .before .before .before .before
 
-enter-requires : tie.Need-enter-requires
-enter-requires c κs = search needs
+abbrev then1-from-trace : tie.After-trace → tie.Then1
+then1-from-trace c = c .before .before .before .before .before .before
 
-same-length : tie.Need-same-length
-same-length c = search needs
+abbrev else1-from-then2 : tie.Then2 → tie.Else1
+else1-from-then2 c = c .before .before .before .before .before .before .before
+
+abbrev else1-from-trace3 : tie.After-trace3 → tie.Else1
+else1-from-trace3 c = else2-from-trace3 c .before .before .before .before .before .before .before
+
+abbrev start-from-trace3 : tie.After-trace3 → tie.Start
+start-from-trace3 c = else1-from-trace3 c .before .before
 
 returns : tie.Need-returns
-returns c = visited-plain _ _ _ _ (c .before .before .before .before .before .before .by-default .ensures) (c .before .before .before .before .before .if1 .taken) (rw (toZ-ofZ (c .before .before .before .before .before .before .before .before .fits .arg)) at (c .before .enter .ensures))
-
-perform-all-requires : tie.Need-perform-all-requires
-perform-all-requires c κs = search needs
-
-same-length-2 : tie.Need-same-length-2
-same-length-2 c = search needs
+returns c =
+    visited-plain _ _ _ _ (then1-from-trace c .before .by-default .ensures) (then1-from-trace c .if1 .taken)
+    (rw (toZ-ofZ (then1-from-trace c .before .before .fits .arg)) at (c .before .enter .ensures))
 
 returns-2 : tie.Need-returns-2
-returns-2 c = visited-stop _ _ _ _ (c .before .before .before .before .before .before .before .by-default .ensures) (c .before .before .before .before .before .before .if1 .left) (rw (toZ-ofZ (c .before .before .before .before .before .before .before .before .before .fits .arg)) at (c .before .before .before .perform-all .ensures)) (c .if2 .taken)
-
-enter-requires-2 : tie.Need-enter-requires-2
-enter-requires-2 c κs = search needs
-
-same-length-3 : tie.Need-same-length-3
-same-length-3 c = search needs
+returns-2 c =
+    visited-stop _ _ _ _ (else1-from-then2 c .before .by-default .ensures) (else1-from-then2 c .if1 .left)
+    (rw (toZ-ofZ (else1-from-then2 c .before .before .fits .arg)) at
+    (c .before .before .before .perform-all .ensures)) (c .if2 .taken)
 
 returns-3 : tie.Need-returns-3
-returns-3 c = visited-on _ _ _ _ (c .before .before .before .before .before .before .before .before .before .before .before .before .before .by-default .ensures) (c .before .before .before .before .before .before .before .before .before .before .before .before .if1 .left) (rw (toZ-ofZ (c .before .before .before .before .before .before .before .before .before .before .before .before .before .before .before .fits .arg)) at (c .before .before .before .before .before .before .before .before .before .perform-all .ensures)) (c .before .before .before .before .before .before .if2 .left) (rw (toZ-ofZ (c .before .before .before .before .before .before .before .before .before .before .before .before .before .before .before .fits .arg)) at (c .before .enter2 .ensures))
+returns-3 c =
+    visited-on _ _ _ _ (else1-from-trace3 c .before .by-default .ensures) (else1-from-trace3 c .if1 .left)
+    (rw (toZ-ofZ (start-from-trace3 c .fits .arg)) at
+    (else2-from-trace3 c .before .before .before .perform-all .ensures)) (else2-from-trace3 c .if2 .left)
+    (rw (toZ-ofZ (start-from-trace3 c .fits .arg)) at (c .before .enter2 .ensures))
 
 pub visit-spec : {M : Type 1} → statement M
 visit-spec =
-    tie.close
-    (tie.spec
-    by-default-requires
-    enter-requires
-    same-length
-    returns
-    perform-all-requires
-    same-length-2
-    returns-2
-    enter-requires-2
-    same-length-3
-    returns-3)
+    tie.close (tie.spec (λ c κs. search needs) (λ c κs. search needs) (λ c. search needs) returns
+    (λ c κs. search needs) (λ c. search needs) returns-2 (λ c κs. search needs) (λ c. search needs) returns-3)

@@ -11,18 +11,15 @@ returns : tie.Need-returns
 unfolding appended
 returns c = rw (le-ltb (c .before .args .self .len) QUEUE (c .if1 .taken))
 
-add-end : tie.Need-add-end
-add-end c = search needs
-
-mul-t9 : tie.Need-mul-t9
-mul-t9 c = search needs
-
-element-set-from-next : tie.Need-element-set-from-next
-element-set-from-next c = search needs
-
 returns-2 : tie.Need-returns-2
 unfolding appended
-returns-2 c = rw (lt-ltb (c .before .args .self .len) QUEUE (c .if1 .left), toZ-ofZ (c .before .fits .event), toZ-ofZ (c .before .fits .arg))
+returns-2 c =
+    rw (
+      lt-ltb (c .before .args .self .len) QUEUE (c .if1 .left),
+      toZ-ofZ (c .before .fits .event),
+      toZ-ofZ (c .before .fits .arg),
+    )
 
 pub append-spec : {M : Type 1} → statement M
-append-spec = tie.close (tie.spec returns add-end mul-t9 element-set-from-next returns-2)
+append-spec =
+    tie.close (tie.spec returns (λ c. search needs) (λ c. search needs) (λ c. search needs) returns-2)

@@ -4,38 +4,19 @@ use Rattle.reaction.proofs.Ending.{ends-no, ends-on}
 use borrow.Author.Needs.{needs}
 use Rattle.reaction.proofs.ends.finish.Statement.{statement}
 use Rattle.reaction.proofs.ends.finish.Tie as tie
-use Rattle.reaction.proofs.ends.finish.Reads as reads
-use Rattle.reaction.proofs.ends.finish.Lts as lts
-use Rattle.reaction.proofs.ends.refuse.Reads as refuse-reads
-use Rattle.widget.proofs.clear_from.Reads as clear-from-reads
 
--- src/ends.rt:41:9
-refuse-requires : tie.Need-refuse-requires
-refuse-requires c κs = search needs
+abbrev else1-from-held : tie.After-held → tie.Else1
+else1-from-held c = c .before .before .before .before .before
 
--- src/ends.rt:41:9
-same-length : tie.Need-same-length
-same-length c = search needs
-
--- src/ends.rt:41:9
 returns : tie.Need-returns
-returns c = ends-no _ _ _ _ _ _ _ _ (c .before .before .before .if1 .taken) (c .before .refuse .ensures)
+returns c = ends-no _ _ _ _ _ (c .before .before .before .if1 .taken) (c .before .refuse .ensures)
 
--- src/ends.rt:44:5
-clear-from-requires : tie.Need-clear-from-requires
-clear-from-requires c κs = search needs
-
--- src/ends.rt:29:1
-same-length-2 : tie.Need-same-length-2
-same-length-2 c = search needs
-
--- src/ends.rt:29:1
 returns-2 : tie.Need-returns-2
 returns-2 c =
-    let k = c .before .before .before .before in
-    ends-on _ _ _ _ _ _ _ _ (k .if1 .left) (k .before .before .pre) refl (c .before .before .clear-from .ensures)
+    ends-on _ _ _ _ _ (else1-from-held c .if1 .left) (else1-from-held c .before .before .pre) _
+    (c .held .ensures) refl (c .before .before .before .clear-from .ensures)
 
 pub finish-spec : {M : Type 1} → statement M
 finish-spec =
-    tie.close
-    (tie.spec refuse-requires same-length returns clear-from-requires same-length-2 returns-2)
+    tie.close (tie.spec (λ c κs. search needs) (λ c. search needs) returns (λ c κs. search needs)
+    (λ c κs. search needs) (λ c. search needs) returns-2)

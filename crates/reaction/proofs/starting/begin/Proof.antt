@@ -1,59 +1,82 @@
 -- `begin` enters the root, goes down by defaults and settles. Assumes nothing.
 use borrow.Author.Needs.{needs}
 use Rattle.meaning.specs.Calls.{start-steps}
+use Rattle.widget.specs.View.{Lent, all-lent}
 use Rattle.widget.proofs.Going.{then-on, then-stop}
 use Rattle.reaction.proofs.Going.{ready-next}
-use Rattle.reaction.proofs.StartLaws.{root-inside, root-good, defaults-good, all-of}
+use Rattle.reaction.proofs.StartLaws.{root-inside, root-good, defaults-good}
 use Rattle.reaction.proofs.starting.begin.Statement.{statement}
 use Rattle.reaction.proofs.starting.begin.Tie as tie
 
-enter-requires : tie.Need-enter-requires
-enter-requires c κs = (c .before .before .before .pre .ruled, search needs, search needs)
+-- what is lent when it begins
+abbrev at-start : tie.Start → Lent
+at-start c = all-lent (c .args .active .now) (c .args .slots .now) (c .args .vars .now) (c .args .queue .now) (c .args .trace .now)
 
-same-length : tie.Need-same-length
-same-length c = search needs
+abbrev else2-from-settle-arg5 : tie.After-settle-arg5 → tie.Else2
+else2-from-settle-arg5 c = c .before .before .before .before .before
+
+abbrev else1-from-then2 : tie.Then2 → tie.Else1
+else1-from-then2 c = c .before .before .before .before .before .before .before .before
+
+abbrev start-from-by-defaults-arg4 : tie.After-by-defaults-arg4 → tie.Start
+start-from-by-defaults-arg4 c = c .before .before .before .before .before .before .before .before .before .before .before .before
+
+abbrev else1-from-settle-arg5 : tie.After-settle-arg5 → tie.Else1
+else1-from-settle-arg5 c = else2-from-settle-arg5 c .before .before .before .before .before .before .before .before
+
+abbrev start-from-then2 : tie.Then2 → tie.Start
+start-from-then2 c = start-from-by-defaults-arg4 (c .before .before .before .before)
+
+abbrev start-from-settle-arg5 : tie.After-settle-arg5 → tie.Start
+start-from-settle-arg5 c = else1-from-settle-arg5 c .before .before .before .before .before .before .before .before
+
+abbrev start-from-trace3 : tie.After-trace3 → tie.Start
+start-from-trace3 c = start-from-settle-arg5 (c .before .before)
+
+enter-requires : tie.Need-enter-requires
+enter-requires c κs = (c .before .before .before .before .pre .ruled, search needs, search needs)
 
 returns : tie.Need-returns
 unfolding start-steps
-returns c = then-stop _ (c .before .before .before .enter .ensures .1 (c .before .before .before .before .before .before .before .args .slots .now)) (c .if1 .taken)
-
-state-count-requires : tie.Need-state-count-requires
-state-count-requires c κs = search needs
+returns c =
+    then-stop _ (c .before .before .before .enter .ensures .1
+    (at-start (c .before .before .before .before .before .before .before .before))) (c .if1 .taken)
 
 by-defaults-requires : tie.Need-by-defaults-requires
-by-defaults-requires c κs = (c .before .before .before .before .before .before .before .before .before .before .before .before .pre .ruled, root-inside _ (c .before .before .before .before .before .before .before .before .before .before .before .before .pre .ruled), c .before .before .before .before .before .before .before .before .enter .ensures .0 .fits)
-
-same-length-2 : tie.Need-same-length-2
-same-length-2 c = search needs
+by-defaults-requires c κs = (
+  start-from-by-defaults-arg4 c .pre .ruled,
+  root-inside _ (start-from-by-defaults-arg4 c .pre .ruled),
+  c .before .before .before .before .before .before .before .enter .ensures .0 .fits,
+)
 
 returns-2 : tie.Need-returns-2
 unfolding start-steps
-returns-2 c = then-on (c .before .before .before .before .before .before .before .before .before .before .before .before .enter .ensures .1 (c .before .before .before .before .before .before .before .before .before .before .before .before .before .before .before .before .args .slots .now)) (c .before .before .before .before .before .before .before .before .before .if1 .left) (then-stop _ (all-of _ _ (c .before .before .before .before .before .before .before .before .state-count .ensures) (c .before .before .before .by-defaults .ensures .1 (c .before .before .before .before .before .before .before .before .before .before .before .before .before .before .before .before .args .slots .now))) (c .if2 .taken))
+returns-2 c =
+    then-on (else1-from-then2 c .before .before .before .enter .ensures .1 (at-start (start-from-then2 c)))
+    (else1-from-then2 c .if1 .left)
+    (then-stop _ (c .before .before .before .by-defaults .ensures .1 (at-start (start-from-then2 c)))
+    (c .if2 .taken))
 
 settle-requires : tie.Need-settle-requires
 settle-requires c κs =
-    let h = c .before .before .before .before .before .before .before .before .before .before .before .before .before .before .before .before .before .before .before .before .before .pre in
-    ready-next _ (defaults-good _ (h .ruled)) (all-of _ _ (c .before .before .before .before .before .before .before .before .before .before .before .before .before .state-count .ensures) (c .before .before .before .before .before .before .before .before .by-defaults .ensures .1 (c .before .before .before .before .before .before .before .before .before .before .before .before .before .before .before .before .before .before .before .before .before .args .slots .now))) (c .before .before .before .before .before .if2 .left)
-    (ready-next _ (root-good _ (h .ruled)) (c .before .before .before .before .before .before .before .before .before .before .before .before .before .before .before .before .before .enter .ensures .1 (c .before .before .before .before .before .before .before .before .before .before .before .before .before .before .before .before .before .before .before .before .before .args .slots .now)) (c .before .before .before .before .before .before .before .before .before .before .before .before .before .before .if1 .left) h)
-
-same-length-3 : tie.Need-same-length-3
-same-length-3 c = search needs
+    let h = start-from-settle-arg5 c .pre in
+    ready-next _ (defaults-good _ (h .ruled))
+    (else2-from-settle-arg5 c .before .before .before .by-defaults .ensures .1
+    (at-start (start-from-settle-arg5 c))) (else2-from-settle-arg5 c .if2 .left)
+    (ready-next _ (root-good _ (h .ruled))
+    (else1-from-settle-arg5 c .before .before .before .enter .ensures .1 (at-start (start-from-settle-arg5 c)))
+    (else1-from-settle-arg5 c .if1 .left) h)
 
 returns-3 : tie.Need-returns-3
 unfolding start-steps
-returns-3 c = then-on (c .before .before .before .before .before .before .before .before .before .before .before .before .before .before .before .before .before .before .before .enter .ensures .1 (c .before .before .before .before .before .before .before .before .before .before .before .before .before .before .before .before .before .before .before .before .before .before .before .args .slots .now)) (c .before .before .before .before .before .before .before .before .before .before .before .before .before .before .before .before .if1 .left) (then-on (all-of _ _ (c .before .before .before .before .before .before .before .before .before .before .before .before .before .before .before .state-count .ensures) (c .before .before .before .before .before .before .before .before .before .before .by-defaults .ensures .1 (c .before .before .before .before .before .before .before .before .before .before .before .before .before .before .before .before .before .before .before .before .before .before .before .args .slots .now))) (c .before .before .before .before .before .before .before .if2 .left) (c .before .settle .ensures))
+returns-3 c =
+    then-on (else1-from-settle-arg5 (c .before .before) .before .before .before .enter .ensures .1
+    (at-start (start-from-trace3 c))) (else1-from-settle-arg5 (c .before .before) .if1 .left)
+    (then-on (else2-from-settle-arg5 (c .before .before) .before .before .before .by-defaults .ensures .1
+    (at-start (start-from-trace3 c))) (else2-from-settle-arg5 (c .before .before) .if2 .left)
+    (c .before .settle .ensures))
 
 pub begin-spec : {M : Type 1} → statement M
 begin-spec =
-    tie.close
-    (tie.spec
-    enter-requires
-    same-length
-    returns
-    state-count-requires
-    by-defaults-requires
-    same-length-2
-    returns-2
-    settle-requires
-    same-length-3
-    returns-3)
+    tie.close (tie.spec enter-requires (λ c. search needs) returns by-defaults-requires (λ c. search needs)
+    returns-2 settle-requires (λ c. search needs) returns-3)

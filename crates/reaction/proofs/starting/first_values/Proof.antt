@@ -1,5 +1,5 @@
 -- `first_values` copies the first value of each row onto zeros. Assumes nothing.
-use mathlib.Core.Path.{_≡_, refl, sym, ap, _∙_}
+use mathlib.Core.Path.{_≡_, refl, ap, _∙_}
 use Prim.Native.Nat.{_-_, _≤_}
 use native.Mathlib.Omega.{arith}
 use borrow.Author.Needs.{needs}
@@ -19,49 +19,32 @@ Inv-loop chart vars₀ n v₀ vars v = (v ≤ n) × (vars ≡ copied zeros (firs
 abbrev μ-loop : tie.MeasureT-loop
 μ-loop chart vars₀ n v₀ vars v = n - v
 
-var-count-requires : tie.Need-var-count-requires Inv-loop μ-loop
-var-count-requires c κs = search needs
+abbrev start-from-struct-told : tie.After-struct-told Inv-loop μ-loop → tie.Start Inv-loop μ-loop
+start-from-struct-told c = c .before .before .before .before .before
 
 loop-holds : tie.Need-loop-holds Inv-loop μ-loop
 loop-holds c = (omega arith, refl)
 
-var-row-requires : tie.Need-var-row-requires Inv-loop μ-loop
-var-row-requires c κs = search needs
-
 mul-vars : tie.Need-mul-vars Inv-loop μ-loop
-mul-vars c = omega (arith, sized _ (c .before .before .before .before .before .pre) .vars)
+mul-vars c = omega (arith, sized _ (start-from-struct-told c .pre) .vars)
 
 array-set-from-vars : tie.Need-array-set-from-vars Inv-loop μ-loop
-array-set-from-vars c = omega (arith, sized _ (c .before .before .before .before .before .pre) .vars)
-
-add-v : tie.Need-add-v Inv-loop μ-loop
-add-v c = omega arith
-
-loop-less : tie.Need-loop-less Inv-loop μ-loop
-loop-less c = omega arith
+array-set-from-vars c = omega (arith, sized _ (start-from-struct-told c .pre) .vars)
 
 loop-again : tie.Need-loop-again Inv-loop μ-loop
 loop-again c =
     let w = c .before .before .before .loop in
     let r = c .before .var-row in
-    let f : SFits w32 (r .result .first) = search needs in
-    (omega arith, filled-more _ (w .vars) (w .v) _ (w .inv .1) (omega arith) (sized _ (c .before .before .before .before .before .pre) .vars) (toZ-ofZ f ∙ ap (λ x. x .first) (r .ensures)))
+    let f : SFits w32 (r .result .first) = search needs in (
+      omega arith,
+      filled-more _ (w .vars) (w .v) _ (w .inv .1) (omega arith)
+          (sized _ (start-from-struct-told c .pre) .vars) (toZ-ofZ f ∙ ap (λ x. x .first) (r .ensures)),
+    )
 
 returns : tie.Need-returns Inv-loop μ-loop
 returns c = filled-all _ _ (c .before .loop .v) (c .before .loop .inv .1) (omega arith)
 
 pub first-values-spec : {M : Type 1} → statement M
 first-values-spec =
-    tie.close
-    (tie.spec
-    Inv-loop
-    μ-loop
-    var-count-requires
-    loop-holds
-    var-row-requires
-    mul-vars
-    array-set-from-vars
-    add-v
-    loop-less
-    loop-again
-    returns)
+    tie.close (tie.spec Inv-loop μ-loop (λ c κs. search needs) loop-holds (λ c κs. search needs) mul-vars
+    array-set-from-vars (λ c. omega arith) (λ c. omega arith) loop-again returns)

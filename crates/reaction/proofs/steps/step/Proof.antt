@@ -5,17 +5,23 @@ use Rattle.reaction.proofs.Settling.{step-here, chose-fires}
 use Rattle.reaction.proofs.steps.step.Statement.{statement}
 use Rattle.reaction.proofs.steps.step.Tie as tie
 
+abbrev choose-from-fire-all-arg5 : tie.After-fire-all-arg5 → tie.After-choose
+choose-from-fire-all-arg5 c = c .before .before .before .before .before
+
 choose-requires : tie.Need-choose-requires
 choose-requires c κs = c .before .before .pre .ruled
 
 fire-all-requires : tie.Need-fire-all-requires
-fire-all-requires c κs = (c .before .before .before .before .before .before .before .pre, chose-fires (c .before .before .before .before .choose .ensures))
-
-same-length : tie.Need-same-length
-same-length c = search needs
+fire-all-requires c κs = (
+  choose-from-fire-all-arg5 c .before .before .before .pre,
+  chose-fires (choose-from-fire-all-arg5 c .choose .ensures),
+)
 
 returns : tie.Need-returns
-returns c = rw (toZ-ofZ (c .before .before .before .before .before .before .before .before .before .fits .arg)) at (step-here (c .before .before .before .before .before .before .choose .ensures) _ (c .before .fire-all .ensures))
+returns c =
+    rw (toZ-ofZ (choose-from-fire-all-arg5 (c .before .before) .before .before .before .fits .arg)) at
+    (step-here _ (choose-from-fire-all-arg5 (c .before .before) .choose .ensures) _
+    (c .before .fire-all .ensures))
 
 pub step-spec : {M : Type 1} → statement M
-step-spec = tie.close (tie.spec choose-requires fire-all-requires same-length returns)
+step-spec = tie.close (tie.spec choose-requires fire-all-requires (λ c. search needs) returns)

@@ -6,15 +6,9 @@ use borrow.Author.Needs.{needs}
 use Rattle.reader.proofs.order.counted.Statement.{statement}
 use Rattle.reader.proofs.order.counted.Tie as tie
 
-add-n : tie.Need-add-n
-add-n c = search needs
-
 returns : tie.Need-returns
 unfolding turns-after
 returns c = counts _ _ _ _ (is-s (c .before .if1 .taken)) refl
-
-add-n-2 : tie.Need-add-n-2
-add-n-2 c = search needs
 
 returns-2 : tie.Need-returns-2
 unfolding turns-after
@@ -24,15 +18,9 @@ returns-3 : tie.Need-returns-3
 unfolding turns-after
 returns-3 c = counts _ _ _ _ (is-e (c .if3 .taken)) refl
 
-add-n-3 : tie.Need-add-n-3
-add-n-3 c = search needs
-
 returns-4 : tie.Need-returns-4
 unfolding turns-after
 returns-4 c = counts _ _ _ _ (is-t (c .before .if4 .taken)) refl
-
-add-n-4 : tie.Need-add-n-4
-add-n-4 c = search needs
 
 returns-5 : tie.Need-returns-5
 unfolding turns-after
@@ -40,19 +28,12 @@ returns-5 c = counts _ _ _ _ (is-a (c .before .if5 .taken)) refl
 
 returns-6 : tie.Need-returns-6
 unfolding turns-after
-returns-6 c = counts _ _ _ _ (is-none (c .before .before .before .before .if1 .left) (c .before .before .before .if2 .left) (c .before .before .if3 .left) (c .before .if4 .left) (c .if5 .left)) refl
+returns-6 c =
+    counts _ _ _ _ (is-none (c .before .before .before .before .if1 .left)
+    (c .before .before .before .if2 .left) (c .before .before .if3 .left) (c .before .if4 .left)
+    (c .if5 .left)) refl
 
 pub counted-spec : {M : Type 1} → statement M
 counted-spec =
-    tie.close
-    (tie.spec
-    add-n
-    returns
-    add-n-2
-    returns-2
-    returns-3
-    add-n-3
-    returns-4
-    add-n-4
-    returns-5
-    returns-6)
+    tie.close (tie.spec (λ c. search needs) returns (λ c. search needs) returns-2 returns-3
+    (λ c. search needs) returns-4 (λ c. search needs) returns-5 returns-6)

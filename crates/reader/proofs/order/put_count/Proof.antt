@@ -7,21 +7,12 @@ use Rattle.reader.proofs.order.put_count.Tie as tie
 returns : tie.Need-returns
 returns c = count-none _ _ _ (c .if1 .taken)
 
-number-requires : tie.Need-number-requires
-number-requires c κs = search needs
-
-mul-z : tie.Need-mul-z
-mul-z c = search needs
-
-slice-set-from-z : tie.Need-slice-set-from-z
-slice-set-from-z c = search needs
-
-same-length : tie.Need-same-length
-same-length c = search needs
-
 returns-2 : tie.Need-returns-2
-returns-2 c = count-set (c .before .before .args .chart .now) (c .before .before .args .at) _ _ (c .number .ensures) (c .before .before .pre)
+returns-2 c =
+    count-set (c .before .before .args .chart .now) (c .before .before .args .at) _ _ (c .number .ensures)
+    (c .before .before .pre)
 
 pub put-count-spec : {M : Type 1} → statement M
 put-count-spec =
-    tie.close (tie.spec returns number-requires mul-z slice-set-from-z same-length returns-2)
+    tie.close (tie.spec returns (λ c κs. search needs) (λ c. search needs) (λ c. search needs)
+    (λ c. search needs) returns-2)

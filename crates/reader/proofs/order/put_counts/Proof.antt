@@ -4,31 +4,17 @@ use borrow.Author.Needs.{needs}
 use Rattle.reader.proofs.order.put_counts.Statement.{statement}
 use Rattle.reader.proofs.order.put_counts.Tie as tie
 
-put-count-requires : tie.Need-put-count-requires
-put-count-requires c κs = search needs
-
-put-count-requires-2 : tie.Need-put-count-requires-2
-put-count-requires-2 c κs = search needs
-
-put-count-requires-3 : tie.Need-put-count-requires-3
-put-count-requires-3 c κs = search needs
-
-put-count-requires-4 : tie.Need-put-count-requires-4
-put-count-requires-4 c κs = search needs
-
-same-length : tie.Need-same-length
-same-length c = search needs
+abbrev put-count3-from-chart4 : tie.After-chart4 → tie.After-put-count3
+put-count3-from-chart4 c = c .before .before .before .before
 
 returns : tie.Need-returns
-returns c = counts-set _ _ _ _ _ _ (c .before .before .before .before .before .before .before .before .before .before .put-count .ensures) (c .before .before .before .before .before .before .before .put-count2 .ensures) (c .before .before .before .before .put-count3 .ensures) (c .before .put-count4 .ensures)
+returns c =
+    counts-set _ _ _ _ _ _
+    (put-count3-from-chart4 c .before .before .before .before .before .before .put-count .ensures)
+    (put-count3-from-chart4 c .before .before .before .put-count2 .ensures)
+    (put-count3-from-chart4 c .put-count3 .ensures) (c .before .put-count4 .ensures)
 
 pub put-counts-spec : {M : Type 1} → statement M
 put-counts-spec =
-    tie.close
-    (tie.spec
-    put-count-requires
-    put-count-requires-2
-    put-count-requires-3
-    put-count-requires-4
-    same-length
-    returns)
+    tie.close (tie.spec (λ c κs. search needs) (λ c κs. search needs) (λ c κs. search needs)
+    (λ c κs. search needs) (λ c. search needs) returns)

@@ -17,44 +17,18 @@ Inv-loop chart₀ i₀ chart i = (i ≤ length chart₀) × (chart ≡ replicate
 abbrev μ-loop : tie.MeasureT-loop
 μ-loop chart₀ i₀ chart i = length chart₀ - i
 
-loop-holds : tie.Need-loop-holds Inv-loop μ-loop
-loop-holds c = search needs
-
-mul-chart : tie.Need-mul-chart Inv-loop μ-loop
-mul-chart c = search needs
-
-slice-set-of-chart : tie.Need-slice-set-of-chart Inv-loop μ-loop
-slice-set-of-chart c = search needs
-
-add-i : tie.Need-add-i Inv-loop μ-loop
-add-i c = search needs
-
-loop-less : tie.Need-loop-less Inv-loop μ-loop
-loop-less c = search needs
-
 loop-again : tie.Need-loop-again Inv-loop μ-loop
 loop-again c =
     let l = c .before .loop .inv in
     (omega arith, fill-step (pos 0) _ (c .before .before .args .chart .now) (c .before .loop .i) (l .1) (omega arith), search needs)
 
-same-length : tie.Need-same-length Inv-loop μ-loop
-same-length c = search needs
-
 returns : tie.Need-returns Inv-loop μ-loop
 unfolding zeros
-returns c = fill-all (pos 0) _ (c .before .before .args .chart .now) (c .before .loop .i) (c .before .loop .inv .1) (omega arith) (omega arith)
+returns c =
+    fill-all (pos 0) _ (c .before .before .args .chart .now) (c .before .loop .i) (c .before .loop .inv .1)
+    (omega arith) (omega arith)
 
 pub clear-spec : {M : Type 1} → statement M
 clear-spec =
-    tie.close
-    (tie.spec
-    Inv-loop
-    μ-loop
-    loop-holds
-    mul-chart
-    slice-set-of-chart
-    add-i
-    loop-less
-    loop-again
-    same-length
-    returns)
+    tie.close (tie.spec Inv-loop μ-loop (λ c. search needs) (λ c. search needs) (λ c. search needs)
+    (λ c. search needs) (λ c. search needs) loop-again (λ c. search needs) returns)

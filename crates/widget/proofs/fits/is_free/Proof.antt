@@ -8,20 +8,22 @@ use borrow.Author.Needs.{needs}
 use Rattle.widget.proofs.fits.is_free.Statement.{statement}
 use Rattle.widget.proofs.fits.is_free.Tie as tie
 
-same-requires : tie.Need-same-requires
-same-requires c κs = search needs
+abbrev start-from-else1 : tie.Else1 → tie.Start
+start-from-else1 c = c .before .before .before
 
-same-requires-2 : tie.Need-same-requires-2
-same-requires-2 c κs = search needs
+abbrev start-from-same2 : tie.After-same2 → tie.Start
+start-from-same2 c = c .before .before .before .before .before
 
 returns : tie.Need-returns
-returns c = let fe : SFits w32 (c .before .before .before .before .before .args .item .event) = search needs in
-    let fa : SFits w32 (c .before .before .before .before .before .args .item .arg) = search needs in
-    (rw (toZ-ofZ fa) at (c .same2 .ensures)) ∙ free-event (c .before .before .before .before .before .args .item) (sym (rw (toZ-ofZ fe) at (c .before .before .before .same .ensures)) ∙ c .before .before .if1 .taken)
+returns c =
+    let fe : SFits w32 (start-from-same2 c .args .item .event) = search needs in
+    let fa : SFits w32 (start-from-same2 c .args .item .arg) = search needs in
+    (rw (toZ-ofZ fa) at (c .same2 .ensures)) ∙ free-event (start-from-same2 c .args .item)
+    (sym (rw (toZ-ofZ fe) at (c .before .before .before .same .ensures)) ∙ c .before .before .if1 .taken)
 
 returns-2 : tie.Need-returns-2
-returns-2 c = let fe : SFits w32 (c .before .before .before .args .item .event) = search needs in
-    free-not (c .before .before .before .args .item) (sym (rw (toZ-ofZ fe) at (c .before .same .ensures)) ∙ c .if1 .left)
+returns-2 c = let fe : SFits w32 (start-from-else1 c .args .item .event) = search needs in
+    free-not (start-from-else1 c .args .item) (sym (rw (toZ-ofZ fe) at (c .before .same .ensures)) ∙ c .if1 .left)
 
 pub is-free-spec : {M : Type 1} → statement M
-is-free-spec = tie.close (tie.spec same-requires same-requires-2 returns returns-2)
+is-free-spec = tie.close (tie.spec (λ c κs. search needs) (λ c κs. search needs) returns returns-2)

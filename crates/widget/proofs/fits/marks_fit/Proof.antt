@@ -21,37 +21,28 @@ abbrev μ-loop : tie.MeasureT-loop
 long : (c : tie.Start Inv-loop μ-loop) → length (c .args .t2) ≡ STATES
 long c = search needs
 
-loop-holds : tie.Need-loop-holds Inv-loop μ-loop
-loop-holds c = refl
+abbrev start-from-else1 : tie.Else1 Inv-loop μ-loop → tie.Start Inv-loop μ-loop
+start-from-else1 c = c .before .before .before
 
-array-read-if1 : tie.Need-array-read-if1 Inv-loop μ-loop
-array-read-if1 c = search needs
+abbrev start-from-then1 : tie.Then1 Inv-loop μ-loop → tie.Start Inv-loop μ-loop
+start-from-then1 c = c .before .before .before
 
 returns : tie.Need-returns Inv-loop μ-loop
-returns c = every-no not (c .before .before .before .args .t2) (c .before .before .loop .i) false (c .before .before .loop .inv) (omega (arith, long (c .before .before .before))) (ap not (c .if1 .taken))
-
-add-i : tie.Need-add-i Inv-loop μ-loop
-add-i c = search needs
-
-loop-less : tie.Need-loop-less Inv-loop μ-loop
-loop-less c = search needs
+returns c =
+    every-no not (start-from-then1 c .args .t2) (c .before .before .loop .i) false
+    (c .before .before .loop .inv) (omega (arith, long (start-from-then1 c))) (ap not (c .if1 .taken))
 
 loop-again : tie.Need-loop-again Inv-loop μ-loop
-loop-again c = every-more not (c .before .before .before .args .t2) (c .before .before .loop .i) false (c .before .before .loop .inv) (omega (arith, long (c .before .before .before))) (ap not (c .if1 .left))
+loop-again c =
+    every-more not (start-from-else1 c .args .t2) (c .before .before .loop .i) false
+    (c .before .before .loop .inv) (omega (arith, long (start-from-else1 c))) (ap not (c .if1 .left))
 
 returns-2 : tie.Need-returns-2 Inv-loop μ-loop
-returns-2 c = every-done not (c .before .before .args .t2) (c .before .loop .i) (c .before .loop .inv) (omega (arith, long (c .before .before)))
+returns-2 c =
+    every-done not (c .before .before .args .t2) (c .before .loop .i) (c .before .loop .inv)
+    (omega (arith, long (c .before .before)))
 
 pub marks-fit-spec : {M : Type 1} → statement M
 marks-fit-spec =
-    tie.close
-    (tie.spec
-    Inv-loop
-    μ-loop
-    loop-holds
-    array-read-if1
-    returns
-    add-i
-    loop-less
-    loop-again
-    returns-2)
+    tie.close (tie.spec Inv-loop μ-loop (λ c. refl) (λ c. search needs) returns (λ c. search needs)
+    (λ c. search needs) loop-again returns-2)

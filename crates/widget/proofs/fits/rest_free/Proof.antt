@@ -23,45 +23,36 @@ abbrev μ-loop : tie.MeasureT-loop
 long : (c : tie.Start Inv-loop μ-loop) → length (c .args .t1 .items) ≡ QUEUE
 long c = sym (length-map (c .args .t1 .items) _) ∙ c .good .0 .1 .1 .1 .0 .1 .0 .1
 
-loop-holds : tie.Need-loop-holds Inv-loop μ-loop
-loop-holds c = refl
+abbrev at-loop-from-else1 : tie.Else1 Inv-loop μ-loop → tie.At-loop Inv-loop μ-loop
+at-loop-from-else1 c = c .before .before .before .before
 
-mul-item : tie.Need-mul-item Inv-loop μ-loop
-mul-item c = search needs
+abbrev at-loop-from-then1 : tie.Then1 Inv-loop μ-loop → tie.At-loop Inv-loop μ-loop
+at-loop-from-then1 c = c .before .before .before .before
 
-element-copy-out-item : tie.Need-element-copy-out-item Inv-loop μ-loop
-element-copy-out-item c = search needs
+abbrev start-from-else1 : tie.Else1 Inv-loop μ-loop → tie.Start Inv-loop μ-loop
+start-from-else1 c = at-loop-from-else1 c .before
 
-is-free-requires : tie.Need-is-free-requires Inv-loop μ-loop
-is-free-requires c κs = search needs
+abbrev start-from-then1 : tie.Then1 Inv-loop μ-loop → tie.Start Inv-loop μ-loop
+start-from-then1 c = at-loop-from-then1 c .before
 
 returns : tie.Need-returns Inv-loop μ-loop
-returns c = every-no is-none (c .before .before .before .before .before .args .t1 .items) (c .before .before .before .before .loop .i) none (c .before .before .before .before .loop .inv) (omega (arith, long (c .before .before .before .before .before))) (sym (c .before .is-free .ensures) ∙ not-true _ (c .if1 .taken))
-
-add-i : tie.Need-add-i Inv-loop μ-loop
-add-i c = search needs
-
-loop-less : tie.Need-loop-less Inv-loop μ-loop
-loop-less c = search needs
+returns c =
+    every-no is-none (start-from-then1 c .args .t1 .items) (at-loop-from-then1 c .loop .i) none
+    (at-loop-from-then1 c .loop .inv) (omega (arith, long (start-from-then1 c)))
+    (sym (c .before .is-free .ensures) ∙ not-true _ (c .if1 .taken))
 
 loop-again : tie.Need-loop-again Inv-loop μ-loop
-loop-again c = every-more is-none (c .before .before .before .before .before .args .t1 .items) (c .before .before .before .before .loop .i) none (c .before .before .before .before .loop .inv) (omega (arith, long (c .before .before .before .before .before))) (sym (c .before .is-free .ensures) ∙ not-false _ (c .if1 .left))
+loop-again c =
+    every-more is-none (start-from-else1 c .args .t1 .items) (at-loop-from-else1 c .loop .i) none
+    (at-loop-from-else1 c .loop .inv) (omega (arith, long (start-from-else1 c)))
+    (sym (c .before .is-free .ensures) ∙ not-false _ (c .if1 .left))
 
 returns-2 : tie.Need-returns-2 Inv-loop μ-loop
-returns-2 c = every-done is-none (c .before .before .args .t1 .items) (c .before .loop .i) (c .before .loop .inv) (omega (arith, long (c .before .before)))
+returns-2 c =
+    every-done is-none (c .before .before .args .t1 .items) (c .before .loop .i) (c .before .loop .inv)
+    (omega (arith, long (c .before .before)))
 
 pub rest-free-spec : {M : Type 1} → statement M
 rest-free-spec =
-    tie.close
-    (tie.spec
-    Inv-loop
-    μ-loop
-    loop-holds
-    mul-item
-    element-copy-out-item
-    is-free-requires
-    returns
-    add-i
-    loop-less
-    loop-again
-    returns-2)
+    tie.close (tie.spec Inv-loop μ-loop (λ c. refl) (λ c. search needs) (λ c. search needs)
+    (λ c κs. search needs) returns (λ c. search needs) (λ c. search needs) loop-again returns-2)

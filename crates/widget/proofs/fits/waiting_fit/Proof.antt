@@ -27,52 +27,60 @@ abbrev μ-loop : tie.MeasureT-loop
 long : (c : tie.Start Inv-loop μ-loop) → length (c .args .t2 .items) ≡ QUEUE
 long c = sym (length-map (c .args .t2 .items) _) ∙ c .good .1 .0 .1 .1 .1 .0 .1 .0 .1
 
+abbrev at-loop-from-else1 : tie.Else1 Inv-loop μ-loop → tie.At-loop Inv-loop μ-loop
+at-loop-from-else1 c = c .before .before .before .before .before .before
+
+abbrev at-loop-from-then1 : tie.Then1 Inv-loop μ-loop → tie.At-loop Inv-loop μ-loop
+at-loop-from-then1 c = c .before .before .before .before .before .before
+
+abbrev start-from-else1 : tie.Else1 Inv-loop μ-loop → tie.Start Inv-loop μ-loop
+start-from-else1 c = at-loop-from-else1 c .before
+
+abbrev start-from-then1 : tie.Then1 Inv-loop μ-loop → tie.Start Inv-loop μ-loop
+start-from-then1 c = at-loop-from-then1 c .before
+
 loop-holds : tie.Need-loop-holds Inv-loop μ-loop
 loop-holds c = (refl, refl)
 
-mul-item : tie.Need-mul-item Inv-loop μ-loop
-mul-item c = search needs
-
-element-copy-out-item : tie.Need-element-copy-out-item Inv-loop μ-loop
-element-copy-out-item c = search needs
-
-event-fits-requires : tie.Need-event-fits-requires Inv-loop μ-loop
-event-fits-requires c κs = search needs
-
 returns : tie.Need-returns Inv-loop μ-loop
-returns c = let fe : SFits w32 (getD (c .before .before .before .before .before .before .before .args .t2 .items) (c .before .before .before .before .before .before .loop .i) none .event) = search needs in
-    let fa : SFits w32 (getD (c .before .before .before .before .before .before .before .args .t2 .items) (c .before .before .before .before .before .before .loop .i) none .arg) = search needs in
-    every-no (item-fits (c .before .before .before .before .before .before .before .args .events)) (waiting (c .before .before .before .before .before .before .before .args .t2)) (c .before .before .before .before .before .before .loop .i) none (c .before .before .before .before .before .before .loop .inv .1) (rw (waiting-long (c .before .before .before .before .before .before .before .args .t2) (long (c .before .before .before .before .before .before .before)) (c .before .before .before .before .before .before .before .pre) 0) (omega arith)) (waiting-at (c .before .before .before .before .before .before .before .args .t2) (long (c .before .before .before .before .before .before .before)) (c .before .before .before .before .before .before .before .pre) (c .before .before .before .before .before .before .loop .i) (c .before .before .before .before .before .before .before .args .events) _ (omega arith) (sym (not-true _ (c .if1 .taken)) ∙ rw (toZ-ofZ fe, toZ-ofZ fa) at (c .before .event-fits .ensures)))
-
-add-i : tie.Need-add-i Inv-loop μ-loop
-add-i c = search needs
-
-loop-less : tie.Need-loop-less Inv-loop μ-loop
-loop-less c = search needs
+returns c =
+    let fe : SFits w32
+    (getD (start-from-then1 c .args .t2 .items) (at-loop-from-then1 c .loop .i) none .event) = search needs in
+    let fa : SFits w32
+    (getD (start-from-then1 c .args .t2 .items) (at-loop-from-then1 c .loop .i) none .arg) = search needs in
+    every-no (item-fits (start-from-then1 c .args .events)) (waiting (start-from-then1 c .args .t2))
+    (at-loop-from-then1 c .loop .i) none (at-loop-from-then1 c .loop .inv .1)
+    (rw (waiting-long (start-from-then1 c .args .t2) (long (start-from-then1 c)) (start-from-then1 c .pre) 0)
+    (omega arith)) (waiting-at (start-from-then1 c .args .t2) (long (start-from-then1 c))
+    (start-from-then1 c .pre) (at-loop-from-then1 c .loop .i) (start-from-then1 c .args .events) _
+    (omega arith)
+    (sym (not-true _ (c .if1 .taken)) ∙ rw (toZ-ofZ fe, toZ-ofZ fa) at (c .before .event-fits .ensures)))
 
 loop-again : tie.Need-loop-again Inv-loop μ-loop
 loop-again c = (
-  c .before .before .before .before .before .before .loop .inv .0,
-  let fe : SFits w32 (getD (c .before .before .before .before .before .before .before .args .t2 .items) (c .before .before .before .before .before .before .loop .i) none .event) = search needs in
-      let fa : SFits w32 (getD (c .before .before .before .before .before .before .before .args .t2 .items) (c .before .before .before .before .before .before .loop .i) none .arg) = search needs in
-      every-more (item-fits (c .before .before .before .before .before .before .before .args .events)) (waiting (c .before .before .before .before .before .before .before .args .t2)) (c .before .before .before .before .before .before .loop .i) none (c .before .before .before .before .before .before .loop .inv .1) (rw (waiting-long (c .before .before .before .before .before .before .before .args .t2) (long (c .before .before .before .before .before .before .before)) (c .before .before .before .before .before .before .before .pre) 0) (omega arith)) (waiting-at (c .before .before .before .before .before .before .before .args .t2) (long (c .before .before .before .before .before .before .before)) (c .before .before .before .before .before .before .before .pre) (c .before .before .before .before .before .before .loop .i) (c .before .before .before .before .before .before .before .args .events) _ (omega arith) (sym (not-false _ (c .if1 .left)) ∙ rw (toZ-ofZ fe, toZ-ofZ fa) at (c .before .event-fits .ensures))),
+  at-loop-from-else1 c .loop .inv .0,
+  let fe : SFits w32
+      (getD (start-from-else1 c .args .t2 .items) (at-loop-from-else1 c .loop .i) none .event) = search
+      needs in let fa : SFits w32
+      (getD (start-from-else1 c .args .t2 .items) (at-loop-from-else1 c .loop .i) none .arg) = search
+      needs in every-more (item-fits (start-from-else1 c .args .events))
+      (waiting (start-from-else1 c .args .t2)) (at-loop-from-else1 c .loop .i) none
+      (at-loop-from-else1 c .loop .inv .1)
+      (rw (waiting-long (start-from-else1 c .args .t2) (long (start-from-else1 c))
+      (start-from-else1 c .pre) 0) (omega arith))
+      (waiting-at (start-from-else1 c .args .t2) (long (start-from-else1 c)) (start-from-else1 c .pre)
+      (at-loop-from-else1 c .loop .i) (start-from-else1 c .args .events) _ (omega arith)
+      (sym (not-false _ (c .if1 .left)) ∙ rw (toZ-ofZ fe, toZ-ofZ fa) at (c .before .event-fits .ensures))),
 )
 
 returns-2 : tie.Need-returns-2 Inv-loop μ-loop
-returns-2 c = every-done (item-fits (c .before .before .args .events)) (waiting (c .before .before .args .t2)) (c .before .loop .i) (c .before .loop .inv .1) (rw (waiting-long (c .before .before .args .t2) (long (c .before .before)) (c .before .before .pre) 0) (omega arith))
+returns-2 c =
+    every-done (item-fits (c .before .before .args .events)) (waiting (c .before .before .args .t2))
+    (c .before .loop .i) (c .before .loop .inv .1)
+    (rw (waiting-long (c .before .before .args .t2) (long (c .before .before)) (c .before .before .pre) 0)
+    (omega arith))
 
 pub waiting-fit-spec : {M : Type 1} → statement M
 waiting-fit-spec =
-    tie.close
-    (tie.spec
-    Inv-loop
-    μ-loop
-    loop-holds
-    mul-item
-    element-copy-out-item
-    event-fits-requires
-    returns
-    add-i
-    loop-less
-    loop-again
-    returns-2)
+    tie.close (tie.spec Inv-loop μ-loop loop-holds (λ c. search needs) (λ c. search needs)
+    (λ c κs. search needs) returns (λ c. search needs) (λ c. search needs) loop-again returns-2)

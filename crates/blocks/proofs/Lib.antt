@@ -1,0 +1,4 @@
+pub mod KidsLeft
+pub mod Putting
+pub mod Descent
+pub mod Joining

@@ -1,0 +1,4 @@
+pub mod Bounds
+pub mod Ordering
+pub mod Heading
+pub mod Whole

@@ -1,0 +1,50 @@
+// An owner's actions as instructions (01, "An owner's actions run in line order"), found by the index.
+use super::WIDTH;
+use super::index::INDEX;
+use super::index::OWNERS;
+use super::index::key_of;
+use super::put_instr;
+use chart::action_count;
+use chart::action_row;
+use meaning::chart::Owner;
+use meaning::plan::Instr;
+ghost use mathlib.Core.Path.{_≡_};
+ghost use lib.ListN.{length};
+ghost use Rattle.meaning.specs.Compile.{code-acts};
+ghost use Rattle.meaning.specs.Value.{chart-of};
+ghost use Rattle.emitter.specs.Pen.{pen, emits, Room};
+ghost use Rattle.emitter.specs.Index.{Fits, Ready};
+
+// The actions of an owner.
+pub fn put_acts(
+    chart: &[i32],
+    index: &[usize; INDEX],
+    owner: Owner,
+    plan: &mut [i32],
+    at: usize,
+) -> usize
+    requires { ⌜ Ready (now chart) (now index) × Fits owner × Room (code-acts (chart-of (now chart)) owner) at ⌝ }
+    ensures { λ r. ⌜ pen (now (plan .exit)) r ≡ emits (code-acts (chart-of (now (chart .entry))) owner) (pen (now (plan .entry)) at) ⌝ }
+{
+    let n = action_count(chart);
+    let key = key_of(owner);
+    let mut i = index[key];
+    let mut p = at;
+    while i < n {
+        let row = action_row(chart, i);
+        let act = row.act;
+        p = put_instr(plan, p, Instr::Does(act));
+        i = index[OWNERS + i];
+    }
+    p
+}
+
+// How many actions an owner has: what they come to in a slice without room.
+pub fn act_count(chart: &[i32], index: &[usize; INDEX], owner: Owner) -> usize
+    requires { ⌜ Ready (now chart) (now index) × Fits owner ⌝ }
+    ensures { λ r. ⌜ r ≡ length (code-acts (chart-of (now (chart .entry))) owner) ⌝ }
+{
+    let mut none = [0i32; 1];
+    let end = put_acts(chart, index, owner, &mut none, 0);
+    end / WIDTH
+}

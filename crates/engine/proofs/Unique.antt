@@ -1,0 +1,140 @@
+-- "Every public function's stated result determines answer, state and every lent number on every input, refusals too; that two results it
+-- allows are equal is proved" (01, "Promises"). The theorems are about what each function's own contract asks of a caller (`Asked`) and
+-- tells it (`Learnt`), as they are read from the source: a contract that says less, or asks for more, is refused here.
+-- In the order: what is shown of a contract; the functions that require nothing; those on a checked chart. Assumes nothing.
+use mathlib.Core.Path.{_≡_, refl, sym, _∙_}
+use contract.Lifetimes.{Lfts}
+use denote.Ref.{now}
+use Rattle.promises.specs.Promises.{Checked, Accepted, Read, Wrote, Unstarted, Started, Ran, Posted, Discarded}
+use Rattle.engine.proofs.check.Reads as check-reads
+use Rattle.engine.proofs.read.Reads as read-reads
+use Rattle.engine.proofs.write.Reads as write-reads
+use Rattle.engine.proofs.unstarted.Reads as unstarted-reads
+use Rattle.engine.proofs.start.Reads as start-reads
+use Rattle.engine.proofs.run.Reads as run-reads
+use Rattle.engine.proofs.post.Reads as post-reads
+use Rattle.engine.proofs.discard.Reads as discard-reads
+use Rattle.engine.proofs.checked.start_checked.Reads as start-checked-reads
+use Rattle.engine.proofs.checked.run_checked.Reads as run-checked-reads
+use Rattle.engine.proofs.checked.post_checked.Reads as post-checked-reads
+use Rattle.engine.proofs.checked.discard_checked.Reads as discard-checked-reads
+
+-- ---- what is shown of a contract, over its arguments A, its result R, its arguments at exit E, and what it wrote where it was lent, L
+
+pub record Settles {A R E L : Type 0} (given asked : A → Type 0) (learnt promise : A → R → E → Type 0) (lent : E → L) : Type 0 where
+  -- it may be called on every input of which this is given
+  pub asks : (a : A) → given a → asked a
+  -- it says its promise
+  pub promised : (a : A) (r : R) (x : E) → learnt a r x → promise a r x
+  -- two results that it allows are equal, and so is what it wrote
+  pub unique : (a : A) (r s : R) (x y : E) → learnt a r x → learnt a s y → (r ≡ s) × (lent x ≡ lent y)
+
+pub one : {A : Type 0} {d x y : A} → x ≡ d → y ≡ d → x ≡ y
+one p q = p ∙ sym q
+
+abbrev pub nothing : {A : Type 0} → A → Type 0
+nothing a = Unit {0}
+
+-- ---- the functions that require nothing
+
+pub check-settles : (κs : Lfts 1) → Settles nothing (check-reads.Asked κs) (check-reads.Learnt κs)
+    (λ a r x. Checked (now (a .0)) r) (λ x. tt {0})
+check-settles κs = record {
+  asks = λ a g. tt;
+  promised = λ a r x p. p;
+  unique = λ a r s x y p q. (one (p .result) (q .result), refl);
+}
+
+pub read-settles : (κs : Lfts 2) → Settles nothing (read-reads.Asked κs) (read-reads.Learnt κs)
+    (λ a r x. Read (now (a .0)) (now (a .1 .0)) r (now (x .1 .0))) (λ x. now (x .1 .0))
+read-settles κs = record {
+  asks = λ a g. tt;
+  promised = λ a r x p. p;
+  unique = λ a r s x y p q. (one (p .result) (q .result), one (p .lent) (q .lent));
+}
+
+pub write-settles : (κs : Lfts 2) → Settles nothing (write-reads.Asked κs) (write-reads.Learnt κs)
+    (λ a r x. Wrote (now (a .0)) (now (a .1 .0)) r (now (x .1 .0))) (λ x. now (x .1 .0))
+write-settles κs = record {
+  asks = λ a g. tt;
+  promised = λ a r x p. p;
+  unique = λ a r s x y p q. (one (p .result) (q .result), one (p .lent) (q .lent));
+}
+
+pub unstarted-settles : (κs : Lfts 0) → Settles nothing (unstarted-reads.Asked κs) (unstarted-reads.Learnt κs)
+    (λ a r x. Unstarted r) (λ x. tt {0})
+unstarted-settles κs = record {
+  asks = λ a g. tt;
+  promised = λ a r x p. p;
+  unique = λ a r s x y p q. (one (p .result) (q .result), refl);
+}
+
+pub start-settles : (κs : Lfts 2) → Settles nothing (start-reads.Asked κs) (start-reads.Learnt κs)
+    (λ a r x. Started (now (a .0)) (a .1 .0) (now (a .1 .1 .0)) r (now (x .1 .1 .0))) (λ x. now (x .1 .1 .0))
+start-settles κs = record {
+  asks = λ a g. tt;
+  promised = λ a r x p. p;
+  unique = λ a r s x y p q. (one (p .result) (q .result), one (p .lent) (q .lent));
+}
+
+pub run-settles : (κs : Lfts 2) → Settles nothing (run-reads.Asked κs) (run-reads.Learnt κs)
+    (λ a r x. Ran (now (a .0)) (a .1 .0) (now (a .1 .1 .0)) r (now (x .1 .1 .0))) (λ x. now (x .1 .1 .0))
+run-settles κs = record {
+  asks = λ a g. tt;
+  promised = λ a r x p. p;
+  unique = λ a r s x y p q. (one (p .result) (q .result), one (p .lent) (q .lent));
+}
+
+pub post-settles : (κs : Lfts 1) → Settles nothing (post-reads.Asked κs) (post-reads.Learnt κs)
+    (λ a r x. Posted (now (a .0)) (a .1 .0) (a .1 .1 .0) (a .1 .1 .1 .0) r) (λ x. tt {0})
+post-settles κs = record {
+  asks = λ a g. tt;
+  promised = λ a r x p. p;
+  unique = λ a r s x y p q. (one (p .result) (q .result), refl);
+}
+
+pub discard-settles : (κs : Lfts 1) → Settles nothing (discard-reads.Asked κs) (discard-reads.Learnt κs)
+    (λ a r x. Discarded (now (a .0)) (a .1 .0) r) (λ x. tt {0})
+discard-settles κs = record {
+  asks = λ a g. tt;
+  promised = λ a r x p. p;
+  unique = λ a r s x y p q. (one (p .result) (q .result), refl);
+}
+
+-- ---- on a checked chart: what check promises with answer 0 is all that they ask
+
+pub start-checked-settles : (κs : Lfts 2) → Settles (λ a. Accepted (now (a .0)))
+    (start-checked-reads.Asked κs) (start-checked-reads.Learnt κs)
+    (λ a r x. Started (now (a .0)) (a .1 .0) (now (a .1 .1 .0)) r (now (x .1 .1 .0))) (λ x. now (x .1 .1 .0))
+start-checked-settles κs = record {
+  asks = λ a g. g;
+  promised = λ a r x p. p;
+  unique = λ a r s x y p q. (one (p .result) (q .result), one (p .lent) (q .lent));
+}
+
+pub run-checked-settles : (κs : Lfts 2) → Settles (λ a. Accepted (now (a .0)))
+    (run-checked-reads.Asked κs) (run-checked-reads.Learnt κs)
+    (λ a r x. Ran (now (a .0)) (a .1 .0) (now (a .1 .1 .0)) r (now (x .1 .1 .0))) (λ x. now (x .1 .1 .0))
+run-checked-settles κs = record {
+  asks = λ a g. g;
+  promised = λ a r x p. p;
+  unique = λ a r s x y p q. (one (p .result) (q .result), one (p .lent) (q .lent));
+}
+
+pub post-checked-settles : (κs : Lfts 1) → Settles (λ a. Accepted (now (a .0)))
+    (post-checked-reads.Asked κs) (post-checked-reads.Learnt κs)
+    (λ a r x. Posted (now (a .0)) (a .1 .0) (a .1 .1 .0) (a .1 .1 .1 .0) r) (λ x. tt {0})
+post-checked-settles κs = record {
+  asks = λ a g. g;
+  promised = λ a r x p. p;
+  unique = λ a r s x y p q. (one (p .result) (q .result), refl);
+}
+
+pub discard-checked-settles : (κs : Lfts 1) → Settles (λ a. Accepted (now (a .0)))
+    (discard-checked-reads.Asked κs) (discard-checked-reads.Learnt κs)
+    (λ a r x. Discarded (now (a .0)) (a .1 .0) r) (λ x. tt {0})
+discard-checked-settles κs = record {
+  asks = λ a g. g;
+  promised = λ a r x p. p;
+  unique = λ a r s x y p q. (one (p .result) (q .result), refl);
+}

@@ -1,0 +1,5 @@
+pub mod Ending
+pub mod Gates
+pub mod Starts
+pub mod Runs
+pub mod Waits

@@ -1,0 +1,4 @@
+pub mod Facts
+pub mod Thin
+pub mod Tests
+pub mod Loop

@@ -1,0 +1,114 @@
+-- The chooser's loop over the heads, turn by turn, over plain variables. Assumes nothing.
+use mathlib.Core.Path.{_≡_, refl, sym, ap, _∙_, subst}
+use Prim.Native.Nat.{ℕ, _+_, _*_, _≤_, _<_}
+use native.Mathlib.Omega.{arith}
+use mathlib.Core.Bool.{Bool, true, false}
+use mathlib.Core.List.{List, [], _∷_, _++_, map}
+use lib.ListN.{length, getD, take, drop, set, length-set, length-map}
+use lib.Seq.{length-take-le, getD-take}
+use lib.IntN.{ℤ}
+use Rattle.sizes.specs.Sizes.{TRANSITIONS}
+use Rattle.laws.proofs.Value.{getD-map}
+use Rattle.meaning.specs.Lists.{exists}
+use Rattle.meaning.specs.declared.State.{State}
+use Rattle.meaning.specs.declared.plan.Counts.{Counts}
+use Rattle.meaning.specs.declared.plan.Head.{Head}
+use Rattle.meaning.specs.Machine.{head-enabled, spans-meet, chosen-heads}
+use Rattle.meaning.specs.WellFormed.{HEAD-ROW, counts-of, heads-at, plan-by}
+use Rattle.plan_rows.specs.Rows.{Sized}
+use Rattle.plan_rows.proofs.Rows.{heads-length}
+use Rattle.choice.specs.Choice.{seen}
+use Rattle.plan_choice.specs.Heads.{Examined, head-of, picked, Picks, Chose}
+use Rattle.plan_choice.proofs.Facts.{counts-sized, head-is}
+use Rattle.plan_choice.proofs.Thin.{gone-after, gone-hit, gone-none, with-rest, rest-off}
+use Rattle.plan_choice.proofs.Thin.{rest-clash, rest-take, rest-end, picked-more, named-more}
+
+-- after h heads: the chosen so far, with what the rest adds, are the chosen of all
+pub record Choosing (ns : List ℤ) (base heads e : ℕ) (u : State) (h : ℕ) (picks : List ℕ) (count : ℕ) : Type 0 where
+  pub owes : with-rest e u (drop h (plan-by ns .heads)) (picked ns base count picks) ≡ chosen-heads (plan-by ns) e u
+  pub named : (j : ℕ) → j < count → getD picks j 0 < heads
+  pub size : length picks ≡ TRANSITIONS
+  pub few : count ≤ h
+
+pub choosing-begin : {ns : List ℤ} {base heads e : ℕ} {u : State} {picks : List ℕ} → length picks ≡ TRANSITIONS
+    → Choosing ns base heads e u 0 picks 0
+unfolding with-rest gone-after chosen-heads
+choosing-begin l = record { owes = refl; named = λ j q. absurd (omega arith); size = l; few = omega arith }
+
+-- the j-th of the chosen
+pub picked-at : {A : Type 0} (f : ℕ → A) (picks : List ℕ) (count j : ℕ) (d : A) → count ≤ length picks → j < count
+    → getD (map f (take count picks)) j d ≡ f (getD picks j 0)
+picked-at f picks count j d l q =
+    getD-map f (take count picks) j d 0 (subst (λ n. j < n) (sym (length-take-le count picks l)) q) ∙ ap f (getD-take count picks j 0 q)
+
+pub picked-long : {A : Type 0} (f : ℕ → A) (picks : List ℕ) (count : ℕ) → count ≤ length picks → length (map f (take count picks)) ≡ count
+picked-long f picks count l = length-map (take count picks) f ∙ length-take-le count picks l
+
+module _ {ns : List ℤ} {k : Counts} (x : Examined ns k) {base e : ℕ}
+    (b : base ≡ heads-at k) {u : State} {h : ℕ} {picks : List ℕ} {count : ℕ}
+    (w : Choosing ns base (k .heads) e u h picks count) where
+  long : length (plan-by ns .heads) ≡ k .heads
+  long = subst (λ q. length (plan-by ns .heads) ≡ q .heads) (sym (x .counted)) (heads-length ns)
+
+  module _ (l : h < k .heads) where
+    within : h < length (plan-by ns .heads)
+    within = omega (arith, long, l)
+
+    is-head : getD (plan-by ns .heads) h (head-of ns base h) ≡ head-of ns base h
+    is-head = subst (λ a. getD (plan-by ns .heads) h (head-of ns a h) ≡ head-of ns a h) (sym b) (head-is x h l (head-of ns
+        (heads-at k) h))
+
+    room : count < TRANSITIONS
+    room = omega (arith, counts-sized x .heads, w .few, l)
+
+    in-array : count < length picks
+    in-array = omega (arith, room, w .size)
+
+    pub choosing-off : head-enabled e u (head-of ns base h) ≡ false → Choosing ns base (k .heads) e u (h + 1) picks count
+    choosing-off f = record {
+      owes = rest-off e u (plan-by ns .heads) h _ (head-of ns base h) within is-head (picked ns base count picks) f ∙ w .owes;
+      named = w .named;
+      size = w .size;
+      few = omega (arith, w .few);
+    }
+
+    module _ (f : head-enabled e u (head-of ns base h) ≡ true) where
+      pub choosing-clash : (j : ℕ) → j < count → spans-meet (head-of ns base h) (head-of ns base (getD picks j 0)) ≡ true
+          → Choosing ns base (k .heads) e u (h + 1) picks count
+      choosing-clash j q m = record {
+        owes = rest-clash e u (plan-by ns .heads) h _ (head-of ns base h) within is-head (picked ns base count picks) f
+            (gone-hit (spans-meet (head-of ns base h)) [] (picked ns base count picks) j (head-of ns base 0)
+            (subst (λ n. j < n) (sym (picked-long (head-of ns base) picks count (omega (arith, in-array)))) q)
+            (rw (picked-at (head-of ns base) picks count j (head-of ns base 0) (omega (arith, in-array)) q) m)) ∙ w .owes;
+        named = w .named;
+        size = w .size;
+        few = omega (arith, w .few);
+      }
+
+      pub choosing-take : ((j : ℕ) → j < count → spans-meet (head-of ns base h) (head-of ns base (getD picks j 0)) ≡ false)
+          → Choosing ns base (k .heads) e u (h + 1) (set picks count h) (count + 1)
+      unfolding exists
+      choosing-take m = record {
+        owes = ap (with-rest e u (drop (h + 1) (plan-by ns .heads))) (picked-more (head-of ns base) picks count h in-array)
+            ∙ rest-take e u (plan-by ns .heads) h _ (head-of ns base h) within is-head (picked ns base count picks) f
+            (gone-none (spans-meet (head-of ns base h)) [] (picked ns base count picks) (head-of ns base 0) refl none)
+            ∙ w .owes;
+        named = named-more picks count h (k .heads) in-array (w .named) l;
+        size = length-set picks count h ∙ w .size;
+        few = omega (arith, w .few);
+      }
+        where
+          none : (j : ℕ) → j < length (picked ns base count picks)
+              → spans-meet (head-of ns base h) (getD (picked ns base count picks) j (head-of ns base 0)) ≡ false
+          none j q =
+              let q′ : j < count = omega (arith, q, picked-long (head-of ns base) picks count (omega (arith, in-array))) in
+              rw (picked-at (head-of ns base) picks count j (head-of ns base 0) (omega (arith, in-array)) q′) (m j q′)
+
+  pub choosing-end : k .heads ≤ h → h ≤ k .heads → {active : List Bool} {vars : List ℤ} → seen active vars ≡ u
+      → Chose ns k e active vars count picks
+  choosing-end l g {active} {vars} v = record {
+    is = subst (λ a. picked ns a count picks ≡ chosen-heads (plan-by ns) e (seen active vars)) b
+        (sym (rest-end e u (plan-by ns .heads) h (picked ns base count picks) (omega (arith, long, l))) ∙ w .owes
+        ∙ ap (chosen-heads (plan-by ns) e) (sym v));
+    stands = record { named = w .named; few = omega (arith, w .few, g, counts-sized x .heads); size = w .size };
+  }

@@ -1,0 +1,89 @@
+// Which heads of a plan a step fires (01, "The machine chooses by heads alone, in their order"): the heads are read where
+// they stand in the lent numbers, and the chosen are their numbers, in the order in which they fire.
+use choice::guard_true;
+use meaning::plan::Counts;
+use plan_rows::guard_at;
+use plan_rows::heads_at;
+use plan_rows::layout::HEAD_ROW;
+use plan_rows::layout::SOURCE;
+use plan_rows::layout::SPAN_FIRST;
+use plan_rows::layout::SPAN_LAST;
+use plan_rows::layout::TRIGGER;
+use plan_rows::named;
+use sizes::STATES;
+use sizes::TRANSITIONS;
+use sizes::VARIABLES;
+ghost use mathlib.Core.Path.{_≡_};
+ghost use Prim.Native.Nat.{_+_, _≤_, _<_};
+ghost use lib.ListN.{length};
+ghost use Rattle.sizes.specs.Sizes.{STATES as states, TRANSITIONS as transitions};
+ghost use Rattle.meaning.specs.Machine.{head-enabled, spans-meet};
+ghost use Rattle.meaning.specs.WellFormed.{HEAD-ROW};
+ghost use Rattle.choice.specs.Choice.{seen, Reads};
+ghost use Rattle.plan_choice.specs.Heads.{Examined, head-at, Chose};
+
+// Trigger equal, source active, guard true of the values: of the head whose row begins at this place. What does not match
+// is passed over before anything else is read.
+fn enabled(
+    plan: &[i32],
+    at: usize,
+    event: usize,
+    active: &[bool; STATES],
+    vars: &[i32; VARIABLES],
+) -> bool
+    requires { ⌜ (at + HEAD-ROW ≤ length (now plan)) × (head-at (now plan) at .source < states) × Reads (head-at (now plan) at .guard) ⌝ }
+    ensures { λ r. ⌜ r ≡ head-enabled event (seen (now (active .entry)) (now (vars .entry))) (head-at (now (plan .entry)) at) ⌝ }
+{
+    if named(plan, at + TRIGGER) != event {
+        return false;
+    }
+    let source = named(plan, at + SOURCE);
+    if !active[source] {
+        return false;
+    }
+    let guard = guard_at(plan, at);
+    guard_true(guard, vars)
+}
+
+// Whether the spans of two heads, whose rows begin at these places, have a state in common.
+fn meet(plan: &[i32], at: usize, other: usize) -> bool
+    requires { ⌜ (at + HEAD-ROW ≤ length (now plan)) × (other + HEAD-ROW ≤ length (now plan)) ⌝ }
+    ensures { λ r. ⌜ r ≡ spans-meet (head-at (now (plan .entry)) at) (head-at (now (plan .entry)) other) ⌝ }
+{
+    if named(plan, other + SPAN_LAST) < named(plan, at + SPAN_FIRST) {
+        return false;
+    }
+    named(plan, other + SPAN_FIRST) <= named(plan, at + SPAN_LAST)
+}
+
+// The enabled heads in their order, less any whose span meets that of one already chosen: their numbers stand in picks.
+pub fn choose(
+    plan: &[i32],
+    k: Counts,
+    event: usize,
+    active: &[bool; STATES],
+    vars: &[i32; VARIABLES],
+    picks: &mut [usize; TRANSITIONS],
+) -> usize
+    requires { ⌜ Examined (now plan) k × (length (now picks) ≡ transitions) ⌝ }
+    ensures { λ r. ⌜ Chose (now (plan .entry)) k event (now (active .entry)) (now (vars .entry)) r (now (picks .exit)) ⌝ }
+{
+    let base = heads_at(k);
+    let n = k.heads;
+    let mut count: usize = 0;
+    'heads: for h in 0..n {
+        let at = base + h * HEAD_ROW;
+        if !enabled(plan, at, event, active, vars) {
+            continue;
+        }
+        for j in 0..count {
+            let pick = picks[j];
+            if meet(plan, at, base + pick * HEAD_ROW) {
+                continue 'heads;
+            }
+        }
+        picks[count] = h;
+        count += 1;
+    }
+    count
+}

@@ -1,0 +1,13 @@
+pub mod Walk
+pub mod FittingRows
+pub mod Well
+pub mod Good
+pub mod Calls
+pub mod Marks
+pub mod Answering
+pub mod AnyNumbers
+pub mod Root
+pub mod Living
+pub mod Replay
+pub mod ReplayFacts
+pub mod Examples

@@ -1,0 +1,4 @@
+pub mod Names
+pub mod Root
+pub mod Answers
+pub mod Replay

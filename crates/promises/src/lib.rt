@@ -1,0 +1,1 @@
+// No code: specs/ has what each public function promises, one definition each.

@@ -1,1 +1,0 @@
-// No code: proofs/ shows of each public function's promise that two results which it allows are equal.
