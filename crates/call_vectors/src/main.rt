@@ -120,7 +120,7 @@ fn one_after_another(chart: &[i32], plan: &[i32], planned: bool, calls: &[u8]) {
         state = called.state;
         show::answer(called);
         show::entries(&trace, called.entries);
-        show::state(chart, state);
+        show::state(plan, state);
         at = line_after(calls, at);
     }
 }
