@@ -94,10 +94,18 @@ fn print_slots(state: State) {
     }
 }
 
-fn print_variables(chart: &[i32], state: State) {
+// How many variables the widget has: the second number of its plan (docs/PLAN.md).
+fn variables(plan: &[i32]) -> usize {
+    if plan.len() < 2 {
+        return 0;
+    }
+    numbers::reference(plan[1])
+}
+
+fn print_variables(plan: &[i32], state: State) {
     print(b"\nV");
     let vars = state.vars;
-    let n = chart::var_count(chart);
+    let n = variables(plan);
     let mut k: usize = 0;
     while k < VARIABLES {
         if n <= k {
@@ -124,7 +132,7 @@ fn print_queue(state: State) {
 }
 
 // The state, in five lines.
-pub fn state(chart: &[i32], state: State) {
+pub fn state(plan: &[i32], state: State) {
     if state.started {
         print(b"S 1");
     } else {
@@ -132,7 +140,7 @@ pub fn state(chart: &[i32], state: State) {
     }
     print_active(state);
     print_slots(state);
-    print_variables(chart, state);
+    print_variables(plan, state);
     print_queue(state);
     print(b"\n");
 }

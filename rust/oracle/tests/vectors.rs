@@ -220,27 +220,19 @@ fn saved_widget(ns: &[i64]) -> Widget {
     }
 }
 
-/// What the cases must print, by the chart or by its plan: for each its name, and for each call what it gave.
-fn cases(by_plan: bool) -> String {
-    let dir = root().join("crates/call_vectors");
+/// What one case must print over its chart or over its plan: for each call what it gave.
+fn case(by: &Runner, c: &Chart, name: &str, file: impl Fn(&str) -> PathBuf) -> String {
+    let saved = name.starts_with("saved");
+    let mut w = if saved { saved_widget(&numbers(&file("state"))) } else { Widget::unstarted() };
     let mut out = String::new();
-    for name in words(&dir.join("args")).lines() {
-        let file = |ending: &str| dir.join("data").join(format!("{name}_{ending}.txt"));
-        let c = text::read(&fs::read(file("chart")).unwrap()).unwrap();
-        let ns = compiled(&c);
-        let by = if by_plan { Runner::Plan(&ns) } else { Runner::Chart(&c) };
-        let saved = name.starts_with("saved");
-        let mut w = if saved { saved_widget(&numbers(&file("state"))) } else { Widget::unstarted() };
-        out += &format!("{name}\n");
-        for line in words(&file("calls")).lines() {
-            let (number, place, done) = call(&by, &w, line);
-            let trace = done.as_ref().map_or(&[][..], |d| &d.trace);
-            out += &format!("R {number} {place} {}\n", trace.len() / 3);
-            if !saved {
-                trace.chunks(3).for_each(|e| out += &format!("{} {} {}\n", e[0], e[1], e[2]));
-                w = done.map_or(w, |d| d.widget);
-                out += &shown(&c, &w);
-            }
+    for line in words(&file("calls")).lines() {
+        let (number, place, done) = call(by, &w, line);
+        let trace = done.as_ref().map_or(&[][..], |d| &d.trace);
+        out += &format!("R {number} {place} {}\n", trace.len() / 3);
+        if !saved {
+            trace.chunks(3).for_each(|e| out += &format!("{} {} {}\n", e[0], e[1], e[2]));
+            w = done.map_or(w, |d| d.widget);
+            out += &shown(c, &w);
         }
     }
     out
@@ -248,9 +240,14 @@ fn cases(by_plan: bool) -> String {
 
 #[test]
 fn calls() {
-    let wanted = words(&root().join("crates/call_vectors/stdout"));
-    assert_eq!(cases(false), wanted);
-    // over its plan a widget answers the same from its start on; a saved state is tested for less
-    let from_start = |all: &str| all.split("saved_000").next().unwrap_or("").to_string();
-    assert_eq!(from_start(&cases(true)), from_start(&wanted));
+    let dir = root().join("crates/call_vectors");
+    let mut out = String::new();
+    for name in words(&dir.join("args")).lines() {
+        let file = |ending: &str| dir.join("data").join(format!("{name}_{ending}.txt"));
+        let c = text::read(&fs::read(file("chart")).unwrap()).unwrap();
+        let by_chart = case(&Runner::Chart(&c), &c, name, file);
+        let by_plan = case(&Runner::Plan(&compiled(&c)), &c, name, file);
+        out += &format!("{name}\n{by_chart}{name} by its plan\n{by_plan}");
+    }
+    assert_eq!(out, words(&dir.join("stdout")));
 }

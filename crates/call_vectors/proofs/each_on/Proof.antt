@@ -9,10 +9,10 @@ use Rattle.call_vectors.proofs.each_on.Statement.{statement}
 use Rattle.call_vectors.proofs.each_on.Tie as tie
 
 abbrev Inv-loop : tie.InvT-loop
-Inv-loop chart state calls trace₀ at₀ trace at = ROOM ≡ length trace
+Inv-loop chart plan planned state calls trace₀ at₀ trace at = ROOM ≡ length trace
 
 abbrev μ-loop : tie.MeasureT-loop
-μ-loop chart state calls trace₀ at₀ trace at = length calls - at
+μ-loop chart plan planned state calls trace₀ at₀ trace at = length calls - at
 
 loop-less : tie.Need-loop-less Inv-loop μ-loop
 loop-less c =

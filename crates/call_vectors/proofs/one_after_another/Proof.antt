@@ -9,10 +9,10 @@ use Rattle.call_vectors.proofs.one_after_another.Statement.{statement}
 use Rattle.call_vectors.proofs.one_after_another.Tie as tie
 
 abbrev Inv-loop : tie.InvT-loop
-Inv-loop chart calls state₀ trace₀ at₀ state trace at = ROOM ≡ length trace
+Inv-loop chart plan planned calls state₀ trace₀ at₀ state trace at = ROOM ≡ length trace
 
 abbrev μ-loop : tie.MeasureT-loop
-μ-loop chart calls state₀ trace₀ at₀ state trace at = length calls - at
+μ-loop chart plan planned calls state₀ trace₀ at₀ state trace at = length calls - at
 
 loop-less : tie.Need-loop-less Inv-loop μ-loop
 loop-less c =
