@@ -16,7 +16,7 @@ use Rattle.sizes.specs.Sizes.{STATES, VARIABLES, EVENTS}
 use Rattle.numbers.specs.Reference.{ref}
 use Rattle.laws.proofs.Lists.{and-left, and-right}
 use Rattle.laws.proofs.Rules.{Act-facts}
-use Rattle.chart.proofs.Rows.{vars-most}
+use Rattle.chart_rows.proofs.Rows.{vars-most}
 use Rattle.meaning.specs.Chart.{Chart, no-action}
 use Rattle.meaning.specs.Steps.{Step, each}
 use Rattle.meaning.specs.Widget.{Ctx}
@@ -33,8 +33,8 @@ use Rattle.widget.specs.View.{Lent, with-vars, with-queue, with-trace, Within, 
 use Rattle.widget.specs.Acts.{Named}
 use Rattle.widget.proofs.Going.{owes-all}
 use Rattle.widget.proofs.Loops.{each-none, each-next, each-ends}
-use Rattle.walks.specs.Walks.{Ruled}
-use Rattle.walks.proofs.Passing.{sound, rules-passed}
+use Rattle.tree_walks.specs.Walks.{Ruled}
+use Rattle.tree_walks.proofs.Passing.{sound, rules-passed}
 
 -- ---- an owner's acts, row by row
 

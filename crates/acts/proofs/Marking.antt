@@ -19,8 +19,8 @@ use Rattle.widget.specs.declared.Went.{Went}
 use Rattle.widget.specs.View.{Lent, all-lent, with-active, with-slots, with-vars, with-queue, with-trace, Within, Did}
 use Rattle.widget.specs.Acts.{Below}
 use Rattle.widget.proofs.Going.{then-on, then-stop}
-use Rattle.walks.specs.Walks.{Ruled}
-use Rattle.walks.proofs.Passing.{sound}
+use Rattle.tree_walks.specs.Walks.{Ruled}
+use Rattle.tree_walks.proofs.Passing.{sound}
 
 -- ---- entering
 

@@ -1,9 +1,9 @@
 // An owner's actions, and entering and leaving one state with them (01, "Chart text" and "Firing"), over the lent chart.
 // Each function has one promise: what it leaves behind is what the definition of the same name gives.
-use chart::action_count;
-use chart::action_row;
-use chart::tree::o_parent;
-use chart::var_row;
+use chart_rows::action_count;
+use chart_rows::action_row;
+use chart_rows::tree::o_parent;
+use chart_rows::var_row;
 use meaning::chart::Act;
 use meaning::chart::Owner;
 use queue::lent::QUEUE_NUMBERS;
@@ -20,7 +20,7 @@ ghost use Rattle.meaning.specs.Effects.{act-var, same-owner, perform-all, enter
 ghost use Rattle.meaning.specs.Value.{chart-of};
 ghost use Rattle.sizes.specs.Sizes.{STATES as states};
 ghost use Rattle.acts.specs.Owners.{kind-number, owner-number};
-ghost use Rattle.walks.specs.Walks.{Ruled};
+ghost use Rattle.tree_walks.specs.Walks.{Ruled};
 ghost use Rattle.widget.specs.View.{Lent, all-lent, with-active, with-vars, with-queue, with-trace, Within, Did};
 
 // The variable of an act; send and tell have none.

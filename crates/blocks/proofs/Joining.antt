@@ -22,11 +22,11 @@ use Rattle.meaning.specs.Tree.{kind-of, trans-row, descendants, scope}
 use Rattle.meaning.specs.Entry.{Visit, state-of, below, all-below, by-defaults, Way}
 use Rattle.meaning.specs.Compile.{code-acts, enter-code, visit-code, default-arm, stored-arm, arms-of, arms, towards-code, exits-code, block-to, block, start-block}
 use Rattle.meaning.specs.Value.{chart-of}
-use Rattle.walks.specs.Walks.{Ruled}
-use Rattle.walks.proofs.Passing.{sound}
-use Rattle.moves.specs.declared.ways.Goal.{Goal}
-use Rattle.moves.specs.declared.ways.Goal.the-variants.{Target as aim, Owner as owner}
-use Rattle.moves.specs.Moves.{goal-way, defaulting, visit-as}
+use Rattle.tree_walks.specs.Walks.{Ruled}
+use Rattle.tree_walks.proofs.Passing.{sound}
+use Rattle.leave_enter.specs.declared.ways.Goal.{Goal}
+use Rattle.leave_enter.specs.declared.ways.Goal.the-variants.{Target as aim, Owner as owner}
+use Rattle.leave_enter.specs.Moves.{goal-way, defaulting, visit-as}
 use Rattle.emitter.specs.Pen.{Pen, emits, Room}
 use Rattle.emitter.proofs.Laws.{put-first, put-both}
 use Rattle.blocks.specs.Parts.{goal-code, move-code}

@@ -7,11 +7,11 @@ use native.Mathlib.Omega.{arith}
 use borrow.Author.Tests.{not-true, not-false}
 use lib.ListN.{length}
 use lib.IntN.{ℤ}
-use Rattle.chart.proofs.Rows.{states-most}
+use Rattle.chart_rows.proofs.Rows.{states-most}
 use Rattle.numbers.specs.declared.Place.{Place}
 use Rattle.numbers.specs.declared.Place.the-variants.{Empty, At}
-use Rattle.walks.specs.Walks.{Ruled}
-use Rattle.walks.proofs.Passing.{sound}
+use Rattle.tree_walks.specs.Walks.{Ruled}
+use Rattle.tree_walks.proofs.Passing.{sound}
 use Rattle.meaning.specs.Value.{chart-of}
 use Rattle.meaning.specs.Chart.{Chart}
 use Rattle.meaning.specs.declared.chart.Kind.{Kind}
@@ -23,7 +23,7 @@ use Rattle.meaning.specs.Lists.{at-value}
 use Rattle.meaning.specs.Tree.{parent-of, kind-of, is-o}
 use Rattle.meaning.specs.Effects.{o-parent}
 use Rattle.meaning.specs.Compile.{code-acts, exit-code, enter-code, visit-code, held-code, past-if-out, stored-code}
-use Rattle.moves.specs.Moves.{visit-as}
+use Rattle.leave_enter.specs.Moves.{visit-as}
 use Rattle.emitter.specs.Pen.{Pen, emits, Small-place}
 use Rattle.emitter.proofs.Laws.{put-first, put-both}
 

@@ -3,14 +3,14 @@
 use super::kids::kids_within;
 use super::pieces::put_stored;
 use super::pieces::put_visit;
-use chart::state_count;
-use chart::tree::is_child;
+use chart_rows::state_count;
+use chart_rows::tree::is_child;
 use emitter::WIDTH;
 use emitter::index::INDEX;
 use emitter::put_instr;
+use leave_enter::ways::Next;
 use meaning::plan::Instr;
-use moves::ways::Next;
-use walks::end_below;
+use tree_walks::end_below;
 ghost use mathlib.Core.Path.{_≡_};
 ghost use Prim.Native.Nat.{_<_};
 ghost use lib.ListN.{length};

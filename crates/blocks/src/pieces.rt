@@ -1,24 +1,24 @@
 // What a block has for one state (01, "A block"): leaving it, entering it, with its parent's default actions where due, and entering it
 // again in a restore.
-use chart::kind_of;
-use chart::parent_of;
-use chart::tree::is_o;
-use chart::tree::o_parent;
+use chart_rows::kind_of;
+use chart_rows::parent_of;
+use chart_rows::tree::is_o;
+use chart_rows::tree::o_parent;
 use emitter::actions::act_count;
 use emitter::actions::put_acts;
 use emitter::index::INDEX;
 use emitter::put_instr;
+use leave_enter::ways::Next;
+use leave_enter::ways::by_default;
 use meaning::chart::Owner;
 use meaning::plan::Instr;
-use moves::ways::Next;
-use moves::ways::by_default;
 ghost use mathlib.Core.Path.{_≡_};
 ghost use Prim.Native.Nat.{_<_};
 ghost use lib.ListN.{length};
 ghost use Rattle.meaning.specs.Compile.{exit-code, enter-code, visit-code, stored-code};
 ghost use Rattle.meaning.specs.Tree.{kind-of as kind-in};
 ghost use Rattle.meaning.specs.Value.{chart-of};
-ghost use Rattle.moves.specs.Moves.{way-by, defaulting, visit-as};
+ghost use Rattle.leave_enter.specs.Moves.{way-by, defaulting, visit-as};
 ghost use Rattle.emitter.specs.Pen.{pen, emits, Room};
 ghost use Rattle.emitter.specs.Index.{Ready};
 

@@ -9,8 +9,8 @@ use Rattle.meaning.specs.declared.chart.Target.{Target}
 use Rattle.meaning.specs.declared.chart.Target.the-variants.{History as history, InPlace as in-place, To as to}
 use Rattle.meaning.specs.Tree.{scope, span-of, descendants}
 use Rattle.meaning.specs.Value.{chart-of}
-use Rattle.walks.specs.Walks.{Ruled}
-use Rattle.walks.proofs.Passing.{sound}
+use Rattle.tree_walks.specs.Walks.{Ruled}
+use Rattle.tree_walks.proofs.Passing.{sound}
 use Rattle.choice.specs.declared.Span.{Span}
 use Rattle.choice.specs.Span.{Spans, Aims}
 use Rattle.choice.proofs.Walk.{scope-o, scope-below, scope-spans, place-spans}

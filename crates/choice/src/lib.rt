@@ -1,7 +1,7 @@
 // Which transitions a step fires (01, "Enabled", "Chosen"): the guards, the span of a transition as a range, and the chooser.
-use chart::state_count;
-use chart::trans_row;
-use chart::transition_count;
+use chart_rows::state_count;
+use chart_rows::trans_row;
+use chart_rows::transition_count;
 use meaning::chart::Guard;
 use meaning::chart::Sign;
 use meaning::chart::Target;
@@ -11,8 +11,8 @@ use numbers::same;
 use sizes::STATES;
 use sizes::TRANSITIONS;
 use sizes::VARIABLES;
-use walks::end_below;
-use walks::scope;
+use tree_walks::end_below;
+use tree_walks::scope;
 ghost use mathlib.Core.Path.{_≡_};
 ghost use mathlib.Core.List.{[]};
 ghost use Prim.Native.Nat.{_<_};
@@ -20,7 +20,7 @@ ghost use Rattle.sizes.specs.Sizes.{STATES as states};
 ghost use Rattle.meaning.specs.Tree.{span-of};
 ghost use Rattle.meaning.specs.Value.{chart-of};
 ghost use Rattle.meaning.specs.Reaction.{compare-by, guard-holds, enabled-by};
-ghost use Rattle.walks.specs.Walks.{Ruled};
+ghost use Rattle.tree_walks.specs.Walks.{Ruled};
 ghost use Rattle.choice.specs.Span.{Spans, Aims};
 ghost use Rattle.choice.specs.Choice.{seen, overlap, Reads, Picked, Fewer, Chose};
 

@@ -13,10 +13,10 @@ use Rattle.laws.proofs.Lists.{Each, none-left, one-more, each-joined, each-kept
 use Rattle.laws.proofs.Rules.{Target-facts}
 use Rattle.laws.proofs.Scope.{scope-facts}
 use Rattle.laws.proofs.Ways.{towards-pass, defaults-pass, owner-pass}
-use Rattle.chart.proofs.Rows.{states-most, transitions-most}
-use Rattle.walks.specs.Walks.{Ruled}
-use Rattle.walks.proofs.Passing.{sound}
-use Rattle.walks.proofs.On.{length-from}
+use Rattle.chart_rows.proofs.Rows.{states-most, transitions-most}
+use Rattle.tree_walks.specs.Walks.{Ruled}
+use Rattle.tree_walks.proofs.Passing.{sound}
+use Rattle.tree_walks.proofs.On.{length-from}
 use Rattle.choice.proofs.All.{all-of, of-source, all-few, keep-few}
 use Rattle.meaning.specs.Chart.{Chart}
 use Rattle.meaning.specs.declared.chart.Kind.{Kind}
@@ -32,7 +32,7 @@ use Rattle.meaning.specs.Reaction.{choosing-order}
 use Rattle.meaning.specs.Compile.{code-acts, exit-code, enter-code, visit-code, held-code, past-if-out, stored-code, default-arm, stored-arm, arms}
 use Rattle.meaning.specs.Compile.{towards-code, exits-code, block, start-block, head-order, code-of}
 use Rattle.meaning.specs.Value.{chart-of}
-use Rattle.moves.specs.declared.ways.Goal.the-variants.{Target as aim, Owner as owner}
+use Rattle.leave_enter.specs.declared.ways.Goal.the-variants.{Target as aim, Owner as owner}
 use Rattle.emitter.proofs.Finding.{code-few}
 use Rattle.blocks.proofs.Putting.{visit-plain, visit-due}
 use Rattle.blocks.proofs.Joining.{arms-long, start-as, move-long, block-at-target, block-at-history, block-in-place}

@@ -12,9 +12,9 @@ use Rattle.sizes.specs.Sizes.{STATES, VARIABLES, EVENTS, TRANSITIONS}
 use Rattle.numbers.specs.Reference.{NOWHERE}
 use Rattle.laws.proofs.Lists.{Each, none-left, one-more, each-at, each-kept, each-range}
 use Rattle.laws.proofs.Rules.{Guard-facts, Transition-facts}
-use Rattle.chart.proofs.Rows.{states-most, vars-most}
-use Rattle.walks.specs.Walks.{Ruled}
-use Rattle.walks.proofs.Passing.{sound}
+use Rattle.chart_rows.proofs.Rows.{states-most, vars-most}
+use Rattle.tree_walks.specs.Walks.{Ruled}
+use Rattle.tree_walks.proofs.Passing.{sound}
 use Rattle.acts.proofs.Acting.{events-most}
 use Rattle.choice.specs.Choice.{Reads}
 use Rattle.choice.specs.Span.{Spans, Aims}

@@ -12,8 +12,8 @@ use lib.Dec.{ltb}
 use lib.IntN.{ℤ, pos}
 use Rattle.sizes.specs.Sizes.{STATES, VARIABLES, TRANSITIONS}
 use Rattle.numbers.specs.Reference.{NOWHERE}
-use Rattle.chart.proofs.Rows.{vars-most}
-use Rattle.walks.specs.Walks.{Ruled}
+use Rattle.chart_rows.proofs.Rows.{vars-most}
+use Rattle.tree_walks.specs.Walks.{Ruled}
 use Rattle.meaning.specs.Chart.{Chart}
 use Rattle.meaning.specs.declared.Answer.{Answer}
 use Rattle.meaning.specs.declared.chart.VarRow.{VarRow}

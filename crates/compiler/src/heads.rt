@@ -1,6 +1,6 @@
 // The heads (01, "The plan"): ten numbers for each transition in choosing order, with where its block begins and how long it is.
 use blocks::block_length;
-use chart::trans_row;
+use chart_rows::trans_row;
 use choice::span_of;
 use emitter::index::INDEX;
 use emitter::put_four;
@@ -17,7 +17,7 @@ ghost use Rattle.meaning.specs.Compile.{head-of, heads-from, head-order, start-
 ghost use Rattle.meaning.specs.Lists.{concat-map};
 ghost use Rattle.meaning.specs.Plan.{sign-number, guard-numbers, head-numbers};
 ghost use Rattle.meaning.specs.Value.{chart-of};
-ghost use Rattle.walks.specs.Walks.{Ruled};
+ghost use Rattle.tree_walks.specs.Walks.{Ruled};
 ghost use Rattle.choice.specs.Choice.{Reads};
 ghost use Rattle.emitter.specs.Pen.{pen, puts};
 ghost use Rattle.emitter.specs.Index.{Ready};

@@ -5,10 +5,10 @@ pub mod order;
 
 use blocks::put_block;
 use blocks::put_start;
-use chart::event_count;
-use chart::state_count;
-use chart::var_count;
-use chart::var_row;
+use chart_rows::event_count;
+use chart_rows::state_count;
+use chart_rows::var_count;
+use chart_rows::var_row;
 use emitter::WIDTH;
 use emitter::index::INDEX;
 use emitter::index::index_of;
@@ -30,7 +30,7 @@ ghost use Rattle.meaning.specs.Compile.{block, head-order, start-block, code-of
 ghost use Rattle.meaning.specs.Lists.{concat-map};
 ghost use Rattle.meaning.specs.Plan.{var-numbers, six};
 ghost use Rattle.meaning.specs.Value.{chart-of};
-ghost use Rattle.walks.specs.Walks.{Ruled};
+ghost use Rattle.tree_walks.specs.Walks.{Ruled};
 ghost use Rattle.emitter.specs.Pen.{pen, puts, emits, Room};
 ghost use Rattle.emitter.specs.Index.{Ready};
 ghost use Rattle.compiler.specs.Plans.{In-order, Compiles};

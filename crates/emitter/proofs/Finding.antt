@@ -15,7 +15,7 @@ use Rattle.sizes.specs.Sizes.{STATES, VARIABLES, TRANSITIONS, ACTIONS}
 use Rattle.numbers.specs.Reference.{NOWHERE}
 use Rattle.laws.proofs.Lists.{same-or, is-false}
 use Rattle.laws.proofs.Rules.{Owner-facts}
-use Rattle.chart.proofs.Rows.{states-most, transitions-most, actions-most}
+use Rattle.chart_rows.proofs.Rows.{states-most, transitions-most, actions-most}
 use Rattle.widget.specs.Acts.{Named}
 use Rattle.acts.proofs.Acting.{row-named}
 use Rattle.meaning.specs.Chart.{Chart, no-action}
@@ -28,8 +28,8 @@ use Rattle.meaning.specs.declared.plan.Instr.the-variants.{Does as does}
 use Rattle.meaning.specs.Effects.{same-owner, acts-in, acts-of}
 use Rattle.meaning.specs.Compile.{code-acts}
 use Rattle.meaning.specs.Value.{chart-of}
-use Rattle.walks.specs.Walks.{Ruled}
-use Rattle.walks.proofs.Passing.{sound}
+use Rattle.tree_walks.specs.Walks.{Ruled}
+use Rattle.tree_walks.proofs.Passing.{sound}
 use Rattle.emitter.specs.Pen.{Pen, pen, emits, Small-act, Room}
 use Rattle.emitter.specs.Index.{OWNERS, key, Fits, before-first, row-from, Indexed}
 use Rattle.emitter.proofs.Laws.{emits-none, emits-cons, emits-count}

@@ -1,14 +1,14 @@
 // The index of a chart's actions (01, "An owner's actions run in line order"): each owner's first row, and for each row the next one of
 // the same owner. Made once, it lets an owner's actions be found without a look at the others'.
-use chart::action_count;
-use chart::action_row;
+use chart_rows::action_count;
+use chart_rows::action_row;
 use meaning::chart::Owner;
 use sizes::ACTIONS;
 use sizes::STATES;
 use sizes::TRANSITIONS;
 ghost use mathlib.Core.Path.{_≡_};
 ghost use Rattle.meaning.specs.Value.{chart-of};
-ghost use Rattle.walks.specs.Walks.{Ruled};
+ghost use Rattle.tree_walks.specs.Walks.{Ruled};
 ghost use Rattle.emitter.specs.Index.{key, Fits, Indexed};
 
 // How many owners there can be: entry, exit and default of each state, and each transition.

@@ -1,9 +1,9 @@
 // The calls for a caller that has checked its chart once: each requires what check promises with answer 0, and promises what the call
 // that checks does.
-use calls::discard_ruled;
-use calls::post_ruled;
 use meaning::Called;
 use meaning::State;
+use queue_calls::discard_ruled;
+use queue_calls::post_ruled;
 use reaction::running::run_ruled;
 use reaction::starting::start_ruled;
 ghost use Rattle.promises.specs.Promises.{Accepted, Started, Ran, Posted, Discarded};

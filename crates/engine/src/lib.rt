@@ -5,8 +5,7 @@ pub mod checked;
 pub mod planned;
 pub mod plans;
 
-use calls::answers::refused;
-pub use chart::layout::VALUE;
+pub use chart_rows::layout::VALUE;
 use checked::discard_checked;
 use checked::post_checked;
 use checked::run_checked;
@@ -18,6 +17,7 @@ pub use meaning::Written;
 use meaning::answers::RULE_FAILS;
 pub use meaning::plan::Compiled;
 use queue::Queue;
+use queue_calls::answers::refused;
 use reaction::ends::refuse;
 use reader::read::clear;
 use reader::read::read_rows;

@@ -21,7 +21,7 @@ use Rattle.meaning.specs.Rules.{row-fits}
 use Rattle.meaning.specs.Value.{count-fits, var-by, var-statable}
 use Rattle.meaning.specs.WellFormed.{HEAD-ROW, var-keeps, one-of, span-fits, head-guard-fits, head-fits}
 use Rattle.meaning.specs.WellFormed.{FORMS, no-form, field-fits, form-fits, instr-fits}
-use Rattle.chart.proofs.Rows.{num-at}
+use Rattle.chart_rows.proofs.Rows.{num-at}
 use Rattle.examiner.specs.declared.instructions.Field.{Field}
 use Rattle.examiner.specs.declared.instructions.Form.the-variants.{Wrong, Of}
 use Rattle.examiner.specs.Forms.{field-of, form-of}

@@ -5,7 +5,7 @@ mod heads;
 mod instructions;
 mod variables;
 
-use chart::number_at;
+use chart_rows::number_at;
 use fits::count_fits;
 use heads::blocks_fill;
 use heads::heads_fit;

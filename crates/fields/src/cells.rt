@@ -1,7 +1,7 @@
 // Fields read into cells (01, "Chart text"): a number, a letter or "-", each with the mark 0, 1 or 2 that it gives.
 use crate::field;
 use crate::letter_at;
-use chart::decode::ABSENT;
+use chart_rows::decode::ABSENT;
 use meaning::Cell;
 use meaning::Num;
 use meaning::answers::OUTSIDE_SIZE;

@@ -7,7 +7,7 @@ use lib.ListN.{length}
 use lib.IntN.{ℤ}
 use Rattle.laws.proofs.Rules.{Target-facts}
 use Rattle.laws.proofs.Scope.{scope-facts}
-use Rattle.chart.proofs.Rows.{states-most}
+use Rattle.chart_rows.proofs.Rows.{states-most}
 use Rattle.meaning.specs.Chart.{Chart}
 use Rattle.meaning.specs.declared.chart.Owner.the-variants.{TransitionOf as transition-of}
 use Rattle.meaning.specs.declared.chart.Target.{Target as Aim}
@@ -20,14 +20,14 @@ use Rattle.meaning.specs.Steps.{_then_, each}
 use Rattle.meaning.specs.Tree.{descendants, scope, trans-row}
 use Rattle.meaning.specs.Value.{chart-of}
 use Rattle.meaning.specs.Widget.{emit, taken}
-use Rattle.walks.specs.Walks.{Ruled}
-use Rattle.walks.proofs.Passing.{sound}
+use Rattle.tree_walks.specs.Walks.{Ruled}
+use Rattle.tree_walks.proofs.Passing.{sound}
 use Rattle.widget.specs.declared.Went.{Went}
 use Rattle.widget.specs.View.{Lent, all-lent, with-vars, with-queue, with-trace, Whole, Within, Did}
 use Rattle.widget.proofs.Going.{then-on, then-stop}
-use Rattle.moves.specs.Moves.{goal-way, goal-visit, Led}
-use Rattle.moves.specs.declared.ways.Goal.{Goal}
-use Rattle.moves.specs.declared.ways.Goal.the-variants.{Target, Owner}
+use Rattle.leave_enter.specs.Moves.{goal-way, goal-visit, Led}
+use Rattle.leave_enter.specs.declared.ways.Goal.{Goal}
+use Rattle.leave_enter.specs.declared.ways.Goal.the-variants.{Target, Owner}
 use Rattle.firing.specs.Moving.{moving}
 use Rattle.firing.proofs.Leading.{leave-all-led, led-after}
 

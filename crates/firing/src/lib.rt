@@ -1,16 +1,16 @@
 // Firing one transition (01, "Firing"): entry 1 of the trace, the active states of the span left, the transition's actions,
 // and the way down to the target or the history; a reaction in place leaves and enters nothing.
 use acts::perform_all;
-use chart::trans_row;
+use chart_rows::trans_row;
+use leave_enter::entering::towards;
+use leave_enter::leaving::leave_below;
+use leave_enter::ways::Goal;
 use meaning::chart::Owner;
 use meaning::chart::Target;
-use moves::entering::towards;
-use moves::leaving::leave_below;
-use moves::ways::Goal;
 use queue::lent::QUEUE_NUMBERS;
 use sizes::STATES;
 use sizes::VARIABLES;
-use walks::scope;
+use tree_walks::scope;
 use widget::Went;
 use widget::mark_taken;
 ghost use mathlib.Core.Path.{_≡_};
@@ -19,9 +19,9 @@ ghost use lib.ListN.{length};
 ghost use Rattle.queue.specs.Numbers.{QUEUE-NUMBERS as all};
 ghost use Rattle.meaning.specs.Reaction.{fire as fires};
 ghost use Rattle.meaning.specs.Value.{chart-of};
-ghost use Rattle.walks.specs.Walks.{Ruled};
+ghost use Rattle.tree_walks.specs.Walks.{Ruled};
 ghost use Rattle.widget.specs.View.{all-lent, Did};
-ghost use Rattle.moves.specs.Moves.{Inside, Led};
+ghost use Rattle.leave_enter.specs.Moves.{Inside, Led};
 ghost use Rattle.firing.specs.Moving.{moving};
 
 // The states below the scope are left, then the transition's actions, then the way down to the goal.

@@ -2,15 +2,15 @@
 // where it is 0 stores the row that the line states at its place in the chart's numbers.
 pub mod marks;
 
-use chart::layout::ACT_ROW;
-use chart::layout::ACTIONS_AT;
-use chart::layout::EVENT_COUNT;
-use chart::layout::STATE_ROW;
-use chart::layout::STATES_AT;
-use chart::layout::TRANS_ROW;
-use chart::layout::TRANSITIONS_AT;
-use chart::layout::VAR_ROW;
-use chart::layout::VARS_AT;
+use chart_rows::layout::ACT_ROW;
+use chart_rows::layout::ACTIONS_AT;
+use chart_rows::layout::EVENT_COUNT;
+use chart_rows::layout::STATE_ROW;
+use chart_rows::layout::STATES_AT;
+use chart_rows::layout::TRANS_ROW;
+use chart_rows::layout::TRANSITIONS_AT;
+use chart_rows::layout::VAR_ROW;
+use chart_rows::layout::VARS_AT;
 use fields::cells::among;
 use fields::cells::count_cell;
 use fields::cells::is_turn;

@@ -15,8 +15,8 @@ use Rattle.meaning.specs.Effects.{take-queue, enqueue}
 use Rattle.meaning.specs.Foreign.{event-fits}
 use Rattle.meaning.specs.Calls.{refused, outcome, called, take-front}
 use Rattle.meaning.specs.Machine.{plan-tests, plan-post, plan-discard}
-use Rattle.calls.specs.Parts.{quiet}
-use Rattle.calls.proofs.Answering.{refusing, ending}
+use Rattle.queue_calls.specs.Parts.{quiet}
+use Rattle.queue_calls.proofs.Answering.{refusing, ending}
 use Rattle.machine.proofs.Gates.{owns, tests-7, tests-6, tests-on, require-no, require-on}
 
 module _ (p : Plan) (u : State) where

@@ -5,13 +5,13 @@ pub mod running;
 pub mod starting;
 pub mod waiting;
 
-use calls::answers::refused;
 use ends::refuse;
 use examiner::examine;
 use meaning::Called;
 use meaning::State;
 use meaning::answers::NOT_A_PLAN;
 use plan_rows::counts;
+use queue_calls::answers::refused;
 use running::run_examined;
 use starting::start_examined;
 use waiting::discard_examined;

@@ -1,7 +1,4 @@
 // The calls on a plan that was examined that make no reaction (01, "One reaction"): post and discard.
-use calls::answers::done;
-use calls::answers::refused;
-use calls::answers::with_queue;
 use meaning::Called;
 use meaning::State;
 use meaning::answers::FOREIGN;
@@ -11,6 +8,9 @@ use meaning::answers::QUEUE_EMPTY;
 use meaning::answers::QUEUE_FULL;
 use meaning::plan::Counts;
 use plan_own::own;
+use queue_calls::answers::done;
+use queue_calls::answers::refused;
+use queue_calls::answers::with_queue;
 use widget::fits::event_fits;
 ghost use mathlib.Core.Path.{_≡_};
 ghost use Rattle.meaning.specs.Calls.{called};

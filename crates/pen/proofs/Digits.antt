@@ -10,7 +10,7 @@ use lib.Signed.{mag}
 use lib.ListN.{length, length-append}
 use borrow.Author.Tests.{ltb-true, ltb-false}
 use Rattle.meaning.specs.Number.{digits, numeral}
-use Rattle.round.proofs.Numbers.{digits-one, digits-more}
+use Rattle.round_trip.proofs.Numbers.{digits-one, digits-more}
 
 -- a number below 10^(k + 1) has at most k + 1 digits
 tenth-below : (k n : ℕ) → n < 10 ^ suc k → n / 10 < 10 ^ k

@@ -13,7 +13,7 @@ use lib.IntN.{ℤ, pos, negsuc, natAbs}
 use lib.Signed.{ltZ}
 use Rattle.meaning.specs.Number.{digits, numeral}
 use Rattle.pen.specs.Pen.{Pen, pen, put-if, put-byte, put-all}
-use Rattle.round.proofs.Numbers.{digits-one, digits-more}
+use Rattle.round_trip.proofs.Numbers.{digits-one, digits-more}
 
 pub all-append : (xs ys : List ℕ) (p : Pen) → put-all (xs ++ ys) p ≡ put-all ys (put-all xs p)
 unfolding put-all

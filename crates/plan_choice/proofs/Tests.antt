@@ -17,7 +17,7 @@ use Rattle.meaning.specs.Widget.{is-active}
 use Rattle.meaning.specs.Reaction.{guard-holds}
 use Rattle.meaning.specs.Machine.{head-enabled, spans-meet}
 use Rattle.meaning.specs.WellFormed.{HEAD-ROW, head-by, head-guard-by}
-use Rattle.chart.proofs.Rows.{num-at}
+use Rattle.chart_rows.proofs.Rows.{num-at}
 use Rattle.choice.proofs.Seen.{guard-seen}
 use Rattle.plan_choice.specs.Heads.{head-at}
 

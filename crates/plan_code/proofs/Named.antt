@@ -29,7 +29,7 @@ use Rattle.meaning.specs.WellFormed.{left-after-each, left-in-blocks, code-fits
 use Rattle.plan_rows.specs.Rows.{row, Sized}
 use Rattle.plan_rows.proofs.Rows.{code-length, head-rows-length, head-rows-at, instr-of-plan, instr-there}
 use Rattle.plan_rows.proofs.Blocks.{fills-within, fills-first, fills-rest, left-cons, code-next, code-first, code-block}
-use Rattle.chart.proofs.Rows.{num-at}
+use Rattle.chart_rows.proofs.Rows.{num-at}
 use Rattle.widget.specs.Acts.{Below}
 use Rattle.plan_choice.specs.Heads.{Examined, head-of}
 use Rattle.plan_choice.proofs.Facts.{Passed, passes, counts-sized}

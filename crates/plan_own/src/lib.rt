@@ -19,7 +19,7 @@ ghost use Rattle.numbers.specs.Equal.{eqZ};
 ghost use Rattle.meaning.specs.Lists.{every};
 ghost use Rattle.meaning.specs.Foreign.{values-fit, plan-slot-fits, plan-own};
 ghost use Rattle.meaning.specs.WellFormed.{plan-by};
-ghost use Rattle.calls.specs.Parts.{value-fits};
+ghost use Rattle.queue_calls.specs.Parts.{value-fits};
 ghost use Rattle.plan_choice.specs.Heads.{Examined};
 
 // A variable of the plan in its range, any other 0.

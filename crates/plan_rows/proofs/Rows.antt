@@ -19,7 +19,7 @@ use Rattle.meaning.specs.declared.plan.Instr.{Instr}
 use Rattle.meaning.specs.Value.{num, size-by, VAR-ROW, var-by}
 use Rattle.meaning.specs.WellFormed.{SIX, HEAD-ROW, INSTR-ROW, counts-of, heads-at, code-at, plan-end, var-rows, head-rows, code-rows}
 use Rattle.meaning.specs.WellFormed.{head-guard-by, head-by, instr-of, instr-by, plan-by}
-use Rattle.chart.proofs.Rows.{length-chunks, chunk-at, row-at, length-rows, num-at, size-most}
+use Rattle.chart_rows.proofs.Rows.{length-chunks, chunk-at, row-at, length-rows, num-at, size-most}
 use Rattle.plan_rows.specs.Rows.{row, Sized}
 
 -- ---- the counts

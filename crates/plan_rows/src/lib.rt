@@ -3,7 +3,7 @@
 pub mod decode;
 pub mod layout;
 
-use chart::number_at;
+use chart_rows::number_at;
 use decode::head_guard_by;
 use decode::instr_of;
 use layout::BLOCK_LENGTH;

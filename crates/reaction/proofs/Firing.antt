@@ -12,7 +12,7 @@ use Rattle.meaning.specs.Reaction.{fire}
 use Rattle.meaning.specs.Value.{chart-of}
 use Rattle.laws.proofs.Lists.{each-at}
 use Rattle.laws.proofs.Value.{getD-map}
-use Rattle.walks.proofs.Passing.{sound}
+use Rattle.tree_walks.proofs.Passing.{sound}
 use Rattle.widget.specs.View.{Lent, ctx, Did, Owes}
 use Rattle.widget.specs.declared.Went.{Went}
 use Rattle.widget.proofs.Going as going

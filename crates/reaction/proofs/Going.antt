@@ -14,15 +14,15 @@ use Rattle.meaning.specs.Widget.{Ctx}
 use Rattle.laws.proofs.Steps.{Holds}
 use Rattle.laws.proofs.Value.{Sized-chart, sized-chart}
 use Rattle.laws.proofs.Stays.{Stays}
-use Rattle.walks.specs.Walks.{Ruled}
-use Rattle.walks.proofs.Passing.{rules-passed}
+use Rattle.tree_walks.specs.Walks.{Ruled}
+use Rattle.tree_walks.proofs.Passing.{rules-passed}
 use Rattle.widget.specs.View.{Lent, Whole, ctx, went, Did}
 use Rattle.widget.specs.declared.Went.{Went}
 use Rattle.widget.proofs.Going.{said-ok}
 use Rattle.invariants.proofs.Good.{Good}
 use Rattle.invariants.proofs.Slots.{slot-child}
 use Rattle.reaction.specs.Ready.{Ready}
-use Rattle.moves.specs.Moves.{Led}
+use Rattle.leave_enter.specs.Moves.{Led}
 
 pub sized : (v : List ℤ) → Ruled v → Sized-chart (chart-of v)
 sized v r = sized-chart v (rules-passed v r .0)

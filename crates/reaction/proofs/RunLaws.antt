@@ -29,8 +29,8 @@ use Rattle.meaning.specs.Reaction.{step, settle}
 use Rattle.meaning.specs.Foreign.{own, queue-fits}
 use Rattle.meaning.specs.Calls.{refused, outcome, tests, take-front, react, run, called, lent}
 use Rattle.laws.proofs.Lists.{and-left, le-or-lt}
-use Rattle.walks.specs.Walks.{Ruled}
-use Rattle.walks.proofs.Passing.{sound}
+use Rattle.tree_walks.specs.Walks.{Ruled}
+use Rattle.tree_walks.proofs.Passing.{sound}
 use Rattle.widget.specs.View.{Lent, all-lent, ctx, tracing, went, Did}
 use Rattle.widget.specs.declared.Went.{Went}
 use Rattle.invariants.proofs.Good.{Good, Sized, set-queue-good}

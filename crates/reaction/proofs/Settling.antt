@@ -14,7 +14,7 @@ use Rattle.meaning.specs.Value.{chart-of}
 use Rattle.meaning.specs.Widget.{Ctx}
 use Rattle.laws.proofs.Lists.{Each, each-weaker}
 use Rattle.laws.proofs.Stays.{each-stays}
-use Rattle.walks.proofs.Passing.{sound}
+use Rattle.tree_walks.proofs.Passing.{sound}
 use Rattle.widget.specs.View.{Lent, ctx, tracing, said, went, Did, Owes}
 use Rattle.widget.specs.declared.Went.{Went}
 use Rattle.widget.proofs.Going as going

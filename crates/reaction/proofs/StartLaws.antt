@@ -28,8 +28,8 @@ use Rattle.meaning.specs.Calls.{fresh, start-steps, start, outcome, called, len
 use Rattle.laws.proofs.Stays.{Stays, each-stays}
 use Rattle.laws.proofs.Value.{getD-map}
 use Rattle.laws.proofs.Ways.{defaults-sound}
-use Rattle.walks.specs.Walks.{Ruled}
-use Rattle.walks.proofs.Passing.{sound}
+use Rattle.tree_walks.specs.Walks.{Ruled}
+use Rattle.tree_walks.proofs.Passing.{sound}
 use Rattle.widget.specs.View.{Lent, all-lent, ctx, tracing, went, Did}
 use Rattle.widget.specs.declared.Went.{Went}
 use Rattle.invariants.proofs.Good.{Good, enter-good, visit-good}

@@ -2,11 +2,11 @@
 use super::ends::finish;
 use super::steps::settle;
 use acts::enter;
-use chart::var_count;
-use chart::var_row;
+use chart_rows::var_count;
+use chart_rows::var_row;
+use leave_enter::entering::by_defaults;
 use meaning::Called;
 use meaning::State;
-use moves::entering::by_defaults;
 use queue::Queue;
 use queue::lent::QUEUE_NUMBERS;
 use queue::lent::lend;
@@ -18,7 +18,7 @@ ghost use mathlib.Core.List.{map};
 ghost use lib.ListN.{length};
 ghost use Rattle.meaning.specs.Calls.{called, lent, fresh, start-steps, start as starts};
 ghost use Rattle.meaning.specs.Value.{chart-of};
-ghost use Rattle.walks.specs.Walks.{Ruled};
+ghost use Rattle.tree_walks.specs.Walks.{Ruled};
 ghost use Rattle.widget.specs.View.{all-lent, Did};
 ghost use Rattle.reaction.specs.Ready.{Ready};
 

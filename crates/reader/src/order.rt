@@ -1,9 +1,9 @@
 // The order S, V, one E, T, A (01, "Chart text"): a line is read as the record that its first letter names, if that stands in its
 // place, and counted after it.
-use chart::layout::ACTION_COUNT;
-use chart::layout::STATE_COUNT;
-use chart::layout::TRANSITION_COUNT;
-use chart::layout::VAR_COUNT;
+use chart_rows::layout::ACTION_COUNT;
+use chart_rows::layout::STATE_COUNT;
+use chart_rows::layout::TRANSITION_COUNT;
+use chart_rows::layout::VAR_COUNT;
 use lines::line_a;
 use lines::line_e;
 use lines::line_s;

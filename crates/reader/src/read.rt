@@ -1,7 +1,7 @@
 // A text's rows read into lent numbers (01, "Chart text", "Answer numbers"): any text, any number of lent numbers. A refused read
 // leaves all of them 0.
 use crate::walk;
-use chart::layout::VALUE;
+use chart_rows::layout::VALUE;
 use meaning::Answer;
 use meaning::answers::OUTSIDE_SIZE;
 use meaning::answers::RULE_FAILS;

@@ -13,7 +13,7 @@ use Rattle.numbers.specs.Range.{inRange}
 use Rattle.meaning.specs.Lists.{chunks}
 use Rattle.meaning.specs.Value.{num, is-letter, one-of-letters, number-if, STATE-ROW, VAR-ROW, TRANS-ROW, ACT-ROW}
 use Rattle.meaning.specs.Value.{state-statable, var-statable, guard-statable, target-statable, trans-statable, action-statable}
-use Rattle.chart.proofs.Rows.{chunk-at, num-at, num-first}
+use Rattle.chart_rows.proofs.Rows.{chunk-at, num-at, num-first}
 
 -- ---- the loop over the letters: those from i on say as much as all
 

@@ -1,15 +1,15 @@
 // R5 to R7 (01, "Chart rules, in order"): the variables, the transitions and the actions. Each function equals the
 // definition of the same name in the crate meaning, on every input.
 use super::states::is_state;
-use chart::action_count;
-use chart::action_row;
-use chart::event_count;
-use chart::kind_of;
-use chart::trans_row;
-use chart::transition_count;
-use chart::tree::is_o;
-use chart::var_count;
-use chart::var_row;
+use chart_rows::action_count;
+use chart_rows::action_row;
+use chart_rows::event_count;
+use chart_rows::kind_of;
+use chart_rows::trans_row;
+use chart_rows::transition_count;
+use chart_rows::tree::is_o;
+use chart_rows::var_count;
+use chart_rows::var_row;
 use meaning::chart::Act;
 use meaning::chart::ActRow;
 use meaning::chart::Guard;

@@ -1,12 +1,12 @@
 // R1 to R4 (01, "Chart rules, in order"): the states and their tree. Each function equals a definition of the crate
 // meaning, or of specs/Family.antt, on every input.
-use chart::default_child;
-use chart::kind_of;
-use chart::parent_of;
-use chart::state_count;
-use chart::tree::is_ancestor;
-use chart::tree::is_child;
-use chart::tree::is_o;
+use chart_rows::default_child;
+use chart_rows::kind_of;
+use chart_rows::parent_of;
+use chart_rows::state_count;
+use chart_rows::tree::is_ancestor;
+use chart_rows::tree::is_child;
+use chart_rows::tree::is_o;
 use meaning::chart::Kind;
 use sizes::STATES;
 ghost use mathlib.Core.Path.{_≡_};

@@ -17,8 +17,8 @@ use Rattle.meaning.specs.Text.{Outcome, done, refused, answer-of, lent, lent-nu
 use Rattle.meaning.specs.Program.{ROOM, reported, turn, output-by, output}
 use Rattle.promises.specs.Promises.{Accepted}
 use Rattle.reader.proofs.ReadLaws.{read-never-zero}
-use Rattle.round.proofs.Round.{read-then-rules, passes}
-use Rattle.round.proofs.Values.{enough}
+use Rattle.round_trip.proofs.Round.{read-then-rules, passes}
+use Rattle.round_trip.proofs.Values.{enough}
 use Rattle.console.specs.Session.{Turns, Passed, passed-all, finished, all-printed}
 use Rattle.console.specs.Session.{Under as Seen}
 use Rattle.console.proofs.Session.{fresh, session-printed, all-by-parts, under-append, printed-append, printed-none}

@@ -1,5 +1,5 @@
 -- The sizes of document 01, "Sizes": one name each, and no other definition has the number. Assumes nothing.
-use Prim.Native.Nat.{ℕ}
+use Prim.Native.Nat.{ℕ, _+_, _*_}
 
 -- states 2 to 64
 abbrev pub STATES : ℕ
@@ -40,3 +40,7 @@ MOST = 1000000000
 -- "The plan": at most 200,000 instructions
 abbrev pub INSTRUCTIONS : ℕ
 INSTRUCTIONS = 200000
+
+-- "One reaction": a started mark, a mark and a slot for each state, the variables, a queue length and its places of event and argument
+abbrev pub STATE-NUMBERS : ℕ
+STATE-NUMBERS = 1 + STATES + STATES + VARIABLES + 1 + QUEUE * 2

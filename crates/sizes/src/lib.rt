@@ -18,3 +18,5 @@ pub const TEXT: usize = 32768;
 pub const MOST: i32 = 1000000000;
 // "The plan": at most so many instructions.
 pub const INSTRUCTIONS: usize = 200000;
+// A saved widget ("One reaction"): a started mark, a mark and a slot for each state, the variables, a queue length and its places.
+pub const STATE_NUMBERS: usize = 1 + STATES + STATES + VARIABLES + 1 + QUEUE * 2;

@@ -11,9 +11,9 @@ use Rattle.numbers.specs.Range.{inRange}
 use Rattle.numbers.specs.Reference.{ref}
 use Rattle.meaning.specs.Lists.{has}
 use Rattle.meaning.specs.Value.{num, is-letter, one-of-letters, number-if, guard-statable, target-statable, state-statable, trans-statable, action-statable}
-use Rattle.round.proofs.Cells.{both, letter-is}
-use Rattle.round.proofs.LinesKept.{KINDS, SIGNS, OWNERS, ACTS, SECOND}
-use Rattle.round.proofs.TransRead.{GuardIs, none-is, some-is, guard-is}
+use Rattle.round_trip.proofs.Cells.{both, letter-is}
+use Rattle.round_trip.proofs.LinesKept.{KINDS, SIGNS, OWNERS, ACTS, SECOND}
+use Rattle.round_trip.proofs.TransRead.{GuardIs, none-is, some-is, guard-is}
 use Rattle.writer.specs.Letters.{IsLetter}
 
 abbrev bytes : List ℕ → Bool

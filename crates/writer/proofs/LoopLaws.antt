@@ -16,10 +16,10 @@ use Rattle.meaning.specs.Value.{state-statable, trans-statable, action-statable
 use Rattle.meaning.specs.Split.{LF, ended}
 use Rattle.meaning.specs.Line.{s-text, v-text, e-text, t-text, a-text}
 use Rattle.meaning.specs.Text.{text-by, text-of}
-use Rattle.chart.proofs.Rows.{chunk-at, length-chunks}
-use Rattle.round.proofs.Cells.{both}
-use Rattle.round.proofs.Splits.{ended-append}
-use Rattle.round.proofs.Values.{value-shaped}
+use Rattle.chart_rows.proofs.Rows.{chunk-at, length-chunks}
+use Rattle.round_trip.proofs.Cells.{both}
+use Rattle.round_trip.proofs.Splits.{ended-append}
+use Rattle.round_trip.proofs.Values.{value-shaped}
 use Rattle.pen.specs.Pen.{Pen, put-all}
 use Rattle.writer.specs.Letters.{IsLetter}
 use Rattle.writer.specs.Row.{row-in, with-lf}

@@ -10,7 +10,7 @@ use Rattle.meaning.specs.Value.{num, STATE-ROW, VAR-ROW, TRANS-ROW, ACT-ROW, ST
 use Rattle.meaning.specs.Number.{numeral}
 use Rattle.meaning.specs.Split.{TAB, LF, tails, joined}
 use Rattle.meaning.specs.Line.{number-text, letter-text, target-text, s-text, v-text, e-text, t-text, a-text}
-use Rattle.chart.proofs.Rows.{num-at, num-first}
+use Rattle.chart_rows.proofs.Rows.{num-at, num-first}
 use Rattle.pen.specs.Pen.{Pen, put-byte, put-all}
 use Rattle.writer.specs.Letters.{IsLetter}
 use Rattle.writer.specs.Row.{row-in, with-lf}

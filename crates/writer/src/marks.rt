@@ -1,6 +1,6 @@
 // The fields of a line: a tab, and a number, a letter, a target or "-", put into a lent slice by the pen.
-use chart::decode::is_absent;
-use chart::decode::is_letter;
+use chart_rows::decode::is_absent;
+use chart_rows::decode::is_letter;
 use pen::put;
 use pen::put_numeral;
 ghost use mathlib.Core.Path.{_≡_};

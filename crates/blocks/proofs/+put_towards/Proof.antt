@@ -1,11 +1,11 @@
 -- `put_towards` puts each child that is due on the way to the goal, with what is below it. The measure is how many states are left. Assumes nothing.
-use Rattle.chart.proofs.Rows.{states-most}
+use Rattle.chart_rows.proofs.Rows.{states-most}
 use mathlib.Core.Path.{_∙_, refl, sym}
 use Prim.Native.Nat.{_-_}
 use borrow.Author.Tests.{not-true, not-false}
 use Rattle.meaning.specs.Value.{chart-of}
-use Rattle.moves.specs.Moves.{goal-way}
-use Rattle.moves.proofs.Among.{goal-child}
+use Rattle.leave_enter.specs.Moves.{goal-way}
+use Rattle.leave_enter.proofs.Among.{goal-child}
 use Rattle.blocks.proofs.KidsLeft.{goal-kids-left}
 use Rattle.blocks.specs.Parts.{goal-code}
 use Rattle.blocks.proofs.Descent.{Going, going-begin, going-skip, going-room, going-room-below, going-on, going-size, going-end}
@@ -18,9 +18,9 @@ use Rattle.blocks.proofs.put_towards.Reads as put-towards
 use Rattle.blocks.proofs.put_towards.Kinds as put-towards-kinds
 use Rattle.blocks.proofs.+put_towards.Lts-put_towards as put-towards-lts
 use Rattle.blocks.proofs.put_arrival.Reads as put-arrival-reads
-use Rattle.chart.proofs.tree.is_child.Reads as is-child-reads
+use Rattle.chart_rows.proofs.tree.is_child.Reads as is-child-reads
 use Rattle.blocks.proofs.kids.kids_within.Reads as kids-within-reads
-use Rattle.moves.proofs.ways.next_of.Reads as next-of-reads
+use Rattle.leave_enter.proofs.ways.next_of.Reads as next-of-reads
 use Rattle.blocks.proofs.+put_towards.{statement}
 use Rattle.blocks.proofs.+put_towards.Tie.{close}
 

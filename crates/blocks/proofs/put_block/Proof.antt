@@ -1,7 +1,7 @@
 -- `put_block`: by the form of the target. Assumes nothing.
 use mathlib.Core.Path.{ap}
 use lib.ListN.{length}
-use Rattle.chart.proofs.Rows.{transitions-most}
+use Rattle.chart_rows.proofs.Rows.{transitions-most}
 use Rattle.meaning.specs.Value.{chart-of}
 use Rattle.emitter.proofs.Laws.{emits-at}
 use Rattle.blocks.proofs.Putting.{put-as}

@@ -1,11 +1,11 @@
 -- `put_exits` puts every state below s, falling. Assumes nothing.
-use Rattle.chart.proofs.Rows.{states-most}
+use Rattle.chart_rows.proofs.Rows.{states-most}
 use Prim.Native.Nat.{_-_, _≤_, _<_}
 use mathlib.Core.Path.{_≡_, refl}
 use Rattle.meaning.specs.Value.{chart-of}
 use Rattle.meaning.specs.Compile.{exit-code, exits-code}
 use Rattle.meaning.specs.Tree.{descendants}
-use Rattle.walks.proofs.Passing.{sound}
+use Rattle.tree_walks.proofs.Passing.{sound}
 use Rattle.emitter.proofs.Laws.{same-size}
 use Rattle.blocks.proofs.Descent.{Falling, falling-begin, falling-room, falling-on, falling-end, end-inside}
 use borrow.Author.Needs.{needs}

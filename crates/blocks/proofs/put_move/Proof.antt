@@ -1,5 +1,5 @@
 -- `put_move`: the exits, the actions, the way to the goal. Assumes nothing.
-use Rattle.chart.proofs.Rows.{transitions-most}
+use Rattle.chart_rows.proofs.Rows.{transitions-most}
 use Rattle.meaning.specs.Value.{chart-of}
 use Rattle.emitter.proofs.Laws.{put-both, emits-at}
 use Rattle.blocks.proofs.Putting.{put-as}

@@ -8,7 +8,7 @@ use borrow.Author.Needs.{needs}
 use Rattle.meaning.specs.Value.{chart-of}
 use Rattle.meaning.specs.Reaction.{chosen}
 use Rattle.laws.proofs.Value.{sized-chart}
-use Rattle.walks.proofs.Passing.{rules-passed}
+use Rattle.tree_walks.proofs.Passing.{rules-passed}
 use Rattle.choice.specs.Choice.{seen, no-pick, picked, Stands}
 use Rattle.choice.proofs.All.{with-sources, chosen-all, none-left, source-room, source-added}
 use Rattle.choice.proofs.choose.Statement.{statement}

@@ -2,7 +2,7 @@
 use Prim.Native.Nat.{ℕ}
 use lib.ListN.{length-replicate}
 use Rattle.meaning.specs.Value.{chart-of}
-use Rattle.chart.proofs.Rows.{vars-most}
+use Rattle.chart_rows.proofs.Rows.{vars-most}
 use Rattle.compiler.proofs.Bounds.{code-most}
 use Rattle.compiler.proofs.Heading.{order-long}
 use Rattle.compiler.proofs.Whole.{plan-long, whole-put, six-at, vars-at, heads-at, whole-fits, compiles-whole, compiles-over}

@@ -1,7 +1,7 @@
 -- `put_six` puts three numbers and three. Assumes nothing.
 use Rattle.numbers.proofs.Laws.{back32}
 use Rattle.meaning.specs.Value.{chart-of}
-use Rattle.chart.proofs.Rows.{states-most, vars-most}
+use Rattle.chart_rows.proofs.Rows.{states-most, vars-most}
 use Rattle.acts.proofs.Acting.{events-most}
 use Rattle.emitter.proofs.Laws.{puts-at}
 use Rattle.compiler.proofs.Bounds.{order-few, code-most, start-few}

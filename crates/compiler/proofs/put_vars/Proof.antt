@@ -4,7 +4,7 @@ use Rattle.meaning.specs.Value.{chart-of}
 use mir.Facts.{toZ-ofZ}
 use mir.Syntax.{w32}
 use mir.Val.{SFits}
-use Rattle.chart.proofs.Rows.{vars-most}
+use Rattle.chart_rows.proofs.Rows.{vars-most}
 use Rattle.compiler.proofs.Heading.{Ranging, ranging-begin, ranging-on, ranging-end, same-sized}
 use borrow.Author.Needs.{needs}
 use native.Mathlib.Omega.{arith}

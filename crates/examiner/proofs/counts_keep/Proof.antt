@@ -5,7 +5,7 @@ use lib.IntN.{ℤ}
 use Rattle.sizes.specs.Sizes.{STATES, VARIABLES, EVENTS, TRANSITIONS, INSTRUCTIONS}
 use Rattle.meaning.specs.Value.{num, count-fits}
 use Rattle.meaning.specs.WellFormed.{counts-keep}
-use Rattle.chart.proofs.Said.{said-of}
+use Rattle.chart_rows.proofs.Said.{said-of}
 use Rattle.rules.proofs.Tests.{refuted, held, on}
 use borrow.Author.Needs.{needs}
 use Rattle.examiner.proofs.counts_keep.Statement.{statement}

@@ -1,7 +1,7 @@
 -- `fire` goes by the transition's target. Assumes nothing.
 use native.Mathlib.Omega.{arith}
 use mir.Facts.{toZ-ofZ}
-use Rattle.chart.proofs.Rows.{transitions-most}
+use Rattle.chart_rows.proofs.Rows.{transitions-most}
 use Rattle.widget.specs.View.{all-lent}
 use Rattle.firing.proofs.Taking.{to-inside, history-inside, fired-stop, fired-to, fired-history, fired-in-place}
 use borrow.Author.Needs.{needs}

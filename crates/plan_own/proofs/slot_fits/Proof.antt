@@ -4,7 +4,7 @@ use lib.Dec.{ltb}
 use lib.IntN.{negsuc}
 use Rattle.numbers.specs.Equal.{eqZ}
 use Rattle.numbers.specs.Reference.{ref}
-use Rattle.chart.proofs.Said.{said-own}
+use Rattle.chart_rows.proofs.Said.{said-own}
 use borrow.Author.Needs.{needs}
 use Rattle.plan_own.proofs.Clauses.{slot-empty, slot-state}
 use Rattle.plan_own.proofs.slot_fits.Statement.{statement}

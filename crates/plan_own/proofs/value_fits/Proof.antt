@@ -4,7 +4,7 @@ use mir.Facts.{toZ-ofZ}
 use mir.Syntax.{w32}
 use mir.Val.{SFits}
 use Rattle.meaning.specs.WellFormed.{plan-by}
-use Rattle.calls.proofs.Values.{value-there, value-unused}
+use Rattle.queue_calls.proofs.Values.{value-there, value-unused}
 use borrow.Author.Needs.{needs}
 use Rattle.plan_own.proofs.Clauses.{vars-many, row-there, row-is}
 use Rattle.plan_own.proofs.value_fits.Statement.{statement}

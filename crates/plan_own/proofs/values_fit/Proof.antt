@@ -12,7 +12,7 @@ use lib.ListN.{length, getD, drop}
 use Rattle.sizes.specs.Sizes.{VARIABLES}
 use Rattle.meaning.specs.Foreign.{values-fit}
 use Rattle.meaning.specs.WellFormed.{plan-by}
-use Rattle.calls.proofs.Values.{values-more, values-no, values-done}
+use Rattle.queue_calls.proofs.Values.{values-more, values-no, values-done}
 use Rattle.plan_choice.proofs.Facts.{counts-sized}
 use Rattle.plan_own.proofs.Clauses.{vars-many}
 use Rattle.plan_own.proofs.values_fit.Statement.{statement}

@@ -5,7 +5,7 @@ use lib.IntN.{pos}
 use lib.ListN.{getD}
 use Rattle.numbers.specs.Reference.{ref}
 use Rattle.meaning.specs.Value.{size-by}
-use Rattle.chart.proofs.Said.{said-of}
+use Rattle.chart_rows.proofs.Said.{said-of}
 use borrow.Author.Needs.{needs}
 use Rattle.plan_rows.proofs.count_at.Statement.{statement}
 use Rattle.plan_rows.proofs.count_at.Tie as tie

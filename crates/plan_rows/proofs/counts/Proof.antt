@@ -1,6 +1,6 @@
 -- `counts` reads the header. Assumes nothing.
 use Rattle.numbers.specs.Reference.{ref}
-use Rattle.chart.proofs.Said.{said-of}
+use Rattle.chart_rows.proofs.Said.{said-of}
 use Rattle.plan_rows.proofs.Rows.{counts-said}
 use borrow.Author.Needs.{needs}
 use Rattle.plan_rows.proofs.counts.Statement.{statement}

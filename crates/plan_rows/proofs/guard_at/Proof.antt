@@ -1,7 +1,7 @@
 -- `guard_at` reads the three numbers of a head's guard. Assumes nothing.
 use mathlib.Core.Path.{sym, _∙_}
 use Rattle.meaning.specs.WellFormed.{head-guard-by}
-use Rattle.chart.proofs.Said.{said-of3}
+use Rattle.chart_rows.proofs.Said.{said-of3}
 use Rattle.plan_rows.proofs.Rows.{guard-of}
 use borrow.Author.Needs.{needs}
 use Rattle.plan_rows.proofs.guard_at.Statement.{statement}

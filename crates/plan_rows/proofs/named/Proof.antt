@@ -1,6 +1,6 @@
 -- `named` is the reference of the number at its place. Assumes nothing.
 use Rattle.numbers.specs.Reference.{ref}
-use Rattle.chart.proofs.Said.{said-of}
+use Rattle.chart_rows.proofs.Said.{said-of}
 use borrow.Author.Needs.{needs}
 use Rattle.plan_rows.proofs.named.Statement.{statement}
 use Rattle.plan_rows.proofs.named.Tie as tie

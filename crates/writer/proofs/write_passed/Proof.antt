@@ -1,6 +1,6 @@
 -- `write_passed`: the slice is set to 0, the text put from its start on, and the place after it tells whether all of it fitted. Assumes nothing.
 use Rattle.writer.proofs.WriteLaws.{wrote-over, wrote-in}
-use Rattle.round.proofs.Round.{passes}
+use Rattle.round_trip.proofs.Round.{passes}
 use native.Mathlib.Omega.{arith}
 use borrow.Author.Needs.{needs}
 use Rattle.writer.proofs.write_passed.Statement.{statement}

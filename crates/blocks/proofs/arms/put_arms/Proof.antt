@@ -2,7 +2,7 @@
 use mathlib.Core.Path.{ap}
 use lib.ListN.{length}
 use Rattle.meaning.specs.Value.{chart-of}
-use Rattle.chart.proofs.Rows.{states-most}
+use Rattle.chart_rows.proofs.Rows.{states-most}
 use Rattle.emitter.proofs.Laws.{emits-at}
 use Rattle.blocks.proofs.Joining.{arm-as, arms-put, arms-long}
 use native.Mathlib.Omega.{arith}

@@ -1,10 +1,10 @@
 -- `put_stored_arm` puts every state below the owner, rising. Assumes nothing.
-use Rattle.chart.proofs.Rows.{states-most}
+use Rattle.chart_rows.proofs.Rows.{states-most}
 use Prim.Native.Nat.{_-_, _≤_, _<_}
 use mathlib.Core.Path.{_≡_, refl}
 use Rattle.meaning.specs.Value.{chart-of}
 use Rattle.meaning.specs.Compile.{stored-code, stored-arm}
-use Rattle.walks.proofs.Passing.{sound}
+use Rattle.tree_walks.proofs.Passing.{sound}
 use Rattle.emitter.proofs.Laws.{same-size}
 use Rattle.blocks.proofs.Descent.{Rising, rising-begin, rising-room, rising-on, rising-end, end-inside}
 use native.Mathlib.Omega.{arith}

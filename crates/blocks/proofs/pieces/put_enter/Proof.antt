@@ -1,5 +1,5 @@
 -- `put_enter`: IN, then the entry actions. Assumes nothing.
-use Rattle.chart.proofs.Rows.{states-most}
+use Rattle.chart_rows.proofs.Rows.{states-most}
 use Rattle.emitter.proofs.Laws.{put-first, emits-at}
 use Rattle.meaning.specs.Compile.{enter-code}
 use native.Mathlib.Omega.{arith}

@@ -1,5 +1,5 @@
 -- `put_exit`: SKIPOUT over OUT and the exit actions, OUT, the actions. Assumes nothing.
-use Rattle.chart.proofs.Rows.{states-most}
+use Rattle.chart_rows.proofs.Rows.{states-most}
 use Rattle.emitter.proofs.Finding.{code-few}
 use Rattle.emitter.proofs.Laws.{emits-at}
 use Rattle.blocks.proofs.Putting.{exit-put, parent-small}

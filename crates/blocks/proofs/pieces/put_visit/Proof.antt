@@ -1,5 +1,5 @@
 -- `put_visit`: the default actions where due, then the state. Assumes nothing.
-use Rattle.chart.proofs.Rows.{states-most}
+use Rattle.chart_rows.proofs.Rows.{states-most}
 use mathlib.Core.Path.{sym, ap}
 use lib.ListN.{length, length-append}
 use Rattle.meaning.specs.Value.{chart-of}

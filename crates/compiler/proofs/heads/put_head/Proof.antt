@@ -1,7 +1,7 @@
 -- `put_head` puts three, three and four numbers. Assumes nothing.
 use Rattle.numbers.proofs.Laws.{back32}
 use Rattle.meaning.specs.Value.{chart-of}
-use Rattle.chart.proofs.Rows.{transitions-most}
+use Rattle.chart_rows.proofs.Rows.{transitions-most}
 use Rattle.emitter.proofs.Laws.{puts-at}
 use Rattle.compiler.proofs.Heading.{row-facts, row-reads, row-small, span-first, span-last, span-small, guard-three, head-put}
 use native.Mathlib.Omega.{arith}

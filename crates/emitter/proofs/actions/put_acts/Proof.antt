@@ -3,7 +3,7 @@ use Prim.Native.Nat.{_-_, _+_}
 use mathlib.Core.Path.{_≡_, _∙_, ap}
 use lib.ListN.{getD}
 use Rattle.meaning.specs.Value.{chart-of}
-use Rattle.chart.proofs.Rows.{actions-most}
+use Rattle.chart_rows.proofs.Rows.{actions-most}
 use Rattle.meaning.specs.declared.chart.Owner.{Owner}
 use Rattle.emitter.specs.Index.{OWNERS, Fits, key as key-in}
 use Rattle.emitter.proofs.Laws.{same-size}

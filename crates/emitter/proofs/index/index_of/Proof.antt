@@ -1,7 +1,7 @@
 -- `index_of` makes the index from the last row up. Assumes nothing.
 use Rattle.meaning.specs.Value.{chart-of}
 use Prim.Native.Nat.{_-_, _<_}
-use Rattle.chart.proofs.Rows.{actions-most}
+use Rattle.chart_rows.proofs.Rows.{actions-most}
 use Rattle.emitter.specs.Index.{OWNERS, key}
 use Rattle.emitter.proofs.Finding.{Building, building-begin, building-on, building-end, key-within, row-fits}
 use borrow.Author.Needs.{needs}

@@ -2,7 +2,7 @@
 use mathlib.Core.Path.{ap}
 use lib.Dec.{ltb}
 use Rattle.numbers.specs.Reference.{ref}
-use Rattle.chart.proofs.Said.{said-own}
+use Rattle.chart_rows.proofs.Said.{said-own}
 use borrow.Author.Needs.{needs}
 use Rattle.examiner.proofs.fits.one_of.Statement.{statement}
 use Rattle.examiner.proofs.fits.one_of.Tie as tie

@@ -1,7 +1,7 @@
 -- `guard_absent` tests number by number. Assumes nothing.
 use lib.IntN.{pos, negsuc}
 use Rattle.numbers.specs.Equal.{eqZ}
-use Rattle.chart.proofs.Said.{said-own}
+use Rattle.chart_rows.proofs.Said.{said-own}
 use Rattle.rules.proofs.Tests.{refuted, held, on}
 use borrow.Author.Needs.{needs}
 use Rattle.examiner.proofs.heads.guard_absent.Statement.{statement}

@@ -7,7 +7,7 @@ use Rattle.numbers.specs.Equal.{eqZ}
 use Rattle.numbers.specs.Range.{inRange}
 use Rattle.meaning.specs.Value.{count-fits}
 use Rattle.meaning.specs.WellFormed.{one-of, head-guard-fits}
-use Rattle.chart.proofs.Said.{said-own}
+use Rattle.chart_rows.proofs.Said.{said-own}
 use Rattle.rules.proofs.Tests.{refuted, held, on, or-else}
 use borrow.Author.Needs.{needs}
 use Rattle.examiner.proofs.heads.guard_fits.Statement.{statement}

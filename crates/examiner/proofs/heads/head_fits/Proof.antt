@@ -6,7 +6,7 @@ use lib.ListN.{getD}
 use Rattle.sizes.specs.Sizes.{TRANSITIONS}
 use Rattle.meaning.specs.Value.{count-fits}
 use Rattle.meaning.specs.WellFormed.{one-of, span-fits, head-guard-fits}
-use Rattle.chart.proofs.Said.{said-of, said-of3}
+use Rattle.chart_rows.proofs.Said.{said-of, said-of3}
 use Rattle.rules.proofs.Tests.{refuted, held, on}
 use Rattle.examiner.proofs.RowTests.{head-read}
 use borrow.Author.Needs.{needs}

@@ -1,7 +1,7 @@
 -- `span_fits` tests number by number. Assumes nothing.
 use mathlib.Core.Path.{_≡_}
 use Rattle.meaning.specs.WellFormed.{one-of, span-fits}
-use Rattle.chart.proofs.Said.{said-own}
+use Rattle.chart_rows.proofs.Said.{said-own}
 use Rattle.rules.proofs.Tests.{refuted, held, on}
 use Rattle.examiner.proofs.RowTests.{order-said}
 use borrow.Author.Needs.{needs}

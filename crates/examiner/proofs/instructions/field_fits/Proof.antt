@@ -4,7 +4,7 @@ use Rattle.numbers.specs.Equal.{eqZ}
 use Rattle.numbers.specs.Range.{inRange}
 use Rattle.meaning.specs.Value.{count-fits}
 use Rattle.meaning.specs.WellFormed.{one-of, field-fits}
-use Rattle.chart.proofs.Said.{said, said-own}
+use Rattle.chart_rows.proofs.Said.{said, said-own}
 use Rattle.rules.proofs.Tests.{or-else}
 use Rattle.examiner.specs.Forms.{field-of}
 use borrow.Author.Needs.{needs}

@@ -5,7 +5,7 @@ use lib.IntN.{pos}
 use lib.ListN.{getD}
 use Rattle.numbers.specs.Reference.{ref}
 use Rattle.meaning.specs.WellFormed.{FORMS, no-form, field-fits}
-use Rattle.chart.proofs.Said.{said-of}
+use Rattle.chart_rows.proofs.Said.{said-of}
 use Rattle.rules.proofs.Tests.{refuted, held, on}
 use Rattle.examiner.specs.Forms.{field-of, form-of}
 use Rattle.examiner.proofs.RowTests.{instr-wrong, instr-read}

@@ -1,7 +1,7 @@
 -- `head_guard_by` goes by the number of the sign. Assumes nothing.
 use mir.Facts.{toZ-ofZ}
 use Rattle.numbers.specs.Reference.{ref}
-use Rattle.chart.proofs.Said.{said, said-own}
+use Rattle.chart_rows.proofs.Said.{said, said-own}
 use Rattle.plan_rows.proofs.Codes.{equal-said, less-said, more-said, always-said}
 use borrow.Author.Needs.{needs}
 use Rattle.plan_rows.proofs.decode.head_guard_by.Statement.{statement}

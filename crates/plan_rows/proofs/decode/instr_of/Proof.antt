@@ -2,7 +2,7 @@
 use mir.Facts.{toZ-ofZ}
 use Rattle.numbers.specs.Reference.{ref}
 use Rattle.numbers.specs.Place.{placeOf}
-use Rattle.chart.proofs.Said.{said, said-own}
+use Rattle.chart_rows.proofs.Said.{said, said-own}
 use Rattle.plan_rows.proofs.Codes.{in-said, out-said, skip-out-said, skip-empty-said, skip-full-said, skip-not-said}
 use Rattle.plan_rows.proofs.Codes.{set-said, add-said, take-said, send-said, tell-said}
 use borrow.Author.Needs.{needs}

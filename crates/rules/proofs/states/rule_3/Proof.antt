@@ -9,7 +9,7 @@ use Rattle.meaning.specs.Chart.{Chart}
 use Rattle.meaning.specs.Tree.{kind-of, children, all-states}
 use Rattle.meaning.specs.Rules.{children-fit, rule-3}
 use Rattle.meaning.specs.Value.{chart-of}
-use Rattle.chart.proofs.Rows.{states-most}
+use Rattle.chart_rows.proofs.Rows.{states-most}
 use Rattle.rules.proofs.Tests.{refuted, held}
 use Rattle.rules.proofs.Every.{all-start, all-stop, all-next, all-done}
 use Rattle.rules.proofs.Children.{counted-fits}

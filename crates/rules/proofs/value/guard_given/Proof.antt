@@ -4,7 +4,7 @@ use mathlib.Core.List.{[], _∷_}
 use Rattle.numbers.specs.Range.{inRange}
 use Rattle.meaning.specs.Value.{one-of-letters}
 use Rattle.rules.proofs.Tests.{refuted, held, on}
-use Rattle.chart.proofs.Said.{said-own}
+use Rattle.chart_rows.proofs.Said.{said-own}
 use borrow.Author.Needs.{needs}
 use Rattle.rules.proofs.value.guard_given.Statement.{statement}
 use Rattle.rules.proofs.value.guard_given.Tie as tie

@@ -2,7 +2,7 @@
 use mathlib.Core.Path.{_≡_, refl, sym, ap, _∙_}
 use Rattle.numbers.specs.Range.{inRange}
 use Rattle.meaning.specs.Value.{is-absent, number-if}
-use Rattle.chart.proofs.Said.{said-own}
+use Rattle.chart_rows.proofs.Said.{said-own}
 use borrow.Author.Needs.{needs}
 use Rattle.rules.proofs.value.number_if.Statement.{statement}
 use Rattle.rules.proofs.value.number_if.Tie as tie

@@ -9,7 +9,7 @@ use lib.IntN.{pos}
 use lib.ListN.{getD}
 use Rattle.numbers.proofs.Laws.{back32}
 use Rattle.meaning.specs.Value.{is-letter, one-of-letters, number-if, STATES-AT, STATE-ROW}
-use Rattle.chart.proofs.Said.{said-of}
+use Rattle.chart_rows.proofs.Said.{said-of}
 use Rattle.rules.proofs.Tests.{refuted, held, on}
 use Rattle.rules.proofs.Letters.{state-read}
 use borrow.Author.Needs.{needs}

@@ -7,7 +7,7 @@ use lib.ListN.{length, drop}
 use Rattle.sizes.specs.Sizes.{STATES}
 use Rattle.meaning.specs.Lists.{every-from}
 use Rattle.meaning.specs.Value.{num, size-by, rows-of, STATE-ROW, STATES-AT, state-statable}
-use Rattle.chart.proofs.Rows.{length-chunks, states-count, states-most}
+use Rattle.chart_rows.proofs.Rows.{length-chunks, states-count, states-most}
 use Rattle.rules.proofs.Tests.{refuted, held}
 use Rattle.rules.proofs.Every.{placed-stop, placed-next, placed-done}
 use Rattle.rules.proofs.Letters.{row-of}

@@ -1,7 +1,7 @@
 -- `target_absent` tests field by field. Assumes nothing.
 use Rattle.rules.proofs.Tests.{refuted, held, on}
 use Rattle.meaning.specs.Value.{is-absent}
-use Rattle.chart.proofs.Said.{said-own}
+use Rattle.chart_rows.proofs.Said.{said-own}
 use borrow.Author.Needs.{needs}
 use Rattle.rules.proofs.value.target_absent.Statement.{statement}
 use Rattle.rules.proofs.value.target_absent.Tie as tie

@@ -4,7 +4,7 @@ use mathlib.Core.Bool.{false}
 use Rattle.numbers.specs.Range.{inRange}
 use Rattle.rules.proofs.Tests.{refuted, held, on, or-else}
 use Rattle.meaning.specs.Value.{is-letter}
-use Rattle.chart.proofs.Said.{said, said-own}
+use Rattle.chart_rows.proofs.Said.{said, said-own}
 use borrow.Author.Needs.{needs}
 use Rattle.rules.proofs.value.target_given.Statement.{statement}
 use Rattle.rules.proofs.value.target_given.Tie as tie

@@ -4,7 +4,7 @@ use native.Mathlib.Omega.{arith}
 use Prim.Native.Nat.{_+_, _*_}
 use Rattle.numbers.specs.Range.{inRange}
 use Rattle.meaning.specs.Value.{guard-statable, target-statable, TRANSITIONS-AT, TRANS-ROW}
-use Rattle.chart.proofs.Said.{said-of, said-of2, said-of3}
+use Rattle.chart_rows.proofs.Said.{said-of, said-of2, said-of3}
 use Rattle.rules.proofs.Tests.{refuted, held, on}
 use Rattle.rules.proofs.Letters.{trans-read}
 use borrow.Author.Needs.{needs}

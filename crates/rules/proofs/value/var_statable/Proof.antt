@@ -4,7 +4,7 @@ use native.Mathlib.Omega.{arith}
 use Prim.Native.Nat.{_+_, _*_}
 use Rattle.numbers.specs.Range.{inRange}
 use Rattle.meaning.specs.Value.{VARS-AT, VAR-ROW}
-use Rattle.chart.proofs.Said.{said-of}
+use Rattle.chart_rows.proofs.Said.{said-of}
 use Rattle.rules.proofs.Tests.{refuted, held, on}
 use Rattle.rules.proofs.Letters.{var-read}
 use borrow.Author.Needs.{needs}

@@ -7,7 +7,7 @@ use lib.ListN.{length, drop}
 use Rattle.sizes.specs.Sizes.{VARIABLES}
 use Rattle.meaning.specs.Lists.{every}
 use Rattle.meaning.specs.Value.{num, size-by, rows-of, VAR-ROW, VARS-AT, var-statable}
-use Rattle.chart.proofs.Rows.{length-chunks, vars-count, vars-most}
+use Rattle.chart_rows.proofs.Rows.{length-chunks, vars-count, vars-most}
 use Rattle.rules.proofs.Tests.{refuted, held}
 use Rattle.rules.proofs.Every.{every-stop, every-next, every-done}
 use Rattle.rules.proofs.Letters.{row-of}

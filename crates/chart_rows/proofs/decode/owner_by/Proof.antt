@@ -1,0 +1,71 @@
+-- `owner_by` tries the letters e, x and d. Assumes nothing.
+use mathlib.Core.Bool.{Bool}
+use mathlib.Core.Path.{_≡_, refl, sym, _∙_}
+use Rattle.numbers.specs.Reference.{ref}
+use Rattle.meaning.specs.Value.{is-letter, owner-by}
+use Rattle.chart_rows.proofs.Said.{said}
+use borrow.Author.Needs.{needs}
+use Rattle.chart_rows.proofs.decode.owner_by.Statement.{statement}
+use Rattle.chart_rows.proofs.decode.owner_by.Tie as tie
+
+first : (c : tie.After-is-letter) {b : Bool} → c .is-letter .result ≡ b → is-letter 101 (c .before .args .k) ≡ b
+first c e = said (is-letter 101) (c .before .fits .k) (c .is-letter .ensures) e
+
+second : (c : tie.After-is-letter2) {b : Bool} → c .is-letter2 .result ≡ b → is-letter 120 (c .before .before .before .args .k) ≡ b
+second c e = said (is-letter 120) (c .before .before .before .fits .k) (c .is-letter2 .ensures) e
+
+third : (c : tie.After-is-letter3) {b : Bool} → c .is-letter3 .result ≡ b → is-letter 100 (c .before .before .before .before .before .args .k) ≡ b
+third c e = said (is-letter 100) (c .before .before .before .before .before .fits .k) (c .is-letter3 .ensures) e
+
+is-letter-requires : tie.Need-is-letter-requires
+is-letter-requires c κs = search needs
+
+reference-requires : tie.Need-reference-requires
+reference-requires c κs = search needs
+
+returns : tie.Need-returns
+unfolding owner-by
+returns c = rw (first (c .before .before) (c .before .if1 .taken), said ref (c .before .before .before .fits .n) (c .reference .ensures) refl)
+
+is-letter-requires-2 : tie.Need-is-letter-requires-2
+is-letter-requires-2 c κs = search needs
+
+reference-requires-2 : tie.Need-reference-requires-2
+reference-requires-2 c κs = search needs
+
+returns-2 : tie.Need-returns-2
+unfolding owner-by
+returns-2 c = rw (first (c .before .before .before .before) (c .before .before .before .if1 .left), second (c .before .before) (c .before .if2 .taken), said ref (c .before .before .before .before .before .fits .n) (c .reference2 .ensures) refl)
+
+is-letter-requires-3 : tie.Need-is-letter-requires-3
+is-letter-requires-3 c κs = search needs
+
+reference-requires-3 : tie.Need-reference-requires-3
+reference-requires-3 c κs = search needs
+
+returns-3 : tie.Need-returns-3
+unfolding owner-by
+returns-3 c = rw (first (c .before .before .before .before .before .before) (c .before .before .before .before .before .if1 .left), second (c .before .before .before .before) (c .before .before .before .if2 .left), third (c .before .before) (c .before .if3 .taken), said ref (c .before .before .before .before .before .before .before .fits .n) (c .reference3 .ensures) refl)
+
+reference-requires-4 : tie.Need-reference-requires-4
+reference-requires-4 c κs = search needs
+
+returns-4 : tie.Need-returns-4
+unfolding owner-by
+returns-4 c = rw (first (c .before .before .before .before .before .before) (c .before .before .before .before .before .if1 .left), second (c .before .before .before .before) (c .before .before .before .if2 .left), third (c .before .before) (c .before .if3 .left), said ref (c .before .before .before .before .before .before .before .fits .n) (c .reference4 .ensures) refl)
+
+pub owner-by-spec : {M : Type 1} → statement M
+owner-by-spec =
+    tie.close
+    (tie.spec
+    is-letter-requires
+    reference-requires
+    returns
+    is-letter-requires-2
+    reference-requires-2
+    returns-2
+    is-letter-requires-3
+    reference-requires-3
+    returns-3
+    reference-requires-4
+    returns-4)

@@ -1,0 +1,48 @@
+// Leaving the states of a span (01, "Firing").
+use acts::leave;
+use queue::lent::QUEUE_NUMBERS;
+use sizes::STATES;
+use sizes::VARIABLES;
+use tree_walks::end_below;
+use widget::Went;
+ghost use Prim.Native.Nat.{_≤_, _<_};
+ghost use lib.ListN.{length};
+ghost use Rattle.meaning.specs.Reaction.{leave-all};
+ghost use Rattle.meaning.specs.Tree.{descendants};
+ghost use Rattle.meaning.specs.Value.{chart-of};
+ghost use Rattle.tree_walks.specs.Walks.{Ruled};
+ghost use Rattle.widget.specs.View.{all-lent, Did};
+
+// "The active states of the span are left, highest number first": those below s.
+pub fn leave_below(
+    chart: &[i32],
+    arg: i32,
+    s: usize,
+    active: &mut [bool; STATES],
+    slots: &mut [i32; STATES],
+    vars: &mut [i32; VARIABLES],
+    queue: &mut [i32; QUEUE_NUMBERS],
+    trace: &mut [i32],
+    at: usize,
+) -> Went
+    requires { ⌜ Ruled (now chart) × (s < length (chart-of (now chart) .states)) × (at ≤ length (now trace)) ⌝ }
+    ensures { λ r. ⌜ Did (leave-all (chart-of (now (chart .entry))) arg (descendants (chart-of (now (chart .entry))) s)) (all-lent (now (active .entry)) (now (slots .entry)) (now (vars .entry)) (now (queue .entry)) (now (trace .entry))) at r (all-lent (now (active .exit)) (now (slots .exit)) (now (vars .exit)) (now (queue .exit)) (now (trace .exit))) ⌝ }
+{
+    let mut next = at;
+    let mut d = end_below(chart, s);
+    while s + 1 < d {
+        d -= 1;
+        if !active[d] {
+            continue;
+        }
+        let went = leave(chart, arg, d, active, slots, vars, queue, trace, next);
+        if went.number != 0 {
+            return went;
+        }
+        next = went.at;
+    }
+    Went {
+        number: 0,
+        at: next,
+    }
+}

@@ -1,0 +1,213 @@
+// The test for answer 6 in full (01, "Answer numbers"): whether a started state is its chart's own. Each clause is a function
+// that equals its definition on every chart value and every state; none of them asks that the chart passes the rules.
+use chart_rows::kind_of;
+use chart_rows::state_count;
+use chart_rows::tree::is_child;
+use chart_rows::tree::is_o;
+use chart_rows::var_count;
+use chart_rows::var_row;
+use meaning::State;
+use meaning::chart::Kind;
+use numbers::Place;
+use numbers::between;
+use numbers::place_of;
+use numbers::same;
+use sizes::STATES;
+use sizes::VARIABLES;
+use widget::fits::marks_fit;
+use widget::fits::queue_fits;
+ghost use mathlib.Core.Path.{_≡_};
+ghost use mathlib.Core.Bool.{Bool};
+ghost use Prim.Native.Nat.{_<_};
+ghost use lib.ListN.{length, getD};
+ghost use Rattle.sizes.specs.Sizes.{STATES as states};
+ghost use Rattle.numbers.specs.Place.{placeOf};
+ghost use Rattle.meaning.specs.declared.State.{State as Widget};
+ghost use Rattle.meaning.specs.Lists.{every};
+ghost use Rattle.meaning.specs.Tree.{kind-of, children};
+ghost use Rattle.meaning.specs.Value.{chart-of};
+ghost use Rattle.meaning.specs.Widget.{is-filled, slot};
+ghost use Rattle.meaning.specs.Foreign.{legal-at, legal, values-fit, leads-on, slot-fits, slots-fit, own as owns};
+ghost use Rattle.queue_calls.specs.Parts.{tally-of, value-fits};
+
+// How many children a state has, and how many of them are active.
+pub struct Tally {
+    pub all: usize,
+    pub on: usize,
+}
+
+fn count_children(chart: &[i32], active: &[bool; STATES], s: usize) -> Tally
+    ensures { λ r. ⌜ r ≡ tally-of (chart-of (now (chart .entry))) (now (active .entry)) s ⌝ }
+{
+    let n = state_count(chart);
+    let mut all: usize = 0;
+    let mut on: usize = 0;
+    let mut d: usize = 0;
+    while d < n {
+        let at = d;
+        d += 1;
+        if !is_child(chart, s, at) {
+            continue;
+        }
+        all += 1;
+        if active[at] {
+            on += 1;
+        }
+    }
+    Tally { all: all, on: on }
+}
+
+// 01: one child of each o state in it and all children of each a state in it; below a state that is not in it nothing is.
+fn legal_at(chart: &[i32], active: &[bool; STATES], s: usize) -> bool
+    requires { ⌜ s < states ⌝ }
+    ensures { λ r. ⌜ ((u : Widget) → u .active ≡ now (active .entry) → r ≡ legal-at (chart-of (now (chart .entry))) u s) ⌝ }
+{
+    let t = count_children(chart, active, s);
+    if !active[s] {
+        return t.on == 0;
+    }
+    match kind_of(chart, s) {
+        Kind::O => t.on == 1,
+        Kind::A => t.on == t.all,
+        Kind::B => true,
+    }
+}
+
+// 01: a legal configuration holds exactly the root, and so on down.
+fn legal(chart: &[i32], active: &[bool; STATES]) -> bool
+    ensures { λ r. ⌜ ((u : Widget) → u .active ≡ now (active .entry) → r ≡ legal (chart-of (now (chart .entry))) u) ⌝ }
+{
+    if !active[0] {
+        return false;
+    }
+    let n = state_count(chart);
+    let mut s: usize = 0;
+    while s < n {
+        if !legal_at(chart, active, s) {
+            return false;
+        }
+        s += 1;
+    }
+    true
+}
+
+// A variable of the chart is in its range; one that it has not is 0.
+fn value_fits(chart: &[i32], v: usize, x: i32) -> bool
+    ensures { λ r. ⌜ r ≡ value-fits (chart-of (now (chart .entry)) .vars) v x ⌝ }
+{
+    if v < var_count(chart) {
+        let row = var_row(chart, v);
+        return between(row.low, x, row.high);
+    }
+    same(0, x)
+}
+
+fn values_fit(chart: &[i32], vars: [i32; VARIABLES]) -> bool
+    ensures { λ r. ⌜ r ≡ values-fit (chart-of (now (chart .entry)) .vars) vars ⌝ }
+{
+    let mut v: usize = 0;
+    while v < VARIABLES {
+        if !value_fits(chart, v, vars[v]) {
+            return false;
+        }
+        v += 1;
+    }
+    true
+}
+
+// An empty slot's marker is never taken for a state.
+fn filled(x: i32) -> bool
+    ensures { λ r. ⌜ r ≡ is-filled (placeOf x) ⌝ }
+{
+    match place_of(x) {
+        Place::Empty => false,
+        Place::At(_) => true,
+    }
+}
+
+// The slot of each component of an a state is filled.
+fn all_filled(chart: &[i32], slots: [i32; STATES], s: usize) -> bool
+    ensures { λ r. ⌜ ((u : Widget) → u .slots ≡ slots → r ≡ every (λ d. is-filled (slot u d)) (children (chart-of (now (chart .entry))) s)) ⌝ }
+{
+    let n = state_count(chart);
+    let mut d: usize = 0;
+    while d < n {
+        let at = d;
+        d += 1;
+        if !is_child(chart, s, at) {
+            continue;
+        }
+        if !filled(slots[at]) {
+            return false;
+        }
+    }
+    true
+}
+
+// 01, answer 6: a filled slot leading to an empty one.
+fn leads_on(chart: &[i32], slots: [i32; STATES], d: usize) -> bool
+    requires { ⌜ d < states ⌝ }
+    ensures { λ r. ⌜ ((u : Widget) → u .slots ≡ slots → r ≡ leads-on (chart-of (now (chart .entry))) u (kind-of (chart-of (now (chart .entry))) d) d) ⌝ }
+{
+    match kind_of(chart, d) {
+        Kind::O => filled(slots[d]),
+        Kind::A => all_filled(chart, slots, d),
+        Kind::B => true,
+    }
+}
+
+// 01, answer 6: a slot neither -1 nor, at an o state, its child.
+fn slot_fits(chart: &[i32], slots: [i32; STATES], s: usize, x: i32) -> bool
+    ensures { λ r. ⌜ ((u : Widget) → u .slots ≡ slots → r ≡ slot-fits (chart-of (now (chart .entry))) u s x) ⌝ }
+{
+    let Place::At(d) = place_of(x) else {
+        return same(x, -1);
+    };
+    if state_count(chart) <= d {
+        return false;
+    }
+    if !is_o(kind_of(chart, s)) {
+        return false;
+    }
+    if !is_child(chart, s, d) {
+        return false;
+    }
+    leads_on(chart, slots, d)
+}
+
+fn slots_fit(chart: &[i32], slots: [i32; STATES]) -> bool
+    ensures { λ r. ⌜ ((u : Widget) → u .slots ≡ slots → r ≡ slots-fit (chart-of (now (chart .entry))) u) ⌝ }
+{
+    let mut s: usize = 0;
+    while s < STATES {
+        if !slot_fits(chart, slots, s, slots[s]) {
+            return false;
+        }
+        s += 1;
+    }
+    true
+}
+
+// Whether a started state is the chart's own; else answer 6.
+pub fn own(chart: &[i32], state: State) -> bool
+    ensures { λ r. ⌜ r ≡ owns (chart-of (now (chart .entry))) state ⌝ }
+{
+    let active = state.active;
+    if !legal(chart, &active) {
+        return false;
+    }
+    let marks = state.active;
+    if !marks_fit(state_count(chart), marks) {
+        return false;
+    }
+    let vars = state.vars;
+    if !values_fit(chart, vars) {
+        return false;
+    }
+    let slots = state.slots;
+    if !slots_fit(chart, slots) {
+        return false;
+    }
+    let queue = state.queue;
+    queue_fits(chart_rows::event_count(chart), queue)
+}

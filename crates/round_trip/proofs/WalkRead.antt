@@ -1,0 +1,271 @@
+-- The written form of rows that a text can state reads as those rows. In the order: lines that are taken, one behind another;
+-- rows of one kind; the five kinds; all lines; how long they are; the text. Assumes nothing.
+use mathlib.Core.Path.{_≡_, refl, sym, ap, _∙_, subst}
+use mathlib.Core.Bool.{Bool, true}
+use mathlib.Core.List.{List, [], _∷_, _++_, append-assoc, append-nil}
+use Prim.Native.Nat.{ℕ, suc, _+_, _≤_, _<_}
+use native.Mathlib.Omega.{arith}
+use lib.IntN.{ℤ, pos}
+use lib.ListN.{length, length-append}
+use borrow.Author.Tests.{eq-eqb, le-leb, le-ltb}
+use Rattle.sizes.specs.Sizes.{STATES, VARIABLES, EVENTS, TRANSITIONS, ACTIONS, TEXT}
+use Rattle.meaning.specs.Lists.{every, every-from, map-from}
+use Rattle.meaning.specs.Value.{Rows, STATE-ROW, VAR-ROW, TRANS-ROW, ACT-ROW, state-statable, var-statable, trans-statable, action-statable}
+use Rattle.meaning.specs.Split.{LF, fields, lines, ended}
+use Rattle.meaning.specs.Line.{in-order, stage-after, line-by, line-of, s-text, v-text, e-text, t-text, a-text}
+use Rattle.meaning.specs.Text.{Outcome, done, Walk, start, turns-of, with-row, line-taken, ending, walk, read-text, text-by}
+use Rattle.round_trip.proofs.Splits.{Free, AllFree, AllShort, all-free-append, lines-ended, ended-append, ended-length}
+use Rattle.round_trip.proofs.Cells.{both}
+use Rattle.round_trip.proofs.LinesRead.{s-free, s-short, s-named, s-reads, v-free, v-short, v-named, v-reads, e-free, e-short, e-named, e-reads, a-free, a-short, a-named, a-reads}
+use Rattle.round_trip.proofs.TransRead.{t-free, t-short, t-named, t-reads}
+use Rattle.round_trip.proofs.Shaped.{Shaped, Fitting, AllLong}
+
+-- ---- lines that are taken
+
+-- from w the line l is taken, and v is what was read then
+abbrev Goes : Walk → List ℕ → Walk → Type 0
+Goes w l v = (n : ℕ) (more : Walk → Outcome Rows) → line-taken (fields l) n w more ≡ more v
+
+data Reads : Walk → List (List ℕ) → Walk → Type 0 where
+  none : {w : Walk} → Reads w [] w
+  one : {w v u : Walk} {l : List ℕ} {ls : List (List ℕ)} → Goes w l v → Reads v ls u → Reads w (l ∷ ls) u
+
+then : {w v u : Walk} {ls ms : List (List ℕ)} → Reads w ls v → Reads v ms u → Reads w (ls ++ ms) u
+then none s = s
+then (one g r) s = one g (then r s)
+
+walk-reads : {w v : Walk} {ls : List (List ℕ)} (n : ℕ) → Reads w ls v → walk n w (ls ++ ([] ∷ [])) ≡ ending (n + length ls) v []
+unfolding walk
+walk-reads n none = let e : n + 0 ≡ n = omega arith in rw e
+walk-reads n (one {w = w} {v = v} {l = l} {ls = []} g r) =
+    let e : n + 1 + 0 ≡ n + 1 = omega arith in
+    g n (λ v. walk (n + 1) v ([] ∷ [])) ∙ walk-reads (n + 1) r ∙ rw e
+walk-reads n (one {w = w} {v = v} {l = l} {ls = x ∷ xs} g r) =
+    let e : n + 1 + suc (length xs) ≡ n + suc (suc (length xs)) = omega arith in
+    g n (λ v. walk (n + 1) v (x ∷ (xs ++ ([] ∷ [])))) ∙ walk-reads (n + 1) r ∙ rw e
+
+-- ---- rows of one kind, each with the number in turn
+
+abbrev AllFine : (ℕ → List ℤ → Type 0) → ℕ → List (List ℤ) → Type 0
+AllFine P k [] = Unit
+AllFine P k (x ∷ xs) = P k x × AllFine P (suc k) xs
+
+-- the stage behind them
+abbrev stage-past : ℕ → ℕ → List (List ℤ) → ℕ
+stage-past after stage [] = stage
+stage-past after stage (x ∷ xs) = stage-past after after xs
+
+module _ (f : ℕ → List ℤ → List ℕ) (P : ℕ → List ℤ → Type 0) where
+  fine-free : ((k : ℕ) (x : List ℤ) → P k x → Free LF (f k x)) → (k : ℕ) (xs : List (List ℤ)) → AllFine P k xs → AllFree LF (map-from f k xs)
+  unfolding AllFree map-from
+  fine-free h k [] a = tt
+  fine-free h k (x ∷ xs) a = (h k x (a .0), fine-free h (suc k) xs (a .1))
+
+  fine-short : (b : ℕ) → ((k : ℕ) (x : List ℤ) → P k x → length (f k x) ≤ b) → (k : ℕ) (xs : List (List ℤ)) → AllFine P k xs → AllShort b (map-from f k xs)
+  unfolding AllShort map-from
+  fine-short b h k [] a = tt
+  fine-short b h k (x ∷ xs) a = (h k x (a .0), fine-short b h (suc k) xs (a .1))
+
+  module _
+      (at : ℕ → List (List ℤ) → Walk) (Stage : ℕ → Type 0) (after : ℕ) (stays : Stage after)
+      (goes : (stage : ℕ) (acc : List (List ℤ)) (x : List ℤ) → Stage stage → P (length acc) x → Goes (at stage acc) (f (length acc) x) (at after (acc ++ (x ∷ []))))
+    where
+      fine-reads : (stage : ℕ) (acc xs : List (List ℤ)) (k : ℕ) → k ≡ length acc → Stage stage → AllFine P k xs
+          → Reads (at stage acc) (map-from f k xs) (at (stage-past after stage xs) (acc ++ xs))
+      unfolding map-from
+      fine-reads stage acc [] k e s a = rw append-nil none
+      fine-reads stage acc (x ∷ xs) k e s a =
+          let m : suc k ≡ length (acc ++ (x ∷ [])) = rw (length-append acc (x ∷ [])) (omega arith) in
+          let g : Goes (at stage acc) (f k x) (at after (acc ++ (x ∷ []))) = rw e (goes stage acc x s (rw e at (a .0))) in
+          let r = fine-reads after (acc ++ (x ∷ [])) xs (suc k) m stays (a .1) in
+          one g (rw (append-assoc acc (x ∷ []) xs) at r)
+
+length-from : (f : ℕ → List ℤ → List ℕ) (k : ℕ) (xs : List (List ℤ)) → length (map-from f k xs) ≡ length xs
+unfolding map-from
+length-from f k [] = refl
+length-from f k (x ∷ xs) = ap suc (length-from f (suc k) xs)
+
+-- rows that fit are fine one by one
+record Row (statable : ℕ → List ℤ → Bool) (size most k : ℕ) (x : List ℤ) : Type 0 where
+  ok : statable k x ≡ true
+  long : length x ≡ size
+  fits : k < most
+
+fine-from : (p : ℕ → List ℤ → Bool) (size most k : ℕ) (xs : List (List ℤ)) → every-from p k xs ≡ true → AllLong size xs → k + length xs ≤ most → AllFine (Row p size most) k xs
+unfolding every-from AllLong
+fine-from p size most k [] e l h = tt
+fine-from p size most k (x ∷ xs) e l h =
+    let w = both (p k x) (every-from p (suc k) xs) e in
+    (record { ok = w .0; long = l .0; fits = omega arith }, fine-from p size most (suc k) xs (w .1) (l .1) (omega arith))
+
+fine-every : (p : List ℤ → Bool) (size most k : ℕ) (xs : List (List ℤ)) → every p xs ≡ true → AllLong size xs → k + length xs ≤ most → AllFine (Row (λ _ x. p x) size most) k xs
+unfolding every AllLong
+fine-every p size most k [] e l h = tt
+fine-every p size most k (x ∷ xs) e l h =
+    let w = both (p x) (every p xs) e in
+    (record { ok = w .0; long = l .0; fits = omega arith }, fine-every p size most (suc k) xs (w .1) (l .1) (omega arith))
+
+-- ---- the five kinds
+
+abbrev at : ℕ → List (List ℤ) → List (List ℤ) → ℤ → List (List ℤ) → List (List ℤ) → Walk
+at stage ss vs z ts qs = record { stage = stage; rows = record { states = ss; vars = vs; events = z; transitions = ts; actions = qs } }
+
+abbrev SRow : ℕ → List ℤ → Type 0
+SRow = Row state-statable STATE-ROW STATES
+
+abbrev VRow : ℕ → List ℤ → Type 0
+VRow = Row (λ _ x. var-statable x) VAR-ROW VARIABLES
+
+abbrev TRow : ℕ → List ℤ → Type 0
+TRow = Row (λ _ x. trans-statable x) TRANS-ROW TRANSITIONS
+
+abbrev ARow : ℕ → List ℤ → Type 0
+ARow = Row (λ _ x. action-statable x) ACT-ROW ACTIONS
+
+s-goes : (vs ts qs : List (List ℤ)) (z : ℤ) (stage : ℕ) (acc : List (List ℤ)) (x : List ℤ) → stage ≡ 0 → SRow (length acc) x
+    → Goes (at stage acc vs z ts qs) (s-text (length acc) x) (at 0 (acc ++ (x ∷ [])) vs z ts qs)
+unfolding line-of in-order line-by turns-of with-row stage-after
+s-goes vs ts qs z stage acc x o r n more =
+    rw (s-named (length acc) x (r .ok) (r .fits), eq-eqb stage 0 o, s-reads (length acc) x (r .ok) (r .fits) (r .long))
+
+v-goes : (ss ts qs : List (List ℤ)) (z : ℤ) (stage : ℕ) (acc : List (List ℤ)) (x : List ℤ) → stage ≤ 1 → VRow (length acc) x
+    → Goes (at stage ss acc z ts qs) (v-text (length acc) x) (at 1 ss (acc ++ (x ∷ [])) z ts qs)
+unfolding line-of in-order line-by turns-of with-row stage-after
+v-goes ss ts qs z stage acc x o r n more =
+    rw (v-named (length acc) x (r .ok) (r .fits), le-leb stage 1 o, v-reads (length acc) x (r .ok) (r .fits) (r .long))
+
+e-goes : (ss vs ts qs : List (List ℤ)) (z : ℤ) (stage m : ℕ) → stage ≤ 1 → m ≤ EVENTS → Goes (at stage ss vs z ts qs) (e-text (pos m)) (at 2 ss vs (pos m) ts qs)
+unfolding line-of in-order line-by turns-of with-row stage-after
+e-goes ss vs ts qs z stage m o h n more = rw (e-named m h, le-leb stage 1 o, e-reads m h)
+
+t-goes : (ss vs qs : List (List ℤ)) (z : ℤ) (stage : ℕ) (acc : List (List ℤ)) (x : List ℤ) → stage ≡ 2 → TRow (length acc) x
+    → Goes (at stage ss vs z acc qs) (t-text (length acc) x) (at 2 ss vs z (acc ++ (x ∷ [])) qs)
+unfolding line-of in-order line-by turns-of with-row stage-after
+t-goes ss vs qs z stage acc x o r n more =
+    rw (t-named (length acc) x (r .ok) (r .fits), eq-eqb stage 2 o, t-reads (length acc) x (r .ok) (r .fits) (r .long))
+
+a-goes : (ss vs ts : List (List ℤ)) (z : ℤ) (stage : ℕ) (acc : List (List ℤ)) (x : List ℤ) → 2 ≤ stage → ARow (length acc) x
+    → Goes (at stage ss vs z ts acc) (a-text x) (at 3 ss vs z ts (acc ++ (x ∷ [])))
+unfolding line-of in-order line-by turns-of with-row stage-after
+a-goes ss vs ts z stage acc x o r n more =
+    rw (a-named (length acc) x (r .ok) (r .fits), le-leb 2 stage o, a-reads (length acc) x (r .ok) (r .fits) (r .long))
+
+-- ---- all lines
+
+past-below : (after stage : ℕ) (xs : List (List ℤ)) (b : ℕ) → after ≤ b → stage ≤ b → stage-past after stage xs ≤ b
+past-below after stage [] b h k = k
+past-below after stage (x ∷ xs) b h k = past-below after after xs b h h
+
+past-above : (after stage : ℕ) (xs : List (List ℤ)) (b : ℕ) → b ≤ after → b ≤ stage → b ≤ stage-past after stage xs
+past-above after stage [] b h k = k
+past-above after stage (x ∷ xs) b h k = past-above after after xs b h h
+
+past-same : (stage : ℕ) (xs : List (List ℤ)) → stage-past stage stage xs ≡ stage
+past-same stage [] = refl
+past-same stage (x ∷ xs) = past-same stage xs
+
+module _
+    (ss vs ts qs : List (List ℤ)) (m : ℕ)
+    (fs : AllFine SRow 0 ss) (fv : AllFine VRow 0 vs) (h : m ≤ EVENTS) (ft : AllFine TRow 0 ts) (fa : AllFine ARow 0 qs)
+  where
+    abbrev a-line-of : ℕ → List ℤ → List ℕ
+    a-line-of k x = a-text x
+
+    abbrev all-lines : List (List ℕ)
+    all-lines = map-from s-text 0 ss ++ (map-from v-text 0 vs ++ (e-text (pos m) ∷ (map-from t-text 0 ts ++ map-from a-line-of 0 qs)))
+
+    abbrev v-past : ℕ
+    v-past = stage-past 1 (stage-past 0 0 ss) vs
+
+    all-reads : Reads start all-lines (at (stage-past 3 (stage-past 2 2 ts) qs) ss vs (pos m) ts qs)
+    all-reads =
+        let s0 : stage-past 0 0 ss ≤ 1 = past-below 0 0 ss 1 (omega arith) (omega arith) in
+        let s2 : 2 ≤ stage-past 2 2 ts = past-above 2 2 ts 2 (omega arith) (omega arith) in
+        then (fine-reads s-text SRow (λ st acc. at st acc [] (pos 0) [] []) (λ st. st ≡ 0) 0 refl (s-goes [] [] [] (pos 0)) 0 [] ss 0 refl refl fs)
+        (then (fine-reads v-text VRow (λ st acc. at st ss acc (pos 0) [] []) (λ st. st ≤ 1) 1 (omega arith) (v-goes ss [] [] (pos 0)) (stage-past 0 0 ss) [] vs 0 refl s0 fv)
+        (one (e-goes ss vs [] [] (pos 0) v-past m (past-below 1 (stage-past 0 0 ss) vs 1 (omega arith) s0) h)
+        (then (fine-reads t-text TRow (λ st acc. at st ss vs (pos m) acc []) (λ st. st ≡ 2) 2 refl (t-goes ss vs [] (pos m)) 2 [] ts 0 refl refl ft)
+        (fine-reads a-line-of ARow (λ st acc. at st ss vs (pos m) ts acc) (λ st. 2 ≤ st) 3 (omega arith) (a-goes ss vs ts (pos m)) (stage-past 2 2 ts) [] qs 0 refl s2 fa))))
+
+    all-walked : walk 1 start (all-lines ++ ([] ∷ [])) ≡ done (record { states = ss; vars = vs; events = pos m; transitions = ts; actions = qs })
+    all-walked =
+        let s2 : 2 ≤ stage-past 2 2 ts = past-above 2 2 ts 2 (omega arith) (omega arith) in
+        walk-reads 1 all-reads ∙ rw (le-leb 2 (stage-past 3 (stage-past 2 2 ts) qs) (past-above 3 (stage-past 2 2 ts) qs 2 (omega arith) s2))
+
+    all-free : AllFree LF all-lines
+    unfolding AllFree
+    all-free =
+        all-free-append LF (map-from s-text 0 ss) (map-from v-text 0 vs ++ (e-text (pos m) ∷ (map-from t-text 0 ts ++ map-from a-line-of 0 qs)))
+        (fine-free s-text SRow (λ k x r. s-free k x (r .ok) (r .fits)) 0 ss fs)
+        (all-free-append LF (map-from v-text 0 vs) (e-text (pos m) ∷ (map-from t-text 0 ts ++ map-from a-line-of 0 qs))
+        (fine-free v-text VRow (λ k x r. v-free k x (r .ok) (r .fits)) 0 vs fv) (
+          e-free m h,
+          all-free-append LF (map-from t-text 0 ts) (map-from a-line-of 0 qs)
+              (fine-free t-text TRow (λ k x r. t-free k x (r .ok) (r .fits)) 0 ts ft) (fine-free a-line-of ARow (λ k x r. a-free k x (r .ok) (r .fits)) 0 qs fa),
+        ))
+
+    -- how long they are: lines of S and V have at most 49 bytes, of E 13, of T 92, of A 61
+    all-short : length ss ≤ STATES → length vs ≤ VARIABLES → length ts ≤ TRANSITIONS → length qs ≤ ACTIONS → length (ended all-lines) ≤ TEXT
+    unfolding ended
+    all-short ls lv lt la =
+        let s = ended-length 49 (map-from s-text 0 ss) (fine-short s-text SRow 49 (λ k x r. s-short k x (r .ok) (r .fits)) 0 ss fs) in
+        let v = ended-length 49 (map-from v-text 0 vs) (fine-short v-text VRow 49 (λ k x r. v-short k x (r .ok) (r .fits)) 0 vs fv) in
+        let e = e-short m h in
+        let t = ended-length 92 (map-from t-text 0 ts) (fine-short t-text TRow 92 (λ k x r. t-short k x (r .ok) (r .fits)) 0 ts ft) in
+        let a = ended-length 61 (map-from a-line-of 0 qs) (fine-short a-line-of ARow 61 (λ k x r. a-short k x (r .ok) (r .fits)) 0 qs fa) in
+        let s′ = length-from s-text 0 ss in
+        let v′ = length-from v-text 0 vs in
+        let t′ = length-from t-text 0 ts in
+        let a′ = length-from a-line-of 0 qs in
+        simp (ended-append, length-append) (omega arith)
+
+-- ---- the text
+
+fine-states : (xs : List (List ℤ)) → Fitting (every-from state-statable 0) STATE-ROW STATES xs → AllFine SRow 0 xs
+fine-states xs f = let k = f .few in fine-from state-statable STATE-ROW STATES 0 xs (f .ok) (f .long) (omega arith)
+
+fine-rows : (p : List ℤ → Bool) (size most : ℕ) (xs : List (List ℤ)) → Fitting (every p) size most xs → AllFine (Row (λ _ x. p x) size most) 0 xs
+fine-rows p size most xs f = let k = f .few in fine-every p size most 0 xs (f .ok) (f .long) (omega arith)
+
+-- rows that a text can state: their text is never too long, and it reads as those rows
+pub text-short : (r : Rows) → Shaped r → length (text-by r) ≤ TEXT
+unfolding text-by
+text-short r s =
+    subst (λ (z : ℤ). length (ended (map-from s-text 0 (r .states) ++ (map-from v-text 0 (r .vars) ++ (e-text z ∷ (map-from t-text 0 (r .transitions) ++ map-from (λ n row. a-text row) 0 (r .actions)))))) ≤ TEXT)
+    (sym (s .events .is))
+    (all-short (r .states) (r .vars) (r .transitions) (r .actions) (s .events .count)
+    (fine-states (r .states) (s .states)) (fine-rows var-statable VAR-ROW VARIABLES (r .vars) (s .vars)) (s .events .fits)
+    (fine-rows trans-statable TRANS-ROW TRANSITIONS (r .transitions) (s .transitions)) (fine-rows action-statable ACT-ROW ACTIONS (r .actions) (s .actions))
+    (s .states .few) (s .vars .few) (s .transitions .few) (s .actions .few))
+
+abbrev rows-with : Rows → ℤ → Rows
+rows-with r z = record { states = r .states; vars = r .vars; events = z; transitions = r .transitions; actions = r .actions }
+
+lines-read : (r : Rows) → Shaped r → walk 1 start (lines (text-by r)) ≡ done r
+unfolding text-by
+lines-read r s = subst (λ (z : ℤ). walk 1 start (lines (text-by (rows-with r z))) ≡ done (rows-with r z)) (sym (s .events .is)) (
+    ap (λ (ls : List (List ℕ)). walk 1 start ls) (lines-ended (all-lines (r .states) (r .vars) (r .transitions) (r .actions) m fs fv h ft fa) (all-free (r .states) (r .vars) (r .transitions) (r .actions) m fs fv h ft fa))
+    ∙ all-walked (r .states) (r .vars) (r .transitions) (r .actions) m fs fv h ft fa
+    )
+  where
+    m : ℕ
+    m = s .events .count
+
+    h : m ≤ EVENTS
+    h = s .events .fits
+
+    fs : AllFine SRow 0 (r .states)
+    fs = fine-states (r .states) (s .states)
+
+    fv : AllFine VRow 0 (r .vars)
+    fv = fine-rows var-statable VAR-ROW VARIABLES (r .vars) (s .vars)
+
+    ft : AllFine TRow 0 (r .transitions)
+    ft = fine-rows trans-statable TRANS-ROW TRANSITIONS (r .transitions) (s .transitions)
+
+    fa : AllFine ARow 0 (r .actions)
+    fa = fine-rows action-statable ACT-ROW ACTIONS (r .actions) (s .actions)
+
+pub text-reads : (r : Rows) → Shaped r → read-text (text-by r) ≡ done r
+unfolding read-text
+text-reads r s = rw (le-ltb TEXT (length (text-by r)) (text-short r s)) (lines-read r s)
