@@ -1,6 +1,6 @@
 // A run on a plan that was examined (01, "One reaction"): the tests 7, 6 and 8, the front event's step, null steps.
-use super::ends::finish;
-use super::ends::refuse;
+use ends::finish;
+use ends::refuse;
 use meaning::Called;
 use meaning::State;
 use meaning::answers::FOREIGN;
@@ -69,15 +69,15 @@ pub fn run_examined(plan: &[i32], k: Counts, state: State, trace: &mut [i32]) ->
     ensures { λ r. ⌜ (r ≡ called (plan-run (plan-by (now (plan .entry))) state (length (now (trace .entry))))) × (now (trace .exit) ≡ lent (length (now (trace .entry))) (plan-run (plan-by (now (plan .entry))) state (length (now (trace .entry))))) ⌝ }
 {
     if !state.started {
-        return refuse(NOT_STARTED, state, trace);
+        return refuse(NOT_STARTED, 0, state, trace);
     }
     if !own(plan, k, state) {
-        return refuse(FOREIGN, state, trace);
+        return refuse(FOREIGN, 0, state, trace);
     }
     let queue = state.queue;
     let removed = queue.remove();
     if !removed.done {
-        return refuse(QUEUE_EMPTY, state, trace);
+        return refuse(QUEUE_EMPTY, 0, state, trace);
     }
     let front = removed.front;
     let event = reference(front.event);

@@ -10,7 +10,7 @@ use mir.Val.{SFits}
 use Rattle.sizes.specs.Sizes.{STATES, TRANSITIONS, QUEUE}
 use Rattle.numbers.specs.Reference.{ref}
 use Rattle.meaning.specs.WellFormed.{plan-by}
-use Rattle.machine.proofs.Ending.{ends-as}
+use Rattle.ends.proofs.Ending.{ends-as}
 use Rattle.machine.proofs.Runs.{run-7, run-6, run-8, run-ends}
 use Rattle.machine.proofs.running.run_examined.Statement.{statement}
 use Rattle.machine.proofs.running.run_examined.Tie as tie
