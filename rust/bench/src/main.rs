@@ -1,6 +1,7 @@
 //! bench [--events N]: what an event costs, posted and run: by an interpreter written for speed, by the engine's calls over the chart and over
 //! its plan, and by one replay of the plan. All in one run on one machine, since only the ratios say something.
 
+use bench::examine::well_formed;
 use bench::fast;
 use compare::charts::{self, Shape};
 use compare::dice::Dice;
@@ -20,6 +21,8 @@ struct Subject {
     /// Pairs of event and argument.
     events: Vec<i32>,
     room: usize,
+    /// Nanoseconds that one way may take for its events; it then makes fewer.
+    budget: f64,
 }
 
 /// How an event is run.
@@ -27,23 +30,25 @@ struct Subject {
 enum Way {
     Plain,
     Tested,
+    SameTests,
     ByChart,
     ByPlan,
     Replay,
 }
 
-const WAYS: [(Way, &str); 5] = [
+const WAYS: [(Way, &str); 6] = [
     (Way::Plain, "interpreter, no tests, nothing cleared"),
     (Way::Tested, "interpreter, test for 6 at each call, trace cleared at each run"),
+    (Way::SameTests, "interpreter, a plan examined and test for 6 at each call, trace cleared"),
     (Way::ByChart, "chart calls: rules checked and test for 6 at each call, trace cleared"),
     (Way::ByPlan, "plan calls: plan examined and test for 6 at each call, trace cleared"),
     (Way::Replay, "replay of the plan: examined and tested once, trace cleared"),
 ];
 
 impl Subject {
-    fn new(chart: &Chart, events: Vec<i32>, room: usize) -> Subject {
+    fn new(chart: &Chart, events: Vec<i32>, room: usize, budget: f64) -> Subject {
         let plan = plan::numbers(&plan::plan(chart)).iter().map(|&n| n as i32).collect();
-        Subject { chart: fast::Chart::new(chart), value: value::numbers(chart), plan, events, room }
+        Subject { chart: fast::Chart::new(chart), value: value::numbers(chart), plan, events, room, budget }
     }
 
     /// Starts a widget and runs every event: nanoseconds an event, and the widget's numbers afterwards.
@@ -54,6 +59,7 @@ impl Subject {
         assert_eq!(numbers::start(&self.value, &mut widget, &mut trace).answer, 0);
         assert_eq!(self.chart.start::<true>(&mut own, &mut trace).0, 0);
         let begin = Instant::now();
+        let before = now(begin);
         let mut refused = 0;
         match way {
             Way::Plain => events.chunks_exact(2).for_each(|e| {
@@ -63,6 +69,10 @@ impl Subject {
             Way::Tested => events.chunks_exact(2).for_each(|e| {
                 refused += self.chart.post::<true>(&mut own, e[0], e[1]);
                 refused += self.chart.run::<true, true>(&mut own, &mut trace).0;
+            }),
+            Way::SameTests => events.chunks_exact(2).for_each(|e| {
+                refused += i32::from(!well_formed(&self.plan)) + self.chart.post::<true>(&mut own, e[0], e[1]);
+                refused += i32::from(!well_formed(&self.plan)) + self.chart.run::<true, true>(&mut own, &mut trace).0;
             }),
             Way::ByChart => events.chunks_exact(2).for_each(|e| {
                 refused += numbers::post(&self.value, &mut widget, e[0], e[1]).answer;
@@ -74,39 +84,48 @@ impl Subject {
             }),
             Way::Replay => refused += numbers::plan_replay(&self.plan, &mut widget, events, &mut trace).0.answer,
         }
-        let ns = begin.elapsed().as_nanos() as f64 / (events.len() / 2) as f64;
+        let ns = (now(begin) - before) / (events.len() / 2) as f64;
         assert_eq!(refused, 0, "an event was refused");
-        (ns, if way == Way::Plain || way == Way::Tested { own.numbers() } else { widget })
+        let by_interpreter = matches!(way, Way::Plain | Way::Tested | Way::SameTests);
+        (ns, if by_interpreter { own.numbers() } else { widget })
     }
 
-    /// The best of three, over as many events as do not take too long.
-    fn best(&self, way: Way) -> f64 {
-        let (short, _) = self.time(way, &self.events[..self.events.len().min(600)]);
-        let affordable = (2.0e9 / short) as usize;
-        let events = &self.events[..self.events.len().min(2 * affordable.max(300))];
-        let (_, wanted) = self.time(Way::Plain, events);
-        (0..3).fold(f64::MAX, |best, _| {
-            let (ns, widget) = self.time(way, events);
-            assert_eq!(widget, wanted, "the ways end in the same widget");
-            best.min(ns)
-        })
+    /// As many of the events as a way can do without taking too long.
+    fn affordable(&self, way: Way) -> &[i32] {
+        let (ns, _) = self.time(way, &self.events[..self.events.len().min(600)]);
+        let count = (self.budget / ns) as usize;
+        &self.events[..self.events.len().min(2 * count.max(300))]
     }
 
-    /// A line for each way; the times in the order of the ways, those that were measured.
+    /// A line for each way, and the times in their order. The ways take turns, and the best of three turns counts.
     fn table(&self, title: &str) -> Vec<f64> {
         println!("\n{title}; {} numbers lent for the trace", self.room);
-        let mut times = Vec::new();
-        for (way, name) in WAYS {
-            if way == Way::Replay && !numbers::HAS_REPLAY {
-                println!("  {:>10}                          {name}: not in this archive", "-");
-                continue;
+        let ways: Vec<Way> = WAYS.iter().map(|w| w.0).filter(|w| *w != Way::Replay || numbers::HAS_REPLAY).collect();
+        let events: Vec<&[i32]> = ways.iter().map(|w| self.affordable(*w)).collect();
+        let ends: Vec<Vec<i32>> = events.iter().map(|e| self.time(Way::Plain, e).1).collect();
+        let mut times = vec![f64::MAX; ways.len()];
+        for _ in 0..3 {
+            for (i, way) in ways.iter().enumerate() {
+                let (ns, widget) = self.time(*way, events[i]);
+                assert_eq!(widget, ends[i], "every way ends in the same widget");
+                times[i] = times[i].min(ns);
             }
-            times.push(self.best(way));
-            let (ns, plain, tested) = (times[times.len() - 1], times[0], times[times.len().min(2) - 1]);
-            println!("  {ns:>10.1} ns  {:>7.2} of plain  {:>7.2} of tested  {name}", ns / plain, ns / tested);
+        }
+        for (i, (_, name)) in WAYS.iter().enumerate() {
+            match times.get(i) {
+                Some(ns) => println!("  {ns:>10.1} ns  {:>8.2} of the first  {name}", ns / times[0]),
+                None => println!("  not in this archive: {name}"),
+            }
         }
         times
     }
+}
+
+/// Nanoseconds that this program has had of a processor, where the system tells, or else since it began: others on the machine count less.
+fn now(begin: Instant) -> f64 {
+    let told = std::fs::read_to_string("/proc/self/schedstat").ok();
+    let on_processor = told.and_then(|t| t.split_whitespace().next().and_then(|n| n.parse().ok()));
+    on_processor.unwrap_or_else(|| begin.elapsed().as_nanos() as f64)
 }
 
 fn said(goal: &str, ratio: f64, most: f64) {
@@ -115,9 +134,9 @@ fn said(goal: &str, ratio: f64, most: f64) {
 }
 
 fn goals(times: &[f64], of_replay: f64) {
-    said("plan calls, of the interpreter with tests", times[3] / times[1], 1.2);
-    if let Some(replay) = times.get(4) {
-        said("replay, of the interpreter without", replay / times[0], of_replay);
+    said("plan calls, of the interpreter doing the same tests", times[4] / times[2], 1.2);
+    if let Some(replay) = times.get(5) {
+        said("replay, of the interpreter without tests", replay / times[0], of_replay);
     }
 }
 
@@ -174,12 +193,12 @@ fn main() {
             std::process::exit(2)
         }
     };
-    println!("Nanoseconds an event, posted and run: the best of three. Every way ends in the same widget. The engine's single calls check the");
-    println!("rules or examine the plan each time, which no interpreter here does; the trace is cleared past its last entry where it says so.");
+    println!("Nanoseconds an event, posted and run: the best of three. Every way ends in the same widget. Each line says which tests are made");
+    println!("at each call, and whether the lent trace is cleared past its last entry.");
     let k = text::read(K.as_bytes()).expect("K keeps the rules");
     let events: Vec<i32> = [1, 2, 1].iter().cycle().take(count).flat_map(|&e| [e, 0]).collect();
     for room in [60, 3000] {
-        let subject = Subject::new(&k, events.clone(), room);
+        let subject = Subject::new(&k, events.clone(), room, f64::MAX);
         let times = subject.table(&format!("K, {count} events 1, 2, 1"));
         goals(&times, 0.5);
     }
@@ -187,7 +206,7 @@ fn main() {
     for many_events in [false, false, true] {
         let (chart, events, entries) = large(&mut seed, many_events);
         let many: Vec<i32> = events.iter().copied().cycle().take(2 * 30_000).collect();
-        let subject = Subject::new(&chart, many, 3000);
+        let subject = Subject::new(&chart, many, 3000, 0.5e9);
         let title = format!(
             "64 states, 128 transitions, 256 actions, {} events (chart {seed}): a plan of {} numbers, {entries:.0} entries an event",
             chart.events,

@@ -1,7 +1,9 @@
 //! The fast interpreter does what the plain one does, on random charts: otherwise its times would say nothing.
 
+use bench::examine::well_formed;
 use bench::fast::{Chart, Widget};
 use compare::charts;
+use compare::damage;
 use compare::dice::Dice;
 use oracle::{host, value};
 
@@ -49,4 +51,24 @@ fn as_the_plain_interpreter() {
     for answer in [0, 6, 7, 8, 9, 10, 11, 12] {
         assert!(answers[answer] > 0, "no call gave {answer}");
     }
+}
+
+#[test]
+fn plans_examined_as_by_the_plain_interpreter() {
+    let mut dice = Dice::new(1);
+    let mut well = 0;
+    for _ in 0..300 {
+        let plan = damage::plan(&mut dice);
+        for _ in 0..60 {
+            let mut damaged = plan.clone();
+            damage::numbers(&mut dice, &mut damaged);
+            if dice.chance(10) {
+                damaged.truncate(dice.below(plan.len() + 1));
+            }
+            let fits = host::examine(&damaged).answer == 0;
+            assert_eq!(well_formed(&damaged), fits, "{damaged:?}");
+            well += fits as u32;
+        }
+    }
+    assert!(well > 100);
 }
