@@ -1,0 +1,17 @@
+-- `qh_plan_discard` discards the front event of the widget that the numbers state over its plan. Assumes nothing.
+use borrow.Author.Needs.{needs}
+use Rattle.numbers.proofs.Laws.{back32}
+use Rattle.meaning.specs.Machine.{machine-discard}
+use Rattle.boundary.proofs.Ending.{ends-as}
+use Rattle.boundary.proofs.qh_plan_discard.Statement.{statement}
+use Rattle.boundary.proofs.qh_plan_discard.Tie as tie
+
+returns : tie.Need-returns
+returns c =
+    let a = c .before .before .before .before .before .before .before .args in
+    ends-as (λ u. machine-discard (a .plan .now) u) (c .before .before .before .before .before .load .ensures) (c .before .before .before .before .discard .ensures .result)
+    (back32 _ (c .before .end .ok)) (c .before .end .ensures)
+
+pub qh-plan-discard-spec : {M : Type 1} → statement M
+qh-plan-discard-spec =
+    tie.close (tie.spec (λ c κs. search needs) (λ c κs. search needs) (λ c κs. search needs) (λ c. search needs) returns)

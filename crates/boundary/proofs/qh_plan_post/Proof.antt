@@ -1,0 +1,19 @@
+-- `qh_plan_post` posts to the widget that the numbers state over its plan. Assumes nothing.
+use borrow.Author.Needs.{needs}
+use mir.Facts.{toZ-ofZ}
+use Rattle.numbers.proofs.Laws.{back32}
+use Rattle.meaning.specs.Machine.{machine-post}
+use Rattle.boundary.proofs.Ending.{ends-as}
+use Rattle.boundary.proofs.qh_plan_post.Statement.{statement}
+use Rattle.boundary.proofs.qh_plan_post.Tie as tie
+
+returns : tie.Need-returns
+returns c =
+    let k = c .before .before .before .before .before .before .before in
+    ends-as (λ u. machine-post (k .args .plan .now) u (k .args .event) (k .args .arg)) (c .before .before .before .before .before .load .ensures)
+    (rw (toZ-ofZ (c .before .before .before .before .before .before .before .fits .event), toZ-ofZ (c .before .before .before .before .before .before .before .fits .arg)) at (c .before .before .before .before .post .ensures .result))
+    (back32 _ (c .before .end .ok)) (c .before .end .ensures)
+
+pub qh-plan-post-spec : {M : Type 1} → statement M
+qh-plan-post-spec =
+    tie.close (tie.spec (λ c κs. search needs) (λ c κs. search needs) (λ c κs. search needs) (λ c. search needs) returns)
