@@ -6,11 +6,14 @@ use Rattle.boundary.proofs.Ending.{told-as}
 use Rattle.boundary.proofs.qh_compile.Statement.{statement}
 use Rattle.boundary.proofs.qh_compile.Tie as tie
 
+abbrev compile-from-tell : tie.After-tell → tie.After-compile
+compile-from-tell c = c .before .before .before .before
+
 returns : tie.Need-returns
 returns c = record {
-  tells = told-as (back32 _ (c .tell .ok)) (ap (λ w. w .answer) (c .before .before .before .before .compile .ensures .result))
-      (ap (λ w. w .length) (c .before .before .before .before .compile .ensures .result)) (c .tell .ensures);
-  lent = c .before .before .before .before .compile .ensures .lent;
+  tells = told-as (back32 _ (c .tell .ok)) (ap (λ w. w .answer) (compile-from-tell c .compile .ensures .result))
+      (ap (λ w. w .length) (compile-from-tell c .compile .ensures .result)) (c .tell .ensures);
+  lent = compile-from-tell c .compile .ensures .lent;
 }
 
 pub qh-compile-spec : {M : Type 1} → statement M

@@ -7,13 +7,22 @@ use Rattle.boundary.proofs.Ending.{ends-as}
 use Rattle.boundary.proofs.qh_plan_post.Statement.{statement}
 use Rattle.boundary.proofs.qh_plan_post.Tie as tie
 
+abbrev post-from-widget : tie.After-widget → tie.After-post
+post-from-widget c = c .before .before .before .before
+
+abbrev start-from-widget : tie.After-widget → tie.Start
+start-from-widget c = post-from-widget c .before .before .before
+
 returns : tie.Need-returns
 returns c =
-    let k = c .before .before .before .before .before .before .before in
-    ends-as (λ u. machine-post (k .args .plan .now) u (k .args .event) (k .args .arg)) (c .before .before .before .before .before .load .ensures)
-    (rw (toZ-ofZ (c .before .before .before .before .before .before .before .fits .event), toZ-ofZ (c .before .before .before .before .before .before .before .fits .arg)) at (c .before .before .before .before .post .ensures .result))
+    let k = start-from-widget c in
+    ends-as (λ u. machine-post (k .args .plan .now) u (k .args .event) (k .args .arg))
+    (post-from-widget c .before .load .ensures)
+    (rw (toZ-ofZ (start-from-widget c .fits .event), toZ-ofZ (start-from-widget c .fits .arg)) at
+    (post-from-widget c .post .ensures .result))
     (back32 _ (c .before .end .ok)) (c .before .end .ensures)
 
 pub qh-plan-post-spec : {M : Type 1} → statement M
 qh-plan-post-spec =
-    tie.close (tie.spec (λ c κs. search needs) (λ c κs. search needs) (λ c κs. search needs) (λ c. search needs) returns)
+    tie.close (tie.spec (λ c κs. search needs) (λ c κs. search needs) (λ c κs. search needs)
+    (λ c. search needs) returns)

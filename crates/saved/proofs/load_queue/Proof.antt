@@ -12,7 +12,10 @@ use Rattle.saved.proofs.load_queue.Tie as tie
 returns : tie.Need-returns
 returns c =
     c .held .ensures
-    ∙ ap queue-by (copied-part (replicate QUEUE-NUMBERS (pos 0)) (c .before .before .before .before .before .args .numbers .now) _ LENGTH-AT QUEUE-NUMBERS refl (c .before .before .before .copy .ensures))
+    ∙ ap queue-by (copied-part (replicate QUEUE-NUMBERS (pos 0))
+    (c .before .before .before .before .before .args .numbers .now) _ LENGTH-AT QUEUE-NUMBERS refl
+    (c .before .before .before .copy .ensures))
 
 pub load-queue-spec : {M : Type 1} → statement M
-load-queue-spec = tie.close (tie.spec (λ c. search needs) (λ c κs. search needs) (λ c κs. search needs) returns)
+load-queue-spec =
+    tie.close (tie.spec (λ c. search needs) (λ c κs. search needs) (λ c κs. search needs) returns)

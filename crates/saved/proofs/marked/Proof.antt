@@ -19,21 +19,27 @@ Inv-loop numbers i₀ i = (i ≤ MARKS) × (every is-mark (take i numbers) ≡ t
 abbrev μ-loop : tie.MeasureT-loop
 μ-loop numbers i₀ i = MARKS - i
 
+abbrev at-loop-from-else1 : tie.Else1 Inv-loop μ-loop → tie.At-loop Inv-loop μ-loop
+at-loop-from-else1 c = c .before .before .before .before
+
+abbrev at-loop-from-then1 : tie.Then1 Inv-loop μ-loop → tie.At-loop Inv-loop μ-loop
+at-loop-from-then1 c = c .before .before .before .before
+
 loop-holds : tie.Need-loop-holds Inv-loop μ-loop
 unfolding every
 loop-holds c = (omega arith, refl)
 
 returns : tie.Need-returns Inv-loop μ-loop
 returns c =
-    let k = c .before .before .before .before .before in
-    marked-not (k .args .numbers .now) (c .before .before .before .before .loop .i) (k .pre) (c .before .before .before .loop-test .taken)
+    let k = at-loop-from-then1 c .before in
+    marked-not (k .args .numbers .now) (at-loop-from-then1 c .loop .i) (k .pre) (c .before .before .before .loop-test .taken)
     (sym (rw (back32 _ (c .before .before .between-arg .given)) at (c .before .between .ensures)) ∙ not-true _ (c .if1 .taken))
 
 loop-again : tie.Need-loop-again Inv-loop μ-loop
 loop-again c =
-    let k = c .before .before .before .before .before in (
+    let k = at-loop-from-else1 c .before in (
       omega arith,
-      marked-more (k .args .numbers .now) (c .before .before .before .before .loop .i) (omega arith) (c .before .before .before .before .loop .inv .1)
+      marked-more (k .args .numbers .now) (at-loop-from-else1 c .loop .i) (omega arith) (at-loop-from-else1 c .loop .inv .1)
           (sym (rw (back32 _ (c .before .before .between-arg .given)) at (c .before .between .ensures)) ∙ not-false _ (c .if1 .left)),
     )
 
@@ -44,4 +50,5 @@ returns-2 c =
 
 pub marked-spec : {M : Type 1} → statement M
 marked-spec =
-    tie.close (tie.spec Inv-loop μ-loop loop-holds (λ c. search needs) (λ c. search needs) (λ c κs. search needs) returns (λ c. search needs) (λ c. search needs) loop-again returns-2)
+    tie.close (tie.spec Inv-loop μ-loop loop-holds (λ c. search needs) (λ c. search needs)
+    (λ c κs. search needs) returns (λ c. search needs) (λ c. search needs) loop-again returns-2)

@@ -14,12 +14,18 @@ use Rattle.saved.proofs.store_queue.Tie as tie
 long : (c : tie.Start) → length (c .args .queue .items) ≡ QUEUE
 long c = sym (length-map (c .args .queue .items) _) ∙ c .good .0 .1 .1 .1 .0 .1 .0 .1
 
+abbrev small-from-numbers : tie.After-numbers → tie.After-small
+small-from-numbers c = c .before .before .before .before .before
+
 returns : tie.Need-returns
 returns c =
-    let k = c .before .before .before .before .before .before in
+    let k = small-from-numbers c .before in
     length-written (k .args .numbers .now) _ (k .args .queue) _ (long k) (k .pre)
-    (c .before .copy .ensures ∙ ap (λ l. paste (k .args .numbers .now) LENGTH-AT l QUEUE-NUMBERS) (c .before .before .before .before .lend .ensures))
-    (back32 _ (c .before .before .before .before .before .small .ok) ∙ c .before .before .before .before .before .small .ensures)
+    (c .before .copy .ensures ∙ ap (λ l. paste (k .args .numbers .now) LENGTH-AT l QUEUE-NUMBERS)
+    (c .before .before .before .before .lend .ensures))
+    (back32 _ (small-from-numbers c .small .ok) ∙ small-from-numbers c .small .ensures)
 
 pub store-queue-spec : {M : Type 1} → statement M
-store-queue-spec = tie.close (tie.spec (λ c κs. search needs) (λ c κs. search needs) (λ c. search needs) (λ c κs. search needs) (λ c. search needs) (λ c. search needs) returns)
+store-queue-spec =
+    tie.close (tie.spec (λ c κs. search needs) (λ c κs. search needs) (λ c. search needs)
+    (λ c κs. search needs) (λ c. search needs) (λ c. search needs) returns)

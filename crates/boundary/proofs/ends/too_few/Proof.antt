@@ -10,5 +10,4 @@ returns-2 : tie.Need-returns-2
 returns-2 c = too-few-6 _ (c .if1 .left)
 
 pub too-few-spec : {M : Type 1} → statement M
-too-few-spec =
-    tie.close (tie.spec returns returns-2)
+too-few-spec = tie.close (tie.spec returns returns-2)
