@@ -73,9 +73,9 @@ module _ {p : Plan} (w : Well p) {xs : List Item} {u : State} {n d : ℕ} {k : L
   pub coursing-slots : length (k .slots) ≡ 64
   coursing-slots = c .fit .sized .slots
 
-  pub coursing-end : {k₀ : Lent} → u ≡ widget k₀ → n ≡ length (k₀ .trace) → length xs ≤ d
+  pub coursing-end : (k₀ : Lent) → u ≡ widget k₀ → n ≡ length (k₀ .trace) → length xs ≤ d
       → Gone-through p xs k₀ (record { done = d; number = 0; posted = false; at = at }) k
-  coursing-end {k₀} e m l = record {
+  coursing-end k₀ e m l = record {
     ended = λ y. ap (λ (v : State). through p (length (k₀ .trace)) v xs) (sym e)
         ∙ ap (λ i. through p i u xs) (sym m) ∙ ap (through p n u) (sym (take-all d xs l)) ∙ c .so-far;
     broken = λ y. absurd (false≢true y);
@@ -120,7 +120,7 @@ module _ {p : Plan} (w : Well p) {xs : List Item} {u : State} {n d : ℕ} {k : L
         whole = t .whole ∙ c .whole;
       }
 
-    module _ (z : r .number ≡ 0 → ⊥) {k₀ : Lent} (e : u ≡ widget k₀) (m : n ≡ length (k₀ .trace)) where
+    module _ (z : r .number ≡ 0 → ⊥) (k₀ : Lent) (e : u ≡ widget k₀) (m : n ≡ length (k₀ .trace)) where
       all-of : {y : Course} → through p n u xs ≡ y → through p (length (k₀ .trace)) (widget k₀) xs ≡ y
       all-of f = ap (λ (v : State). through p (length (k₀ .trace)) v xs) (sym e) ∙ ap (λ i. through p i u xs) (sym m) ∙ f
 

@@ -1,6 +1,6 @@
 -- Events as lent numbers (promises/specs/Replay: items-of), and replay over any numbers. Assumes nothing.
 use mathlib.Core.Path.{_≡_, refl, sym, ap, _∙_, subst}
-use Prim.Native.Nat.{ℕ, suc, _+_, _*_, _/_, _≤_, _<_}
+use Prim.Native.Nat.{ℕ, zero, suc, _+_, _*_, _/_, _≤_, _<_}
 use native.Mathlib.Omega.{arith}
 use mathlib.Core.Bool.{Bool, true, false}
 use mathlib.Core.List.{List, [], _∷_}
@@ -29,12 +29,15 @@ pub places-enough : (ns : List ℤ) (n : ℕ) → 2 * n ≤ length ns → n ≤ 
 unfolding places
 places-enough [] n h = omega (arith, h)
 places-enough (e ∷ []) n h = omega (arith, h)
-places-enough (e ∷ a ∷ ns) 0 h = omega arith
+places-enough (e ∷ a ∷ ns) zero h = omega arith
 places-enough (e ∷ a ∷ ns) (suc n) h = let g = places-enough ns n (omega (arith, h)) in omega (arith, g)
 
 -- so many of them are there
 pub so-many : (ns : List ℤ) (n : ℕ) → 2 * n ≤ length ns → length (take n (items-of ns)) ≡ n
 so-many ns n h = length-take-le n (places ns) (places-enough ns n h)
+
+pub half : (n : ℕ) → (2 * (n / 2) ≤ n) × (n ≤ 2 * (n / 2) + 1)
+half n = (omega arith, omega arith)
 
 -- half as many as numbers are all of them
 pub all-items : (ns : List ℤ) (n : ℕ) → length ns ≤ 2 * n + 1 → take n (items-of ns) ≡ items-of ns
@@ -50,6 +53,16 @@ event-at ns n d e a l h f g =
     ∙ ap (λ x. item x (getD ns (suc (2 * d)) (pos 0))) (sym f)
     ∙ ap (item e) (ap (λ j. getD ns j (pos 0)) s ∙ sym g)
 
+-- the same of all of them
+pub event-here : (ns : List ℤ) (d : ℕ) (e a : ℤ) → d < length (items-of ns) → e ≡ getD ns (2 * d) (pos 0)
+    → a ≡ getD ns (2 * d + 1) (pos 0) → getD (items-of ns) d none ≡ item e a
+event-here ns d e a l f g =
+    let h = places-few ns in
+    let s : suc (2 * d) ≡ 2 * d + 1 = omega arith in
+    places-at ns d (pos 0) (omega (arith, l, h))
+    ∙ ap (λ x. item x (getD ns (suc (2 * d)) (pos 0))) (sym f)
+    ∙ ap (item e) (ap (λ j. getD ns j (pos 0)) s ∙ sym g)
+
 -- ---- over any numbers
 
 module _ (ns : List ℤ) (u : State) (n : ℕ) where
@@ -60,17 +73,17 @@ module _ (ns : List ℤ) (u : State) (n : ℕ) where
   replay-none (e ∷ a ∷ ev) h = absurd (omega (arith, h))
 
   module _ (z : Sized u) where
-    pub replay-5 : (ev : List ℤ) → (length ev < 2 → ⊥) → well-formed ns ≡ false → replay ns u (items-of ev) n ≡ course 0 5 u []
+    pub replay-5 : (ev : List ℤ) → 2 ≤ length ev → well-formed ns ≡ false → replay ns u (items-of ev) n ≡ course 0 5 u []
     unfolding replay-once places
-    replay-5 [] h f = absurd (h (omega arith))
-    replay-5 (e ∷ []) h f = absurd (h (omega arith))
+    replay-5 [] h f = absurd (omega (arith, h))
+    replay-5 (e ∷ []) h f = absurd (omega (arith, h))
     replay-5 (e ∷ a ∷ ev) h f = replay-tests-once ns u z (item e a ∷ places ev) n
         ∙ ap (λ b. elim b [ true ↦ replay-examined (plan-by ns) u (item e a ∷ places ev) n | false ↦ course 0 5 u [] ]) f
 
-    pub replay-is : (ev : List ℤ) → (length ev < 2 → ⊥) → well-formed ns ≡ true
+    pub replay-is : (ev : List ℤ) → 2 ≤ length ev → well-formed ns ≡ true
         → replay ns u (items-of ev) n ≡ replay-examined (plan-by ns) u (items-of ev) n
     unfolding replay-once places
-    replay-is [] h f = absurd (h (omega arith))
-    replay-is (e ∷ []) h f = absurd (h (omega arith))
+    replay-is [] h f = absurd (omega (arith, h))
+    replay-is (e ∷ []) h f = absurd (omega (arith, h))
     replay-is (e ∷ a ∷ ev) h f = replay-tests-once ns u z (item e a ∷ places ev) n
         ∙ ap (λ b. elim b [ true ↦ replay-examined (plan-by ns) u (item e a ∷ places ev) n | false ↦ course 0 5 u [] ]) f

@@ -3,8 +3,9 @@ use mathlib.Core.Path.{_≡_, refl, sym, ap, _∙_, subst}
 use Prim.Native.Nat.{ℕ, zero, suc, _+_, _-_, _*_, _<_, _≤_}
 use native.Mathlib.Omega.{arith}
 use mathlib.Core.Bool.{true, false, false≢true, true≢false}
-use mathlib.Core.List.{List, [], _∷_}
-use lib.ListN.{length, drop, getD, replicate, length-drop}
+use mathlib.Core.List.{List, [], _∷_, _++_, append-nil}
+use lib.ListN.{length, drop, drop-of-length-le, getD, replicate, set, length-drop}
+use lib.Seq.{take-all}
 use lib.IntN.{ℤ, pos}
 use Rattle.sizes.specs.Sizes.{QUEUE}
 use Rattle.numbers.specs.Equal.{eqZ}
@@ -15,6 +16,7 @@ use Rattle.queue.specs.Numbers.{QUEUE-NUMBERS, numbers-of, places, queue-by}
 use Rattle.queue.specs.declared.Item.{Item}
 use Rattle.queue.specs.declared.Queue.{Queue}
 use Rattle.queue.specs.declared.Removed.{Removed}
+use Rattle.queue.proofs.Copy.{copied, copied-suc}
 use Rattle.queue.proofs.Numbers.{held-lent, numbers-long, places-long}
 use Rattle.queue.proofs.Tidy.{appended-long, removed-long}
 use Rattle.queue.proofs.Waiting.{appended-full, appended-room, removed-front}
@@ -124,3 +126,16 @@ module _ (ns : List ℤ) (w : length ns ≡ QUEUE-NUMBERS) (n : ℕ) (l : n ≡ 
       where
         all : ms ≡ numbers-of (removed (appended (queue-by ns) e a .queue) .queue)
         all = m ∙ ap (λ x. numbers-of (x .queue)) g
+
+-- ---- numbers put back one by one
+
+pub put-more : (ns ms qs : List ℤ) (i : ℕ) (x : ℤ) → length ns ≡ QUEUE-NUMBERS → length ms ≡ QUEUE-NUMBERS → i < QUEUE-NUMBERS
+    → qs ≡ copied ns ms i → x ≡ getD ms i (pos 0) → set qs i x ≡ copied ns ms (i + 1)
+put-more ns ms qs i x l m h e f =
+    ap (λ y. set qs i y) f ∙ ap (λ y. set y i (getD ms i (pos 0))) e ∙ copied-suc ns ms i (pos 0) (omega (arith, l, h)) (omega (arith, m, h))
+
+pub put-all : (ns ms qs : List ℤ) (i : ℕ) → length ns ≡ QUEUE-NUMBERS → length ms ≡ QUEUE-NUMBERS → QUEUE-NUMBERS ≤ i → i ≤ QUEUE-NUMBERS
+    → qs ≡ copied ns ms i → qs ≡ ms
+put-all ns ms qs i l m g h e =
+    e ∙ ap (λ y. y ++ drop i ns) (take-all i ms (omega (arith, m, g)))
+    ∙ ap (λ y. ms ++ y) (drop-of-length-le ns {i = i} (omega (arith, l, g))) ∙ append-nil ms

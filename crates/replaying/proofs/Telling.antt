@@ -53,9 +53,9 @@ told-all d n at k t₁ q l h e =
     record { result = rw (m, h); lent = rw m e }
 
 pub told-as : {c b : Course} {t s : List ℤ} {r : Replayed} {t₁ : List ℤ} → c ≡ b → length t ≡ length s → Told b s r t₁ → Told c t r t₁
-told-as e l h = record {
+told-as {c} {b} {t} e l h = record {
   result = h .result ∙ ap replayed (sym e);
-  lent = h .lent ∙ ap (λ n. padded n (pos 0) _) (sym l) ∙ ap (λ (y : Course). padded _ (pos 0) (y .trace)) (sym e);
+  lent = h .lent ∙ ap (λ n. padded n (pos 0) (b .trace)) (sym l) ∙ ap (λ (y : Course). padded (length t) (pos 0) (y .trace)) (sym e);
 }
 
 -- ---- "then 7, 6"
@@ -124,21 +124,22 @@ posted-after p x u z = go (is-active u 0) (event-fits (p .events) (x .event) (x 
 -- ---- the ends of the events
 
 module _ {p : Plan} {u : State} (h : Starts p u) (z : Sized u) {ns : List ℤ} (l : ns ≡ numbers-of (u .queue)) (t : List ℤ) where
-  k₀ : Lent
-  k₀ = all-lent (u .active) (u .slots) (u .vars) ns t
+  module _ {xs ys : List Item} (e : xs ≡ ys) {g : Gone} {k : Lent}
+      (w : Gone-through p xs (all-lent (u .active) (u .slots) (u .vars) ns t) g k) where
+    -- none is left, or a post is refused
+    pub ended-told : {r : Replayed} {t₁ : List ℤ} → g .posted ≡ false
+        → Told (course (g .done) (g .number) (widget k) (take (g .at) (k .trace))) (k .trace) r t₁
+        → Told (replay-examined p u ys (length t)) t r t₁
+    ended-told y f = told-as
+        (ap (λ zs. replay-examined p u zs (length t)) (sym e) ∙ once-on p u xs (length t) h
+        ∙ ap (λ v. through p (length t) v xs) (widget-is h z l t) ∙ w .ended y) (sym (w .kept)) f
 
-  -- none is left, or a post is refused
-  pub ended-told : {xs : List Item} {g : Gone} {k : Lent} {r : Replayed} {t₁ : List ℤ}
-      → Gone-through p xs (all-lent (u .active) (u .slots) (u .vars) ns t) g k → g .posted ≡ false
-      → Told (course (g .done) (g .number) (widget k) (take (g .at) (k .trace))) (k .trace) r t₁
-      → Told (replay-examined p u xs (length t)) t r t₁
-  ended-told {xs} w y f = told-as
-      (once-on p u xs (length t) h ∙ ap (λ v. through p (length t) v xs) (widget-is h z l t) ∙ w .ended y) (sym (w .kept)) f
-
-  -- a run is refused, seen from the state that it began with
-  pub broken-here : {xs : List Item} {g : Gone} {k : Lent} → Gone-through p xs (all-lent (u .active) (u .slots) (u .vars) ns t) g k
-      → g .posted ≡ true → Broken p (length t) xs u (g .done) (g .number)
-  broken-here {xs} {g} w y = subst (λ v. Broken p (length t) xs v (g .done) (g .number)) (sym (widget-is h z l t)) (w .broken y)
+    -- a run is refused, seen from the state that it began with
+    pub broken-here : g .posted ≡ true → Broken p (length (k .trace)) ys u (g .done) (g .number)
+    broken-here y =
+        subst (λ n. Broken p n ys u (g .done) (g .number)) (sym (w .kept))
+        (subst (λ zs. Broken p (length t) zs u (g .done) (g .number)) e
+        (subst (λ v. Broken p (length t) xs v (g .done) (g .number)) (sym (widget-is h z l t)) (w .broken y)))
 
   module _ {xs : List Item} {d m : ℕ} (b : Broken p (length t) xs u d m) {g : Gone} {k : Lent}
       (w : Gone-through p (take d xs) (all-lent (u .active) (u .slots) (u .vars) ns t) g k) where
@@ -149,20 +150,20 @@ module _ {p : Plan} {u : State} (h : Starts p u) (z : Sized u) {ns : List ℤ} (
         let s = ap (λ v. through p (length t) v (take d xs)) (widget-is h z l t) ∙ w .broken y .ends in
         absurd (w .broken y .refused (ap (λ (c : Course). c .number) (sym s) ∙ b .done))
 
-    module _ {x : Item} (i : getD xs d none ≡ x) {ms : List ℤ} (q : queue-by ms ≡ appended (queue-by (k .queue)) (x .event) (x .arg) .queue)
-        where
-      after-is : post-on p (getD xs d none) (through p (length t) u (take d xs) .after) ≡ post-on p x (widget k)
-      after-is = ap (λ y. post-on p y (through p (length t) u (take d xs) .after)) i ∙ ap (post-on p x) (again (g .posted) refl)
+    module _ {x : Item} (i : getD xs d none ≡ x) (ms : List ℤ) (q : queue-by ms ≡ appended (queue-by (k .queue)) (x .event) (x .arg) .queue)
+      where
+        after-is : post-on p (getD xs d none) (through p (length t) u (take d xs) .after) ≡ post-on p x (widget k)
+        after-is = ap (λ y. post-on p y (through p (length t) u (take d xs) .after)) i ∙ ap (post-on p x) (again (g .posted) refl)
 
-      state-is : post-on p (getD xs d none) (through p (length t) u (take d xs) .after) .after ≡ widget (with-queue ms k)
-      unfolding set-queue
-      state-is =
-          ap (λ (o : Outcome). o .after) after-is
-          ∙ posted-after p x (widget k) (ap (λ (o : Outcome). o .number) (sym after-is) ∙ b .posted)
-          ∙ ap (λ y. record { started = true; active = k .active; slots = k .slots; vars = k .vars; queue = y }) (sym q)
+        state-is : post-on p (getD xs d none) (through p (length t) u (take d xs) .after) .after ≡ widget (with-queue ms k)
+        unfolding set-queue
+        state-is =
+            ap (λ (o : Outcome). o .after) after-is
+            ∙ posted-after p x (widget k) (ap (λ (o : Outcome). o .number) (sym after-is) ∙ b .posted)
+            ∙ ap (λ y. record { started = true; active = k .active; slots = k .slots; vars = k .vars; queue = y }) (sym q)
 
-      pub broken-told : {r : Replayed} {t₁ : List ℤ}
-          → Told (course d m (widget (with-queue ms k)) (take 0 (k .trace))) (k .trace) r t₁
-          → Told (replay-examined p u xs (length t)) t r t₁
-      broken-told f = told-as
-          (once-on p u xs (length t) h ∙ b .ends ∙ ap (λ v. course d m v []) state-is) (sym (w .kept)) f
+        pub broken-told : {r : Replayed} {t₁ : List ℤ}
+            → Told (course d m (widget (with-queue ms k)) (take 0 (k .trace))) (k .trace) r t₁
+            → Told (replay-examined p u xs (length t)) t r t₁
+        broken-told f = told-as
+            (once-on p u xs (length t) h ∙ b .ends ∙ ap (λ v. course d m v []) state-is) (sym (w .kept)) f

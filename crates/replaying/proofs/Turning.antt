@@ -1,10 +1,11 @@
 -- One event posted and run, test by test, over plain variables. Assumes nothing.
 use mathlib.Core.Path.{_≡_, refl, sym, ap, _∙_, subst}
+use mathlib.Core.Logic.{⊎-elim}
 use Prim.Native.Nat.{ℕ, _≤_, _<_}
 use native.Mathlib.Omega.{arith}
 use mathlib.Core.Bool.{Bool, true, false, false≢true, true≢false}
 use mathlib.Core.List.{List, []}
-use lib.ListN.{length, take}
+use lib.ListN.{length, getD, take}
 use lib.Dec.{ltb}
 use lib.IntN.{ℤ}
 use borrow.Author.Tests.{ltb-true}
@@ -87,11 +88,13 @@ run-taken p n v d = ap (outcome v) (one-waits (change (set-queue (removed (v .qu
 
 -- room in a queue says its length
 room-len : (q : Queue) (e a : ℤ) → appended q e a .done ≡ true → q .len < QUEUE
-room-len q e a d = go (le-or-lt QUEUE (q .len))
+room-len q e a d = ⊎-elim full room (le-or-lt QUEUE (q .len))
   where
-    go : (QUEUE ≤ q .len) ⊎ (q .len < QUEUE) → q .len < QUEUE
-    go (inl l) = absurd (false≢true (sym (ap (λ y. y .done) (appended-full q e a l)) ∙ d))
-    go (inr l) = l
+    full : QUEUE ≤ q .len → q .len < QUEUE
+    full l = absurd (false≢true (sym (ap (λ y. y .done) (appended-full q e a l)) ∙ d))
+
+    room : q .len < QUEUE → q .len < QUEUE
+    room l = l
 
 -- ---- the ways that an event goes
 
@@ -109,10 +112,15 @@ module _ (p : Plan) (x : Item) (k : Lent) where
     whole = refl;
   }
 
-  pub turned-6 : is-active (widget k) 0 ≡ false → Turned p x k (record { posted = false; number = 6; at = 0 }) k
+  pub turned-6 : getD (k .active) 0 false ≡ false → Turned p x k (record { posted = false; number = 6; at = 0 }) k
+  unfolding is-active
   turned-6 a = stays 6 (post-6 p x (widget k) a) (λ z. omega arith)
 
-  module _ (a : is-active (widget k) 0 ≡ true) {n : ℕ} (g : n ≡ p .events) where
+  module _ (b : getD (k .active) 0 false ≡ true) {n : ℕ} (g : n ≡ p .events) where
+    a : is-active (widget k) 0 ≡ true
+    unfolding is-active
+    a = b
+
     pub turned-10 : event-fits n (x .event) (x .arg) ≡ false → Turned p x k (record { posted = false; number = 10; at = 0 }) k
     turned-10 f = stays 10 (post-10 p x (widget k) a g f) (λ z. omega arith)
 
@@ -121,8 +129,12 @@ module _ (p : Plan) (x : Item) (k : Lent) where
       turned-9 d = subst (λ q. Turned p x k (record { posted = false; number = 9; at = 0 }) (with-queue q k)) (sym (m .full d))
           (stays 9 (post-9 p x (widget k) a g f (sym (m .room) ∙ d)) (λ z. omega arith))
 
-      module _ (d : r .done ≡ true) (h : Whole k) {w : Went} {k′ : Lent}
-          (ran : Ran (plan-step p (ref (r .front .event)) (r .front .arg) then plan-settle p) (with-queue ms k) 0 w k′) where
+      module _ (d : r .done ≡ true) (h : Whole k) {e : ℕ} {c : ℤ} (ee : e ≡ ref (r .front .event)) (ce : c ≡ r .front .arg)
+          {w : Went} {k′ : Lent} (made : Ran (plan-step p e c then plan-settle p) (with-queue ms k) 0 w k′) where
+        ran : Ran (plan-step p (ref (r .front .event)) (r .front .arg) then plan-settle p) (with-queue ms k) 0 w k′
+        ran = subst (λ y. Ran (plan-step p (ref (r .front .event)) y then plan-settle p) (with-queue ms k) 0 w k′) ce
+            (subst (λ y. Ran (plan-step p y c then plan-settle p) (with-queue ms k) 0 w k′) ee made)
+
         q : Queue
         q = queue-by (k .queue)
 

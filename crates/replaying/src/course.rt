@@ -1,5 +1,5 @@
 // The events of a replay one after the other, over what is lent. The plan was examined and the tests for 7 and 6 were made.
-use super::turns::turn;
+use super::turns::post_and_run;
 use meaning::plan::Counts;
 use queue::lent::QUEUE_NUMBERS;
 use sizes::STATES;
@@ -44,7 +44,7 @@ pub fn go_through(
     while done < count {
         let event = events[2 * done];
         let arg = events[2 * done + 1];
-        let now = turn(
+        let now = post_and_run(
             plan,
             k,
             event,

@@ -5,7 +5,6 @@
 pub mod course;
 pub mod turns;
 
-use course::Gone;
 use course::go_through;
 use examiner::examine;
 use meaning::Answer;
@@ -38,6 +37,7 @@ ghost use Rattle.replaying.specs.Course.{Told, Starts, Broken};
 
 // How many numbers an entry has, and an event with its argument.
 const ENTRY: usize = 3;
+
 const EVENT: usize = 2;
 
 // Stopped before the first event: the state is as it was, and the lent trace is 0.
@@ -98,19 +98,19 @@ fn as_posted(
     k: Counts,
     state: State,
     events: &[i32],
-    gone: Gone,
+    done: usize,
+    number: usize,
     trace: &mut [i32],
 ) -> Replayed
-    requires { ⌜ Examined (now plan) k × Starts (plan-by (now plan)) state × Broken (plan-by (now plan)) (length (now trace)) (items-of (now events)) state (gone .done) (gone .number) ⌝ }
+    requires { ⌜ Examined (now plan) k × Starts (plan-by (now plan)) state × Broken (plan-by (now plan)) (length (now trace)) (items-of (now events)) state done number ⌝ }
     ensures { λ r. ⌜ Told (once (plan-by (now (plan .entry))) state (items-of (now (events .entry))) (length (now (trace .entry)))) (now (trace .entry)) r (now (trace .exit)) ⌝ }
 {
-    let done = gone.done;
     let mut active = state.active;
     let mut slots = state.slots;
     let mut vars = state.vars;
     let queue = state.queue;
     let mut waiting = lend(queue);
-    let again = go_through(
+    go_through(
         plan,
         k,
         events,
@@ -121,8 +121,10 @@ fn as_posted(
         &mut waiting,
         trace,
     );
-    append(&mut waiting, events[2 * done], events[2 * done + 1]);
-    told(done, gone.number, 0, active, slots, vars, waiting, trace)
+    let event = events[2 * done];
+    let arg = events[2 * done + 1];
+    append(&mut waiting, event, arg);
+    told(done, number, 0, active, slots, vars, waiting, trace)
 }
 
 // Replay on a plan that was examined: 7, then 6, and then event by event.
@@ -159,7 +161,7 @@ pub fn replay_examined(
         trace,
     );
     if gone.posted {
-        return as_posted(plan, k, state, events, gone, trace);
+        return as_posted(plan, k, state, events, gone.done, gone.number, trace);
     }
     told(
         gone.done,

@@ -88,7 +88,7 @@ fn pass(queue: &mut [i32; QUEUE_NUMBERS], event: i32, arg: i32) -> Passed
 }
 
 // One event: 6 where the root is not active, then 10 before 9, then its run.
-pub fn turn(
+pub fn post_and_run(
     plan: &[i32],
     k: Counts,
     event: i32,
