@@ -45,7 +45,7 @@ const LETTERS: &[u8] = b"oabexdtsakqo=<>h-SVETA";
 pub fn odd(dice: &mut Dice) -> i32 {
     match dice.below(8) {
         0 => i32::from(dice.pick(LETTERS)),
-        1 => dice.next() as i32,
+        1 => dice.throw() as i32,
         _ => dice.pick(&ODD),
     }
 }
@@ -115,7 +115,7 @@ pub fn text(dice: &mut Dice, whole: &[u8]) -> Vec<u8> {
 
 fn byte(dice: &mut Dice, line: &mut Vec<u8>) {
     let i = dice.below(line.len() + 1);
-    let new = if dice.chance(50) { dice.pick(LETTERS) } else { dice.next() as u8 };
+    let new = if dice.chance(50) { dice.pick(LETTERS) } else { dice.throw() as u8 };
     match dice.below(3) {
         0 => line.insert(i, new),
         1 if i < line.len() => line[i] = new,

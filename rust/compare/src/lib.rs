@@ -16,7 +16,7 @@ pub fn compare(seed: u64, calls: u64) -> (Comparison, Option<Box<Difference>>) {
     let mut seeds = Dice::new(seed);
     let mut cmp = Comparison::default();
     while cmp.calls < calls {
-        if let Err(apart) = cases::case(&mut cmp, seeds.next()) {
+        if let Err(apart) = cases::case(&mut cmp, seeds.throw()) {
             return (cmp, Some(apart));
         }
     }

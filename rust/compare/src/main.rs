@@ -4,6 +4,7 @@
 use compare::comparison::Comparison;
 use compare::{cases, compare};
 use oracle::fault;
+use quasarhorn::numbers::HAS_REPLAY;
 use std::process::exit;
 
 const USAGE: &str = "compare [--calls N] [--seed N] [--fault NAME] | compare --case SEED [--fault NAME]";
@@ -42,6 +43,9 @@ fn main() {
         None => compare(seed, calls),
     };
     print!("{}", cmp.seen());
+    if !HAS_REPLAY {
+        println!("This archive has no qh_plan_replay: replays were made by single calls.");
+    }
     if let Some(apart) = apart {
         print!("{apart}");
         println!("compare: a difference after {} calls; again with: compare --case {}", cmp.calls, apart.seed);
