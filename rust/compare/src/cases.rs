@@ -303,8 +303,12 @@ fn plans(cmp: &mut Comparison, dice: &mut Dice) -> Compared<()> {
     }
     for _ in 0..dice.from(5, 25) {
         let mut damaged = plan.clone();
-        let header = if dice.chance(15) { 6 } else { damaged.len() };
-        damage::numbers(dice, &mut damaged[..header]);
+        if dice.chance(25) {
+            damage::skip(dice, &mut damaged);
+        } else {
+            let header = if dice.chance(15) { 6 } else { damaged.len() };
+            damage::numbers(dice, &mut damaged[..header]);
+        }
         let examined = cmp.make(&call(Name::Examine, &damaged, &[], 0))?;
         if examined.answer == 0 || dice.chance(5) {
             run_plan(cmp, dice, &damaged, events)?;

@@ -214,6 +214,18 @@ pub fn plan(dice: &mut Dice) -> Vec<i32> {
     ns.iter().map(|&n| n as i32).collect()
 }
 
+/// One skip of a well-formed plan made to pass over a few more or fewer instructions: at the end of its block one more is too many.
+pub fn skip(dice: &mut Dice, plan: &mut [i32]) {
+    let code = 6 + 3 * plan[1] as usize + 10 * plan[3] as usize;
+    let skips: Vec<usize> = (code..plan.len()).step_by(4).filter(|&i| (3..=6).contains(&plan[i])).collect();
+    if skips.is_empty() {
+        return;
+    }
+    let row = dice.pick(&skips);
+    let field = if plan[row] == 6 { 3 } else { 2 };
+    plan[row + field] += dice.pick(&[-1, 1, 1, 2, 3]);
+}
+
 fn instruction(dice: &mut Dice, [states, vars, events]: [i64; 3], left: i64) -> [i64; 4] {
     let (s, p, skip) = (dice.number(0, states - 1), dice.number(0, states - 1), dice.number(0, left));
     let constant = if dice.chance(90) { dice.number(-9, 9) } else { dice.number(-1_000_000_000, 1_000_000_000) };
