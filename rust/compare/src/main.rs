@@ -48,7 +48,7 @@ fn main() {
     }
     if let Some(apart) = apart {
         print!("{apart}");
-        println!("compare: a difference after {} calls; again with: compare --case {}", cmp.calls, apart.seed);
+        println!("compare: a difference after {} calls; again with: tests/compare --case {}", cmp.calls, apart.seed);
         exit(1);
     }
     println!("compare: {} calls in {} cases, seed {seed}: engine and interpreter alike", cmp.calls, cmp.cases);
