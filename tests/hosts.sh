@@ -1,9 +1,10 @@
+# shellcheck shell=bash
 # Sourced by the scripts that link the engine's archive with Rust and C: finds their compilers, and makes the archive.
 # The archive is for x86-64. On another processor everything is compiled for x86-64 and runs under an emulator.
 #
 # After `find_compilers INSTALL`, `rust` is cargo with its words for this machine, `c_compiler` compiles C, and `run_x86` runs what they made.
 # INSTALL is yes or no: whether Debian's packages may be installed where something is missing.
-# A function that cannot go on says why and returns 3: nothing was tested then.
+# The script that sources this says in `here` where the repository is. A function that cannot go on says why and returns 3: nothing was tested then.
 
 NOT_MADE=3
 

@@ -284,6 +284,9 @@ fn run_plan(cmp: &mut Comparison, dice: &mut Dice, plan: &[i32], events: i64) ->
         }
         widget = ran.widget[..WIDGET].to_vec();
     }
+    let list: Vec<i32> = (0..dice.below(9)).flat_map(|_| [dice.number(1, events.max(1)) as i32, dice.number(-9, 9) as i32]).collect();
+    let room = dice.pick(&[30, 600, 600]);
+    cmp.make(&Call { events: &list, ..call(Name::PlanReplay, plan, &widget, room) })?;
     Ok(())
 }
 
