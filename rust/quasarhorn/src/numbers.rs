@@ -171,5 +171,23 @@ pub fn plan_replay(plan: &[i32], widget: &mut [i32], events: &[i32], trace: &mut
     (Report { answer, place: report[0], count: report[1] }, report[2])
 }
 
+/// The same where the archive was made without that call: each event by the single calls.
+#[cfg(not(has_replay))]
+pub fn plan_replay(plan: &[i32], widget: &mut [i32], events: &[i32], trace: &mut [i32]) -> (Report, i32) {
+    trace.iter_mut().for_each(|n| *n = 0);
+    let mut last = Report::default();
+    for (done, event) in events.chunks_exact(2).enumerate() {
+        let posted = plan_post(plan, widget, event[0], event[1]);
+        if posted.answer != 0 {
+            return (Report { count: last.count, ..posted }, done as i32);
+        }
+        last = plan_run(plan, widget, trace);
+        if last.answer != 0 {
+            return (last, done as i32);
+        }
+    }
+    (last, (events.len() / 2) as i32)
+}
+
 /// Whether the archive that was linked has `qh_plan_replay`.
 pub const HAS_REPLAY: bool = cfg!(has_replay);

@@ -140,7 +140,6 @@ impl Widget {
 
     /// Posts and runs each event with its argument, up to the first refusal: how many were done, and that refusal. The trace is that of the
     /// last run. What was done stays done.
-    #[cfg(has_replay)]
     pub fn replay(&mut self, plan: &Plan, events: &[[i32; 2]], trace: &mut Trace) -> (usize, Result<(), Refused>) {
         let pairs: Vec<i32> = events.iter().flat_map(|e| *e).collect();
         let (report, done) = numbers::plan_replay(plan.numbers(), &mut self.numbers, &pairs, &mut trace.numbers);
