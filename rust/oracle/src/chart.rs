@@ -1,5 +1,7 @@
 //! The chart as it is drawn: states, variables, events, transitions, actions; and its tree.
 
+use crate::fault::{self, Fault};
+
 /// Kind of a state: one child at a time, all children at once, no children.
 #[derive(Clone, Copy, Debug, PartialEq, Eq)]
 pub enum Kind {
@@ -124,6 +126,9 @@ impl Chart {
     /// The lowest o state that is a proper ancestor of both.
     pub fn scope(&self, source: usize, target: usize) -> usize {
         let of_target = self.ancestors(target);
+        if fault::is(Fault::SpanOfOneComponent) && source == target && self.parent(source).map(|p| self.kind(p)) == Some(Kind::A) {
+            return source;
+        }
         self.ancestors(source).into_iter().find(|a| self.kind(*a) == Kind::O && of_target.contains(a)).unwrap_or(0)
     }
 

@@ -2,14 +2,17 @@
 //!
 //! It was written from the rules alone and shares nothing with the engine: plain Rust with vectors, one module a chapter. It reads and
 //! writes chart texts, checks the rules, starts, runs, posts and discards on the chart by walking its tree, compiles a chart to its plan,
-//! examines plans and runs them. An answer other than 0 is an `Err` with the answer's number and its place.
+//! examines plans and runs them; `host` has the same calls on lent numbers. An answer other than 0 is an `Err` with the answer's number and its place.
 
 pub mod chart;
+pub mod fault;
+pub mod host;
 pub mod machine;
 pub mod plan;
 pub mod reaction;
 pub mod rules;
 pub mod text;
+pub mod value;
 pub mod widget;
 
 /// An answer other than 0, and the place given with it.

@@ -1,5 +1,6 @@
 //! Start, run, post and discard on a plan's numbers.
 
+use crate::fault::{self, Fault};
 use crate::plan::{examine, Head, Instruction, Plan};
 use crate::widget::{Done, Reaction, Widget, NULL_STEPS};
 use crate::{in_range, refused, Refused};
@@ -82,7 +83,8 @@ fn machine(plan: &Plan, widget: Widget, lent: usize) -> Machine<'_> {
     Machine { plan, r: Reaction { widget, trace: Vec::new(), lent, variables: &plan.variables, arg: 0 } }
 }
 
-fn examined(ns: &[i64]) -> Result<Plan, Refused> {
+/// The plan that numbers state, or 5.
+pub fn examined(ns: &[i64]) -> Result<Plan, Refused> {
     examine(ns).map_or(refused(5, 0), Ok)
 }
 
@@ -90,43 +92,46 @@ fn tested(p: &Plan, w: &Widget) -> Result<(), Refused> {
     if !w.started {
         return refused(7, 0);
     }
-    let slots = w.slots[..p.states].iter().all(|d| (-1..p.states as i64).contains(d)) && w.slots[p.states..].iter().all(|d| *d == -1);
+    let passed_over = |s: usize| fault::is(Fault::SlotsOfActiveOnly) && !w.active[s];
+    let slots = (0..p.states).all(|s| (-1..p.states as i64).contains(&w.slots[s]) || passed_over(s))
+        && w.slots[p.states..].iter().all(|d| *d == -1);
     if w.active[0] && slots && w.fits(p.states, &p.variables, p.events) { Ok(()) } else { refused(6, 0) }
 }
 
-pub fn start(ns: &[i64], lent: usize) -> Result<Done, Refused> {
-    let p = examined(ns)?;
-    let mut m = machine(&p, Widget::fresh(&p.variables), lent);
+pub fn start(p: &Plan, lent: usize) -> Result<Done, Refused> {
+    let mut m = machine(p, Widget::fresh(&p.variables), lent);
     m.block(0, p.start)?;
     m.settle()?;
     Ok(m.done())
 }
 
-pub fn run(ns: &[i64], w: &Widget, lent: usize) -> Result<Done, Refused> {
-    let p = examined(ns)?;
-    tested(&p, w)?;
+pub fn run(p: &Plan, w: &Widget, lent: usize) -> Result<Done, Refused> {
+    tested(p, w)?;
     let mut after = w.clone();
     let (event, arg) = after.remove()?;
-    let mut m = machine(&p, after, lent);
+    let mut m = machine(p, after, lent);
     m.step(event, arg)?;
     m.settle()?;
     Ok(m.done())
 }
 
-pub fn post(ns: &[i64], w: &Widget, event: i64, arg: i64) -> Result<Widget, Refused> {
-    let p = examined(ns)?;
-    tested(&p, w)?;
-    if !(1..=p.events).contains(&event) || !in_range(arg) {
+pub fn post(p: &Plan, w: &Widget, event: i64, arg: i64) -> Result<Widget, Refused> {
+    tested(p, w)?;
+    let fits = (1..=p.events).contains(&event) && in_range(arg);
+    let mut after = w.clone();
+    if fault::is(Fault::FullBeforeEvent) {
+        after.append(event, arg)?;
+        return if fits { Ok(after) } else { refused(10, 0) };
+    }
+    if !fits {
         return refused(10, 0);
     }
-    let mut after = w.clone();
     after.append(event, arg)?;
     Ok(after)
 }
 
-pub fn discard(ns: &[i64], w: &Widget) -> Result<Widget, Refused> {
-    let p = examined(ns)?;
-    tested(&p, w)?;
+pub fn discard(p: &Plan, w: &Widget) -> Result<Widget, Refused> {
+    tested(p, w)?;
     let mut after = w.clone();
     after.remove()?;
     Ok(after)

@@ -1,6 +1,7 @@
 //! The plan: compiled from a chart, and examined from numbers.
 
 use crate::chart::{Act, Chart, Guard, Kind, Owner, Sign, Target, Variable};
+use crate::fault::{self, Fault};
 use crate::in_range;
 
 #[derive(Clone, Copy, Debug, PartialEq, Eq)]
@@ -140,7 +141,10 @@ impl Blocks<'_> {
     fn block(&self, t: usize) -> Vec<Instruction> {
         let c = self.0;
         let own = self.acts(Owner::Transition(t as i64));
-        let Some(aim) = c.aim(t) else { return own };
+        let aim = match c.aim(t) {
+            Some(aim) => aim,
+            None => return own,
+        };
         let scope = c.scope(c.transitions[t].source as usize, aim);
         let history = matches!(c.transitions[t].target, Target::History(_));
         [self.exits(&c.descendants(scope)), own, self.below(scope, Some(aim), history)].concat()
@@ -191,7 +195,10 @@ pub fn numbers(p: &Plan) -> Vec<i64> {
 
 /// The plan that numbers state, if they are well formed.
 pub fn examine(ns: &[i64]) -> Option<Plan> {
-    let [states, vars, events, heads, code, start] = *ns.get(..6)? else { return None };
+    let (states, vars, events, heads, code, start) = match *ns.get(..6)? {
+        [states, vars, events, heads, code, start] => (states, vars, events, heads, code, start),
+        _ => return None,
+    };
     let counts = (2..=64).contains(&states)
         && (0..=16).contains(&vars)
         && (0..=32).contains(&events)
@@ -265,7 +272,7 @@ fn instruction(r: &[i64], states: i64, vars: i64, events: i64, left: i64) -> Opt
     let (x, y, z) = (r[1], r[2], r[3]);
     let state = |n: i64| (0..states).contains(&n);
     let var = |n: i64| (0..vars).contains(&n);
-    let skip = |n: i64| (0..=left).contains(&n);
+    let skip = |n: i64| (0..=left).contains(&n) || (n == left + 1 && fault::is(Fault::SkipPastBlock));
     let (i, fits) = match r[0] {
         1 => (Instruction::In(x), state(x) && y == 0 && z == 0),
         2 => (Instruction::Out(x, y), state(x) && (y == -1 || state(y)) && z == 0),

@@ -1,6 +1,7 @@
 //! Start, run, post and discard on the chart, by walking its tree.
 
 use crate::chart::{Act, Chart, Kind, Owner, Target};
+use crate::fault::{self, Fault};
 use crate::widget::{Done, Reaction, Widget, NULL_STEPS, STATES};
 use crate::{in_range, refused, Refused};
 
@@ -85,6 +86,9 @@ impl Runner<'_> {
                     if d == -1 {
                         return refused(14, 0);
                     }
+                    if fault::is(Fault::DefaultsAtRestore) {
+                        self.acts(Owner::Default(s as i64))?;
+                    }
                     self.enter(d as usize)?;
                     self.below(d as usize, way)
                 }
@@ -95,6 +99,11 @@ impl Runner<'_> {
                     self.below(on, way)
                 }
                 _ => {
+                    let stored = self.r.widget.slots[s];
+                    if fault::is(Fault::ComponentsBySlots) && stored != -1 {
+                        self.enter(stored as usize)?;
+                        return self.below(stored as usize, way);
+                    }
                     let d = self.enter_by_default(s)?;
                     self.below(d, &Way::Defaults)
                 }
@@ -103,6 +112,9 @@ impl Runner<'_> {
     }
 
     fn restore(&mut self, owner: usize) -> Result<(), Refused> {
+        if self.r.widget.slots[owner] == -1 && fault::is(Fault::EmptySlotIsRoot) {
+            return self.enter(0);
+        }
         if self.r.widget.slots[owner] == -1 {
             let d = self.enter_by_default(owner)?;
             return self.below(d, &Way::Defaults);
@@ -114,9 +126,16 @@ impl Runner<'_> {
     fn fire(&mut self, t: usize) -> Result<(), Refused> {
         let c = self.chart;
         self.r.take(t as i64)?;
-        let Some(aim) = c.aim(t) else { return self.acts(Owner::Transition(t as i64)) };
+        let aim = match c.aim(t) {
+            Some(aim) => aim,
+            None => return self.acts(Owner::Transition(t as i64)),
+        };
         let scope = c.scope(c.transitions[t].source as usize, aim);
-        for s in c.descendants(scope).into_iter().rev() {
+        let mut span = c.descendants(scope);
+        if !fault::is(Fault::LowestLeftFirst) {
+            span.reverse();
+        }
+        for s in span {
             if self.r.widget.active[s] {
                 let parent = c.parent(s).filter(|&p| c.kind(p) == Kind::O);
                 self.r.leave(s, parent)?;
@@ -138,8 +157,11 @@ impl Runner<'_> {
         for t in c.choosing_order() {
             let row = &c.transitions[t];
             let enabled = row.trigger == event && w.active[row.source as usize] && w.guard_holds(row.guard);
+            if !enabled {
+                continue;
+            }
             let span = c.span(t);
-            if enabled && !span.iter().any(|&s| gone[s]) {
+            if !span.iter().any(|&s| gone[s]) {
                 span.iter().for_each(|&s| gone[s] = true);
                 chosen.push(t);
             }
@@ -150,7 +172,12 @@ impl Runner<'_> {
     fn step(&mut self, event: i64, arg: i64) -> Result<bool, Refused> {
         let chosen = self.chosen(event);
         self.r.arg = arg;
-        chosen.iter().try_for_each(|&t| self.fire(t))?;
+        for &t in &chosen {
+            let late = fault::is(Fault::GuardsWhenFired) && !self.r.widget.guard_holds(self.chart.transitions[t].guard);
+            if !late {
+                self.fire(t)?;
+            }
+        }
         Ok(!chosen.is_empty())
     }
 
@@ -192,7 +219,11 @@ pub fn run(c: &Chart, w: &Widget, lent: usize) -> Result<Done, Refused> {
     tested(c, w)?;
     let mut after = w.clone();
     let (event, arg) = after.remove()?;
+    let idle = fault::is(Fault::IdleAfterFirst) && after.slots[0] != -1;
     let mut run = runner(c, after, lent);
+    if idle {
+        return Ok(run.done());
+    }
     run.step(event, arg)?;
     run.settle()?;
     Ok(run.done())
@@ -200,10 +231,15 @@ pub fn run(c: &Chart, w: &Widget, lent: usize) -> Result<Done, Refused> {
 
 pub fn post(c: &Chart, w: &Widget, event: i64, arg: i64) -> Result<Widget, Refused> {
     tested(c, w)?;
-    if !(1..=c.events).contains(&event) || !in_range(arg) {
+    let fits = (1..=c.events).contains(&event) && in_range(arg);
+    let mut after = w.clone();
+    if fault::is(Fault::FullBeforeEvent) {
+        after.append(event, arg)?;
+        return if fits { Ok(after) } else { refused(10, 0) };
+    }
+    if !fits {
         return refused(10, 0);
     }
-    let mut after = w.clone();
     after.append(event, arg)?;
     Ok(after)
 }

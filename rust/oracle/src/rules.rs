@@ -13,7 +13,10 @@ fn r1(c: &Chart) -> bool {
 /// The parent of a state n > 0 is n-1 or an ancestor of n-1.
 fn r2(c: &Chart) -> bool {
     for n in 1..c.states.len() {
-        let Some(p) = c.states[n].parent else { return false };
+        let p = match c.states[n].parent {
+            Some(p) => p,
+            None => return false,
+        };
         let mut at = Some(n as i64 - 1);
         while let Some(s) = at {
             if s == p {

@@ -1,7 +1,7 @@
 //! Chart texts, read and written.
 
 use crate::chart::{Act, Action, Chart, Guard, Kind, Owner, Sign, State, Target, Transition, Variable};
-use crate::{in_range, refused, rules, Refused, MOST};
+use crate::{fault, in_range, refused, rules, Refused, MOST};
 
 const LONGEST: usize = 32_768;
 const STATES: usize = 64;
@@ -50,15 +50,20 @@ fn room(turn: usize, most: usize) -> Field<()> {
 
 /// The worst of some fields: a form before a size.
 fn all(faults: &[Option<Fault>]) -> Field<()> {
-    faults.iter().flatten().min().map_or(Ok(()), |f| Err(*f))
+    let found = faults.iter().flatten();
+    let worst = if fault::is(fault::Fault::SizeBeforeForm) { found.max() } else { found.min() };
+    worst.map_or(Ok(()), |f| Err(*f))
 }
 
-fn fault<T>(f: &Field<T>) -> Option<Fault> {
+fn wrong<T>(f: &Field<T>) -> Option<Fault> {
     f.as_ref().err().copied()
 }
 
 fn state(f: &[&[u8]], turn: usize) -> Field<State> {
-    let [_, n, parent, kind, default] = f else { return Err(Fault::Form) };
+    let (n, parent, kind, default) = match f {
+        [_, n, parent, kind, default] => (n, parent, kind, default),
+        _ => return Err(Fault::Form),
+    };
     let kind = match *kind {
         b"o" => Ok(Kind::O),
         b"a" => Ok(Kind::A),
@@ -67,19 +72,25 @@ fn state(f: &[&[u8]], turn: usize) -> Field<State> {
     };
     let parent = if turn == 0 { absent(parent).map(|()| None) } else { number(parent).map(Some) };
     let default = if kind == Ok(Kind::O) { number(default).map(Some) } else { absent(default).map(|()| None) };
-    all(&[fault(&in_turn(n, turn)), fault(&parent), fault(&kind), fault(&default), fault(&room(turn, STATES))])?;
+    all(&[wrong(&in_turn(n, turn)), wrong(&parent), wrong(&kind), wrong(&default), wrong(&room(turn, STATES))])?;
     Ok(State { parent: parent?, kind: kind?, default: default? })
 }
 
 fn variable(f: &[&[u8]], turn: usize) -> Field<Variable> {
-    let [_, n, low, high, first] = f else { return Err(Fault::Form) };
+    let (n, low, high, first) = match f {
+        [_, n, low, high, first] => (n, low, high, first),
+        _ => return Err(Fault::Form),
+    };
     let (low, high, first) = (number(low), number(high), number(first));
-    all(&[fault(&in_turn(n, turn)), fault(&low), fault(&high), fault(&first), fault(&room(turn, VARIABLES))])?;
+    all(&[wrong(&in_turn(n, turn)), wrong(&low), wrong(&high), wrong(&first), wrong(&room(turn, VARIABLES))])?;
     Ok(Variable { low: low?, high: high?, first: first? })
 }
 
 fn events(f: &[&[u8]]) -> Field<i64> {
-    let [_, count] = f else { return Err(Fault::Form) };
+    let count = match f {
+        [_, count] => count,
+        _ => return Err(Fault::Form),
+    };
     let n = number(count)?;
     if (0..=EVENTS).contains(&n) { Ok(n) } else { Err(Fault::Size) }
 }
@@ -95,7 +106,7 @@ fn guard(v: &[u8], g: &[u8], x: &[u8]) -> Field<Option<Guard>> {
         _ => Err(Fault::Form),
     };
     let (variable, constant) = (number(v), number(x));
-    all(&[fault(&variable), fault(&sign), fault(&constant)])?;
+    all(&[wrong(&variable), wrong(&sign), wrong(&constant)])?;
     Ok(Some(Guard { variable: variable?, sign: sign?, constant: constant? }))
 }
 
@@ -108,15 +119,21 @@ fn target(b: &[u8]) -> Field<Target> {
 }
 
 fn transition(f: &[&[u8]], turn: usize) -> Field<Transition> {
-    let [_, n, source, trigger, v, g, x, aim] = f else { return Err(Fault::Form) };
+    let (n, source, trigger, v, g, x, aim) = match f {
+        [_, n, source, trigger, v, g, x, aim] => (n, source, trigger, v, g, x, aim),
+        _ => return Err(Fault::Form),
+    };
     let (source, trigger, guard, target) = (number(source), number(trigger), guard(v, g, x), target(aim));
     let room = room(turn, TRANSITIONS);
-    all(&[fault(&in_turn(n, turn)), fault(&source), fault(&trigger), fault(&guard), fault(&target), fault(&room)])?;
+    all(&[wrong(&in_turn(n, turn)), wrong(&source), wrong(&trigger), wrong(&guard), wrong(&target), wrong(&room)])?;
     Ok(Transition { source: source?, trigger: trigger?, guard: guard?, target: target? })
 }
 
 fn action(f: &[&[u8]], turn: usize) -> Field<Action> {
-    let [_, kind, owner, act, first, second] = f else { return Err(Fault::Form) };
+    let (kind, owner, act, first, second) = match f {
+        [_, kind, owner, act, first, second] => (kind, owner, act, first, second),
+        _ => return Err(Fault::Form),
+    };
     let (owner, first) = (number(owner), number(first));
     let second = match *act {
         b"s" | b"a" | b"q" => number(second),
@@ -124,7 +141,7 @@ fn action(f: &[&[u8]], turn: usize) -> Field<Action> {
         _ => Err(Fault::Form),
     };
     let kind_known = if matches!(*kind, b"e" | b"x" | b"d" | b"t") { Ok(()) } else { Err(Fault::Form) };
-    all(&[fault(&kind_known), fault(&owner), fault(&first), fault(&second), fault(&room(turn, ACTIONS))])?;
+    all(&[wrong(&kind_known), wrong(&owner), wrong(&first), wrong(&second), wrong(&room(turn, ACTIONS))])?;
     let (o, x, y) = (owner?, first?, second?);
     let owner = match *kind {
         b"e" => Owner::Entry(o),
@@ -170,7 +187,7 @@ fn line(c: &mut Chart, now: usize, line: &[u8]) -> Field<usize> {
 }
 
 /// The chart that a text states, without the rules.
-fn lines(text: &[u8]) -> Result<Chart, Refused> {
+pub fn lines(text: &[u8]) -> Result<Chart, Refused> {
     if text.len() > LONGEST {
         return refused(2, 0);
     }
@@ -191,13 +208,17 @@ fn lines(text: &[u8]) -> Result<Chart, Refused> {
     Ok(c)
 }
 
-/// Reads a chart text: the first faulty line, or the first rule that fails, or the chart.
-pub fn read(text: &[u8]) -> Result<Chart, Refused> {
-    let c = lines(text)?;
+/// A chart that was read, where it passes the rules.
+pub fn ruled(c: Chart) -> Result<Chart, Refused> {
     match rules::failing(&c) {
         Some(rule) => refused(3, rule),
         None => Ok(c),
     }
+}
+
+/// Reads a chart text: the first faulty line, or the first rule that fails, or the chart.
+pub fn read(text: &[u8]) -> Result<Chart, Refused> {
+    ruled(lines(text)?)
 }
 
 fn or_dash(n: Option<i64>) -> String {

@@ -1,6 +1,7 @@
 //! A widget's state, and the effects of a reaction on it, one at a time, each behind its trace entry.
 
 use crate::chart::{Act, Guard, Sign, Variable};
+use crate::fault::{self, Fault};
 use crate::{in_range, refused, Refused};
 
 pub const STATES: usize = 64;
@@ -138,6 +139,10 @@ impl Reaction<'_> {
             Act::Set(v, x) => self.assign(v, x),
             Act::Add(v, x) => self.assign(v, self.widget.vars[v as usize] + x),
             Act::Take(v) => self.assign(v, self.arg),
+            Act::Send(e, x) if fault::is(Fault::RoomAfterEffect) => {
+                self.widget.append(e, x)?;
+                self.entry(5, e, x)
+            }
             Act::Send(e, x) => {
                 self.entry(5, e, x)?;
                 self.widget.append(e, x)

@@ -2,6 +2,7 @@
 //! plans, lists of calls and saved states. For each program of vectors all that it must print is made here anew and compared.
 
 use oracle::chart::Chart;
+use oracle::plan::Plan;
 use oracle::widget::{Done, Widget, QUEUE, STATES, VARIABLES};
 use oracle::{machine, plan, reaction, text, Refused, MOST};
 use std::fs;
@@ -24,44 +25,44 @@ fn words(path: &Path) -> String {
 /// The four calls, by the chart or by its plan.
 enum Runner<'a> {
     Chart(&'a Chart),
-    Plan(&'a [i64]),
+    Plan(&'a Plan),
 }
 
 impl Runner<'_> {
     fn start(&self, lent: usize) -> Result<Done, Refused> {
         match self {
             Runner::Chart(c) => reaction::start(c, lent),
-            Runner::Plan(ns) => machine::start(ns, lent),
+            Runner::Plan(p) => machine::start(p, lent),
         }
     }
 
     fn run(&self, w: &Widget, lent: usize) -> Result<Done, Refused> {
         match self {
             Runner::Chart(c) => reaction::run(c, w, lent),
-            Runner::Plan(ns) => machine::run(ns, w, lent),
+            Runner::Plan(p) => machine::run(p, w, lent),
         }
     }
 
     fn post(&self, w: &Widget, event: i64, arg: i64) -> Result<Widget, Refused> {
         match self {
             Runner::Chart(c) => reaction::post(c, w, event, arg),
-            Runner::Plan(ns) => machine::post(ns, w, event, arg),
+            Runner::Plan(p) => machine::post(p, w, event, arg),
         }
     }
 
     fn discard(&self, w: &Widget) -> Result<Widget, Refused> {
         match self {
             Runner::Chart(c) => reaction::discard(c, w),
-            Runner::Plan(ns) => machine::discard(ns, w),
+            Runner::Plan(p) => machine::discard(p, w),
         }
     }
 }
 
-/// The plan with some zeros after it.
-fn compiled(c: &Chart) -> Vec<i64> {
+/// The plan, from its numbers with some zeros after it.
+fn compiled(c: &Chart) -> Plan {
     let mut ns = plan::numbers(&plan::plan(c));
     ns.extend([0; 7]);
-    ns
+    machine::examined(&ns).unwrap()
 }
 
 // ---- chart texts
@@ -118,9 +119,12 @@ fn trace_program(by: &Runner, input: &[u8]) -> String {
     let input = String::from_utf8_lossy(input);
     for line in input.split_terminator('\n') {
         let f: Vec<&str> = line.split('\t').collect();
-        let (Some(event), Some(arg), 2) = (number(f[0]), f.get(1).and_then(|a| number(a)), f.len()) else {
-            report(&mut out, 1, &[]);
-            continue;
+        let (event, arg) = match (number(f[0]), f.get(1).and_then(|a| number(a)), f.len()) {
+            (Some(event), Some(arg), 2) => (event, arg),
+            _ => {
+                report(&mut out, 1, &[]);
+                continue;
+            }
         };
         match by.post(&w, event, arg) {
             Ok(after) => {

@@ -1,0 +1,24 @@
+//! The proved engine, through its archive, against the independent interpreter: random charts, texts, plans and widgets, whole and damaged;
+//! each call is made on both sides, and its answer, its place, its count and every lent number are compared, refused calls too.
+
+pub mod call;
+pub mod cases;
+pub mod charts;
+pub mod comparison;
+pub mod damage;
+pub mod dice;
+
+use comparison::{Comparison, Difference};
+use dice::Dice;
+
+/// Makes cases until so many calls were compared.
+pub fn compare(seed: u64, calls: u64) -> (Comparison, Option<Box<Difference>>) {
+    let mut seeds = Dice::new(seed);
+    let mut cmp = Comparison::default();
+    while cmp.calls < calls {
+        if let Err(apart) = cases::case(&mut cmp, seeds.next()) {
+            return (cmp, Some(apart));
+        }
+    }
+    (cmp, None)
+}
