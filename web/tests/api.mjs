@@ -102,7 +102,8 @@ test('misuse throws, and nothing else does', () => {
   assert.throws(() => widget.restore([1, 2]), RangeError); assert.throws(() => widget.restore(null), TypeError);
   assert.throws(() => widget.restore(new Array(178).fill(0.5)), RangeError);
   assert.throws(() => widget.replay([1]), RangeError); assert.throws(() => engine.read(5), TypeError); assert.throws(() => new Widget(), TypeError);
-  assert.throws(() => chart.widget({ over: 'both' }), TypeError); assert.throws(() => new Engine(), TypeError); assert.throws(() => engine.chart([1]), RangeError);
+  assert.throws(() => chart.widget({ over: 'both' }), TypeError); assert.throws(() => new Engine(), TypeError);
+  assert.throws(() => engine.chart([1]), RangeError);
   is(widget.post(2147483647, -2147483648), 10);
 });
 test('what is disposed of throws, and its memory is used again', () => {
