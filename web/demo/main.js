@@ -57,7 +57,7 @@ function send(event) {
 
 function read(thenStart) {
   const before = session?.save() ?? null, { answer, chart } = engine.read($('text').value);
-  showVerdict(answer, chart);
+  showVerdict(answer, chart, session !== null);
   if (!answer.done) { log('Chart', { answer }, words); return false; }
   session?.dispose();
   session = new Session(chart);
@@ -157,6 +157,7 @@ function choose(tab) {
     const on = name === tab;
     $(`tab-${name}`).setAttribute('aria-selected', String(on)); $(`tab-${name}`).tabIndex = on ? 0 : -1; $(`panel-${name}`).hidden = !on;
   }
+  if (tab === 'plan') planView?.reveal();
 }
 async function showSpeed() {
   $('engine').textContent = 'measuring…';

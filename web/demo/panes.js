@@ -6,6 +6,7 @@ export function make(name, cls = '', text = null) {
   if (text !== null) e.textContent = text;
   return e;
 }
+export const counted = ([n, what]) => `${n.toLocaleString('en')} ${what}${n === 1 ? '' : 's'}`;
 const MOST_LOGGED = 200, MOST_ENTRIES = 300;
 
 // ---- the trace
@@ -73,7 +74,8 @@ export function showState({ chart, widget }, words, changed, size) {
   $('slots').replaceChildren(...owners.map((s) => slot(s, live ? widget.slot(s.number) : null, words)));
   $('waiting').textContent = `${queue.length} of ${size} waiting`;
   $('queue').replaceChildren(...Array.from({ length: size }, (_, i) => place(queue[i], words)));
-  $('active').textContent = live ? `Active: ${widget.active.map((s) => words.state(s)).join(', ')}` : 'Not started';
+  const leaves = chart.states.filter((s) => s.kind === 'b' && live && widget.isActive(s.number)).map((s) => words.state(s.number));
+  $('active').textContent = live ? `In: ${leaves.join(', ')}` : 'Not started';
   // an event that some active state listens to stands out
   const heard = new Set(chart.transitions.filter((t) => live && widget.isActive(t.source)).map((t) => t.trigger));
   for (const b of $('events').children) b.classList.toggle('off', !heard.has(Number(b.dataset.event)));
@@ -102,14 +104,19 @@ export function showLines(bad = 0) {
   if (bad) $('text').scrollTop = Math.max(0, (bad - 3) * 19);
   gutter.scrollTop = $('text').scrollTop;
 }
-export function showVerdict(answer, chart) {
+// Read or refused; old: a chart that was read before is still shown.
+export function showVerdict(answer, chart, old) {
   const verdict = $('verdict'), line = answer.number === 1 || (answer.number === 2 && answer.place > 0) ? answer.place : 0;
   showLines(line);
   verdict.className = answer.done ? 'verdict' : 'verdict bad';
   verdict.dataset.answer = answer.number; verdict.dataset.place = answer.place;
   $('text').setAttribute('aria-invalid', String(!answer.done));
-  if (!answer.done) { verdict.replaceChildren(make('b', '', `Refused, ${answer.number}. `), answer.words); return; }
+  $('diagram').classList.toggle('old', !answer.done);
+  if (!answer.done) {
+    verdict.replaceChildren(make('b', '', `Refused, ${answer.number}. `), answer.words, ...(old ? [make('small', '', 'The chart read before goes on.')] : []));
+    return;
+  }
   const counts = [[chart.states.length, 'state'], [chart.variables.length, 'variable'], [chart.events, 'event'], [chart.transitions.length, 'transition'],
     [chart.actions.length, 'action']];
-  verdict.textContent = counts.map(([n, w]) => `${n} ${w}${n === 1 ? '' : 's'}`).join(', ');
+  verdict.textContent = counts.map(counted).join(', ');
 }

@@ -1,5 +1,5 @@
 // The plan beside the chart: its heads in choosing order, each with its block of instructions; what just ran is marked and opened.
-import { make } from './panes.js';
+import { counted, make } from './panes.js';
 
 const MOST_LINES = 400; // of one block, on the page
 
@@ -24,26 +24,31 @@ function block(plan, words, title, note, from, count, data) {
 }
 
 export function showPlan(host, counts, plan, words) {
-  const lines = [[plan.states, 'states'], [plan.variables.length, 'variables'], [plan.events, 'events'], [plan.heads.length, 'heads'],
-    [plan.instructions.toLocaleString('en'), 'instructions'], [plan.length.toLocaleString('en'), 'numbers']];
-  counts.textContent = lines.map(([n, what]) => `${n} ${what}`).join(' · ');
+  const lines = [[plan.states, 'state'], [plan.variables.length, 'variable'], [plan.events, 'event'], [plan.heads.length, 'head'],
+    [plan.instructions, 'instruction'], [plan.length, 'number']];
+  counts.textContent = lines.map(counted).join(' · ');
   const start = block(plan, words, 'Start', 'the root and its defaults', 0, plan.start, { block: 'start' });
   const blocks = plan.heads.map((h) => [h.transition, block(plan, words, `T${h.transition}`,
     `${words.state(h.source)}: ${words.cause(h)} · span ${h.first}–${h.last}`, h.start, h.length, { block: h.transition })]);
   host.replaceChildren(start.box, ...blocks.map(([, b]) => b.box));
   const byTransition = new Map(blocks);
+  const inOrder = [start, ...byTransition.values()];
   return {
+    // Brings the first block that ran into view.
+    reveal() {
+      const first = inOrder.find((b) => b.box.classList.contains('ran'));
+      if (first && host.clientHeight) host.scrollTop += first.box.getBoundingClientRect().top - host.getBoundingClientRect().top - 4;
+    },
     // started: the start block ran; taken: the transitions whose blocks ran.
     mark(started, taken) {
       const ran = new Set([...taken].map((t) => byTransition.get(t)));
       if (started) ran.add(start);
-      for (const b of [start, ...byTransition.values()]) {
+      for (const b of inOrder) {
         const on = ran.has(b);
         b.box.classList.toggle('ran', on);
         if (on) { b.open(); b.box.open = true; } else if (ran.size) b.box.open = false;
       }
-      const first = [start, ...byTransition.values()].find((b) => ran.has(b));
-      if (first && host.clientHeight) host.scrollTop += first.box.getBoundingClientRect().top - host.getBoundingClientRect().top - 4;
+      this.reveal();
     },
   };
 }

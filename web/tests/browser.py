@@ -41,7 +41,7 @@ def panel():
 
 def k():
     """Chart K typed in by keys (the space bar writes the tabs), then its five runs clicked."""
-    page.type('text', K)
+    page.type('labels', ''), page.type('text', K)
     press('read')
     check('K read', page.verdict(), [0, 0])
     check('K start', last()['raw'], ['3 0 0', '3 1 0'])
@@ -56,7 +56,7 @@ def k():
     check('K slot of 2', page.css('[data-slot="2"]').get_attribute('data-held'), '4')
     check('K: chart and plan agree', (page.agreement(), page.at('agree').get_attribute('data-calls')), ('alike', '11'))
     press('tab-plan')
-    check('K: counts of the plan', page.at('counts').text, '5 states · 1 variables · 2 events · 3 heads · 39 instructions · 195 numbers')
+    check('K: counts of the plan', page.at('counts').text, '5 states · 1 variable · 2 events · 3 heads · 39 instructions · 195 numbers')
     page.shot('05-K-plan')
     press('tab-text')
 
@@ -216,7 +216,7 @@ def names():
     event(1)
     check('an event button says its words', page.css('#events [data-event="1"]').accessible_name, 'event 1: pointer enters')
     check('the diagram says what is active', page.css('#diagram svg').accessible_name.startswith('State diagram. Active: panel, awake'), True)
-    check('the words of the active states', page.at('active').text, 'Active: panel, awake, tip, hidden, view, whole')
+    check('the words of the active states', page.at('active').text, 'In: hidden, whole')
 
 
 def hostile():
@@ -250,6 +250,9 @@ def sizes():
     check('deepest chart runs', (seen, page.agreement()), ({0}, 'alike'))
     page.shot('12-deepest')
     press('tab-plan')
+    top = page.script("const p = document.getElementById('plan').getBoundingClientRect(), b = document.querySelector('.block.ran').getBoundingClientRect(); "
+                      "return b.top >= p.top && b.top < p.bottom")
+    check('the block that ran is in view', top, True)
     page.shot('13-deepest-plan')
     press('tab-text')
     wide = 'S 0 - o 1\n' + ''.join(f'S {i} 0 b -\n' for i in range(1, 64)) + 'E 32\n' + \

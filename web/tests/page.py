@@ -98,7 +98,8 @@ class Page:
 
     def paste(self, name, text):
         self.unfold(name)
-        self.script("const e = document.getElementById(arguments[0]); e.value = arguments[1]; e.dispatchEvent(new Event('input', { bubbles: true }))", name, text)
+        self.script("const e = document.getElementById(arguments[0]); e.value = arguments[1]; "
+                    "e.dispatchEvent(new Event('input', { bubbles: true }))", name, text)
 
     def tick(self, name, on):
         self.unfold(name)

@@ -9,7 +9,8 @@ const { instance: { exports: x } } = await WebAssembly.instantiate(fs.readFileSy
 const top = Number(x.__stack_pointer.value);
 let end = (Number(x.__heap_base.value) + 15) & ~15;
 const take = (bytes) => { const at = end; end += (bytes + 15) & ~15; return at; };
-const text = take(32769), chart = take(2421 * 4), widget = take(178 * 4), trace = take(TRACE * 4), plan = take(PLAN * 4), pairs = take(8 * 400), report = take(12);
+const text = take(32769), chart = take(2421 * 4), widget = take(178 * 4), trace = take(TRACE * 4), plan = take(PLAN * 4);
+const pairs = take(8 * 400), report = take(12);
 x.memory.grow(Math.ceil((end - x.memory.buffer.byteLength) / 65536));
 const u8 = new Uint8Array(x.memory.buffer), i32 = new Int32Array(x.memory.buffer), answers = new Set();
 
@@ -42,5 +43,6 @@ function everything(written) {
 }
 for (const c of [deep, wide, broad]) everything(c);
 const ok = most > 0 && most < top / 2;
-console.log(`stack: at most ${most} of ${top} bytes used (${where}); answers met: ${[...answers].sort((a, b) => a - b).join(' ')}: ${ok ? '1 passed, 0' : '0 passed, 1'} failed`);
+const met = [...answers].sort((a, b) => a - b).join(' ');
+console.log(`stack: at most ${most} of ${top} bytes used (${where}); answers met: ${met}: ${ok ? '1 passed, 0' : '0 passed, 1'} failed`);
 process.exit(ok ? 0 : 1);
