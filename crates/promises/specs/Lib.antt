@@ -1,1 +1,3 @@
 pub mod Promises
+pub mod Saved
+pub mod Host

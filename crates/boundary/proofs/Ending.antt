@@ -1,0 +1,109 @@
+-- What the entry points of a host cite: a call of the engine on the widget that the numbers state, told and kept; a start with room and
+-- without. Assumes nothing.
+use mathlib.Core.Path.{_≡_, refl, sym, ap, _∙_}
+use mathlib.Core.Bool.{Bool, true, false, cond}
+use mathlib.Core.List.{List, [], _∷_}
+use Prim.Native.Nat.{ℕ, _<_, _≤_, _-_}
+use native.Mathlib.Nat.{sub-zero}
+use native.Mathlib.Omega.{arith}
+use borrow.Author.Tests.{lt-ltb, le-ltb, eq-eqb, ne-eqb, eqb-false}
+use lib.Dec.{eqb}
+use lib.ListN.{length, replicate}
+use lib.IntN.{ℤ, pos}
+use Rattle.sizes.specs.Sizes.{STATE-NUMBERS}
+use Rattle.meaning.specs.declared.Answer.{Answer}
+use Rattle.meaning.specs.declared.Called.{Called}
+use Rattle.meaning.specs.declared.State.{State}
+use Rattle.meaning.specs.Answers.{FOREIGN}
+use Rattle.meaning.specs.Lists.{padded}
+use Rattle.meaning.specs.Calls.{Outcome, refused, called, lent, unstarted}
+use Rattle.promises.specs.Saved.{small, widget-of, stored}
+use Rattle.promises.specs.Host.{Told, Ends, Traces, kept, too-few, unstarted-into, start-by, start-into}
+
+-- ---- what is told: the result is read back from its bits
+
+pub told-as : {a b : Answer} {n m : ℕ} {r s : ℤ} {rep : List ℤ} → s ≡ r → a ≡ b → n ≡ m → Told a n r rep → Told b m s rep
+told-as {b = b} {n = n} i e f t = record {
+  answer = i ∙ t .answer ∙ ap (λ x. small (x .number)) e;
+  told = t .told ∙ ap (λ x. small (x .place) ∷ small n ∷ []) e ∙ ap (λ k. small (b .place) ∷ small k ∷ []) f;
+}
+
+-- ---- the end of a call
+
+pub ends-done : (c : Called) {ns after : List ℤ} {r s : ℤ} {rep : List ℤ} → c .answer .number ≡ 0 → after ≡ stored (c .state) ns → s ≡ r
+    → Told (c .answer) (c .entries) r rep → Ends c ns s rep after
+unfolding kept
+ends-done c z e i t = record { tells = told-as i refl refl t; widget = e ∙ sym (rw (eq-eqb (c .answer .number) 0 z)) }
+
+pub ends-refused : (c : Called) {ns : List ℤ} {r s : ℤ} {rep : List ℤ} → (c .answer .number ≡ 0 → ⊥) → s ≡ r
+    → Told (c .answer) (c .entries) r rep → Ends c ns s rep ns
+unfolding kept
+ends-refused c z i t = record { tells = told-as i refl refl t; widget = sym (rw (ne-eqb (c .answer .number) 0 z)) }
+
+ends-by : {c d : Called} {ns : List ℤ} {r s : ℤ} {rep after : List ℤ} → s ≡ r → c ≡ d → Ends c ns r rep after → Ends d ns s rep after
+ends-by {ns = ns} i e h = record {
+  tells = told-as i (ap (λ x. x .answer) e) (ap (λ x. x .entries) e) (h .tells);
+  widget = h .widget ∙ ap (λ x. kept x ns) e;
+}
+
+-- ---- a call of the engine on the widget that the numbers state
+
+pub ends-as : (f : State → Outcome) {u w : State} {c : Called} {ns : List ℤ} {r s : ℤ} {rep after : List ℤ}
+    → u ≡ w → c ≡ called (f u) → s ≡ r → Ends c ns r rep after → Ends (called (f w)) ns s rep after
+ends-as f e g i h = ends-by i (g ∙ ap (λ x. called (f x)) e) h
+
+pub traces-as : (f : State → Outcome) {u w : State} {c : Called} {ns : List ℤ} {n : ℕ} {r s : ℤ} {rep after out : List ℤ}
+    → u ≡ w → c ≡ called (f u) → out ≡ lent n (f u) → s ≡ r → Ends c ns r rep after → Traces (f w) ns n s rep after out
+traces-as f {n = n} e g l i h = record { ends = ends-as f e g i h; lent = l ∙ ap (λ x. lent n (f x)) e }
+
+-- ---- a start
+
+-- with room it is a call like another
+pub start-room : (a : Answer) (f : State → Outcome) {u : State} {c : Called} {ns : List ℤ} {n : ℕ} {r s : ℤ} {rep after out : List ℤ}
+    → STATE-NUMBERS ≤ length ns → u ≡ widget-of ns → c ≡ called (f u) → out ≡ lent n (f u) → s ≡ r → Ends c ns r rep after
+    → Traces (start-into a f ns) ns n s rep after out
+unfolding start-into start-by
+start-room a f {ns = ns} h e g l i t = rw (le-ltb (length ns) STATE-NUMBERS h) (traces-as f e g l i t)
+
+too-few-refuses : (a : Answer) → too-few a .number ≡ 0 → ⊥
+unfolding too-few
+too-few-refuses a e = go (eqb (a .number) 0) refl e
+  where
+    go : (t : Bool) → eqb (a .number) 0 ≡ t → cond t (record { number = FOREIGN; place = 0 }) a .number ≡ 0 → ⊥
+    go true p q = absurd (omega arith)
+    go false p q = eqb-false (a .number) 0 p q
+
+-- without room it is refused, and the trace is cleared
+pub start-short : (f : State → Outcome) {a v b : Answer} {ns : List ℤ} {n : ℕ} {r s : ℤ} {rep out : List ℤ}
+    → length ns < STATE-NUMBERS → v ≡ a → b ≡ too-few v → out ≡ replicate n (pos 0) → s ≡ r → Told b 0 r rep
+    → Traces (start-into a f ns) ns n s rep ns out
+unfolding start-into start-by refused called lent padded
+start-short f {a = a} {ns = ns} {n = n} h v e l i t =
+    rw (lt-ltb (length ns) STATE-NUMBERS h) (record {
+      ends = ends-refused _ (too-few-refuses a) i (told-as refl (e ∙ ap too-few v) refl t);
+      lent = l ∙ sym (ap (λ k. replicate k (pos 0)) (sub-zero n));
+    })
+
+-- the answer where too few numbers are lent
+pub too-few-6 : (a : Answer) → a .number ≡ 0 → _≡_ {A = Answer} (record { number = FOREIGN; place = 0 }) (too-few a)
+unfolding too-few
+too-few-6 a h = rw (eq-eqb (a .number) 0 h)
+
+pub too-few-first : (a : Answer) → (a .number ≡ 0 → ⊥) → a ≡ too-few a
+unfolding too-few
+too-few-first a h = rw (ne-eqb (a .number) 0 h)
+
+-- ---- a widget not yet started
+
+abbrev made : ℕ → State → Called
+made n u = record { answer = record { number = n; place = 0 }; state = u; entries = 0 }
+
+pub unstarted-short : {u : State} {ns : List ℤ} {r s : ℤ} {rep after : List ℤ} → length ns < STATE-NUMBERS → u ≡ unstarted → s ≡ r
+    → Ends (made FOREIGN u) ns r rep after → Ends (unstarted-into ns) ns s rep after
+unfolding unstarted-into called refused
+unstarted-short {ns = ns} h e i t = rw (lt-ltb (length ns) STATE-NUMBERS h) (ends-by i (ap (made FOREIGN) e) t)
+
+pub unstarted-room : {u : State} {ns : List ℤ} {r s : ℤ} {rep after : List ℤ} → STATE-NUMBERS ≤ length ns → u ≡ unstarted → s ≡ r
+    → Ends (made 0 u) ns r rep after → Ends (unstarted-into ns) ns s rep after
+unfolding unstarted-into called
+unstarted-room {ns = ns} h e i t = rw (le-ltb (length ns) STATE-NUMBERS h) (ends-by i (ap (made 0) e) t)
