@@ -14,7 +14,7 @@ use Rattle.meaning.specs.declared.plan.Instr.{Instr}
 use Rattle.meaning.specs.Lists.{concat-map, from, keep}
 use Rattle.meaning.specs.Tree.{kind-of, is-child, descendants}
 use Rattle.meaning.specs.Entry.{Visit, Way, below}
-use Rattle.leave_enter.specs.Moves.{defaulting, visit-as}
+use Rattle.ways.specs.Ways.{defaulting, visit-as}
 use Rattle.blocks.specs.Kids.{Kids-left}
 use Rattle.leave_enter.proofs.Descending.{range-none, range-next, range-skip, range-take}
 use Rattle.leave_enter.proofs.Falling.{falls-by}

@@ -24,9 +24,9 @@ use Rattle.meaning.specs.Compile.{code-acts, enter-code, visit-code, default-ar
 use Rattle.meaning.specs.Value.{chart-of}
 use Rattle.tree_walks.specs.Walks.{Ruled}
 use Rattle.tree_walks.proofs.Passing.{sound}
-use Rattle.leave_enter.specs.declared.ways.Goal.{Goal}
-use Rattle.leave_enter.specs.declared.ways.Goal.the-variants.{Target as aim, Owner as owner}
-use Rattle.leave_enter.specs.Moves.{goal-way, defaulting, visit-as}
+use Rattle.ways.specs.declared.Goal.{Goal}
+use Rattle.ways.specs.declared.Goal.the-variants.{Target as aim, Owner as owner}
+use Rattle.ways.specs.Ways.{goal-way, defaulting, visit-as}
 use Rattle.emitter.specs.Pen.{Pen, emits, Room}
 use Rattle.emitter.proofs.Laws.{put-first, put-both}
 use Rattle.blocks.specs.Parts.{goal-code, move-code}

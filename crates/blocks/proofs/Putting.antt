@@ -23,7 +23,7 @@ use Rattle.meaning.specs.Lists.{at-value}
 use Rattle.meaning.specs.Tree.{parent-of, kind-of, is-o}
 use Rattle.meaning.specs.Effects.{o-parent}
 use Rattle.meaning.specs.Compile.{code-acts, exit-code, enter-code, visit-code, held-code, past-if-out, stored-code}
-use Rattle.leave_enter.specs.Moves.{visit-as}
+use Rattle.ways.specs.Ways.{visit-as}
 use Rattle.emitter.specs.Pen.{Pen, emits, Small-place}
 use Rattle.emitter.proofs.Laws.{put-first, put-both}
 

@@ -47,7 +47,7 @@ pub fn joined(out: &mut [u8], at: usize, word: &[u8]) -> usize {
     let mut to = at;
     let mut i: usize = 0;
     while i < word.len() {
-        to = pen::put(out, to, word[i]);
+        to = console::put(out, to, word[i]);
         i += 1;
     }
     to

@@ -18,7 +18,7 @@ fn print_number(n: usize) {
 // A number with its sign.
 fn print_signed(v: i32) {
     let mut word = [0u8; 16];
-    let n = pen::put_numeral(&mut word, 0, v);
+    let n = console::put_numeral(&mut word, 0, v);
     let most = crate::parse::within(n, &word);
     print(&word[..most]);
 }

@@ -32,7 +32,7 @@ use Rattle.meaning.specs.Reaction.{choosing-order}
 use Rattle.meaning.specs.Compile.{code-acts, exit-code, enter-code, visit-code, held-code, past-if-out, stored-code, default-arm, stored-arm, arms}
 use Rattle.meaning.specs.Compile.{towards-code, exits-code, block, start-block, head-order, code-of}
 use Rattle.meaning.specs.Value.{chart-of}
-use Rattle.leave_enter.specs.declared.ways.Goal.the-variants.{Target as aim, Owner as owner}
+use Rattle.ways.specs.declared.Goal.the-variants.{Target as aim, Owner as owner}
 use Rattle.emitter.proofs.Finding.{code-few}
 use Rattle.blocks.proofs.Putting.{visit-plain, visit-due}
 use Rattle.blocks.proofs.Joining.{arms-long, start-as, move-long, block-at-target, block-at-history, block-in-place}

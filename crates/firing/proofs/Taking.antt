@@ -25,9 +25,9 @@ use Rattle.tree_walks.proofs.Passing.{sound}
 use Rattle.widget.specs.declared.Went.{Went}
 use Rattle.widget.specs.View.{Lent, all-lent, with-vars, with-queue, with-trace, Whole, Within, Did}
 use Rattle.widget.proofs.Going.{then-on, then-stop}
-use Rattle.leave_enter.specs.Moves.{goal-way, goal-visit, Led}
-use Rattle.leave_enter.specs.declared.ways.Goal.{Goal}
-use Rattle.leave_enter.specs.declared.ways.Goal.the-variants.{Target, Owner}
+use Rattle.ways.specs.Ways.{goal-way, goal-visit, Led}
+use Rattle.ways.specs.declared.Goal.{Goal}
+use Rattle.ways.specs.declared.Goal.the-variants.{Target, Owner}
 use Rattle.firing.specs.Moving.{moving}
 use Rattle.firing.proofs.Leading.{leave-all-led, led-after}
 

@@ -9,8 +9,8 @@ use Rattle.meaning.specs.Reaction.{leave-all}
 use Rattle.meaning.specs.Steps.{Step, _then_, each}
 use Rattle.meaning.specs.Tree.{descendants}
 use Rattle.meaning.specs.Widget.{Ctx}
-use Rattle.leave_enter.specs.Moves.{goal-way, goal-visit}
-use Rattle.leave_enter.specs.declared.ways.Goal.{Goal}
+use Rattle.ways.specs.Ways.{goal-way, goal-visit}
+use Rattle.ways.specs.declared.Goal.{Goal}
 
 -- "the active states of the span are left .. Then the transition's actions. Then states are entered": from the scope to the goal
 unfoldable pub moving : Chart → ℤ → ℕ → Goal → ℕ → Step Ctx

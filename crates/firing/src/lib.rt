@@ -4,13 +4,13 @@ use acts::perform_all;
 use chart_rows::trans_row;
 use leave_enter::entering::towards;
 use leave_enter::leaving::leave_below;
-use leave_enter::ways::Goal;
 use meaning::chart::Owner;
 use meaning::chart::Target;
 use queue::lent::QUEUE_NUMBERS;
 use sizes::STATES;
 use sizes::VARIABLES;
 use tree_walks::scope;
+use ways::Goal;
 use widget::Went;
 use widget::mark_taken;
 ghost use mathlib.Core.Path.{_≡_};
@@ -21,7 +21,7 @@ ghost use Rattle.meaning.specs.Reaction.{fire as fires};
 ghost use Rattle.meaning.specs.Value.{chart-of};
 ghost use Rattle.tree_walks.specs.Walks.{Ruled};
 ghost use Rattle.widget.specs.View.{all-lent, Did};
-ghost use Rattle.leave_enter.specs.Moves.{Inside, Led};
+ghost use Rattle.ways.specs.Ways.{Inside, Led};
 ghost use Rattle.firing.specs.Moving.{moving};
 
 // The states below the scope are left, then the transition's actions, then the way down to the goal.

@@ -19,10 +19,10 @@ use Rattle.widget.specs.declared.Went.{Went}
 use Rattle.widget.specs.View.{Lent, all-lent, ctx, tracing, widget, Did}
 use Rattle.widget.proofs.Going.{then-on, then-stop, then-none}
 use Rattle.widget.proofs.Loops.{look-at, when-on}
-use Rattle.leave_enter.specs.Moves.{way-by, slot-of, stored-way, goal-way, goal-visit, defaulting, visit-as}
-use Rattle.leave_enter.specs.declared.ways.Next.{Next}
-use Rattle.leave_enter.specs.declared.ways.Goal.{Goal}
-use Rattle.leave_enter.specs.declared.ways.Goal.the-variants.{Target, Owner}
+use Rattle.ways.specs.Ways.{way-by, slot-of, stored-way, goal-way, goal-visit, defaulting, visit-as}
+use Rattle.ways.specs.declared.Next.{Next}
+use Rattle.ways.specs.declared.Goal.{Goal}
+use Rattle.ways.specs.declared.Goal.the-variants.{Target, Owner}
 use Rattle.leave_enter.proofs.Visiting.{Enters}
 
 -- ---- the restore

@@ -18,8 +18,8 @@ use Rattle.meaning.specs.Widget.{Ctx}
 use Rattle.widget.specs.declared.Went.{Went}
 use Rattle.widget.specs.View.{Lent, all-lent, ctx, Within, Did, Owes}
 use Rattle.widget.proofs.Going.{owes-all, owes-as, owes-none, owes-on, owes-stop}
-use Rattle.leave_enter.specs.Moves.{defaulting, stored-way, visit-as, Kids}
-use Rattle.leave_enter.proofs.Among.{stored-plain}
+use Rattle.ways.specs.Ways.{defaulting, stored-way, visit-as, Kids}
+use Rattle.ways.proofs.Among.{stored-plain}
 use Rattle.leave_enter.proofs.Visiting.{enter-lent}
 
 -- ---- lists

@@ -19,7 +19,7 @@ use Rattle.widget.specs.declared.Went.{Went}
 use Rattle.widget.specs.View.{Lent, all-lent, with-active, with-vars, with-queue, with-trace, ctx, tracing, Within, Did}
 use Rattle.widget.proofs.Going.{then-on, then-stop, then-none}
 use Rattle.widget.proofs.Loops.{did-refuse}
-use Rattle.leave_enter.specs.Moves.{slot-of, visit-as}
+use Rattle.ways.specs.Ways.{slot-of, visit-as}
 
 -- ---- by default or not
 

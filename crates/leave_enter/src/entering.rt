@@ -1,13 +1,6 @@
 // Entering states below a state that is in (01, "Firing" and "History"): one state, with its parent's default actions where
 // due; down by defaults; down by the slots; the restore at a history's owner; and the path to a target or to an owner.
 // Each goes from a state to its children: the falling number is that of the states left below this one.
-use super::ways::Goal;
-use super::ways::Next;
-use super::ways::by_default;
-use super::ways::goes_on;
-use super::ways::next_of;
-use super::ways::slot_of;
-use super::ways::stored;
 use acts::enter;
 use acts::perform_all;
 use chart_rows::kind_of;
@@ -19,6 +12,13 @@ use numbers::Place;
 use queue::lent::QUEUE_NUMBERS;
 use sizes::STATES;
 use sizes::VARIABLES;
+use ways::Goal;
+use ways::Next;
+use ways::by_default;
+use ways::goes_on;
+use ways::next_of;
+use ways::slot_of;
+use ways::stored;
 use widget::Went;
 ghost use mathlib.Core.Path.{_≡_};
 ghost use Prim.Native.Nat.{_≤_, _<_};
@@ -30,7 +30,7 @@ ghost use Rattle.meaning.specs.Entry.{plain, all-below, by-defaults, visit as v
 ghost use Rattle.meaning.specs.Value.{chart-of};
 ghost use Rattle.tree_walks.specs.Walks.{Ruled};
 ghost use Rattle.widget.specs.View.{Lent, all-lent, with-active, with-vars, with-queue, with-trace, Within, Did};
-ghost use Rattle.leave_enter.specs.Moves.{way-by, stored-way, goal-way, goal-visit, defaulting, visit-as, Inside, Led};
+ghost use Rattle.ways.specs.Ways.{way-by, stored-way, goal-way, goal-visit, defaulting, visit-as, Inside, Led};
 
 // Enters s, a child of p, which goes on so: "a state entered by its parent's default has that default's actions run just
 // before it".

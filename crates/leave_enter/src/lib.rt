@@ -3,4 +3,3 @@
 // behind is what the definition gives.
 pub mod entering;
 pub mod leaving;
-pub mod ways;

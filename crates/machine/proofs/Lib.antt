@@ -1,4 +1,3 @@
-pub mod Ending
 pub mod Gates
 pub mod Starts
 pub mod Runs

@@ -29,7 +29,7 @@ use Rattle.widget.specs.View.{Lent, all-lent, widget, went, Did}
 use Rattle.widget.specs.declared.Went.{Went}
 use Rattle.widget.proofs.Going as going
 use Rattle.plan_code.specs.Code.{Ran}
-use Rattle.machine.proofs.Ending.{Ends, ends-steps}
+use Rattle.ends.proofs.Ending.{Ends, ends-steps}
 use Rattle.machine.proofs.Gates.{owns, tests-7, tests-6, tests-on}
 
 -- ---- one step, then null steps

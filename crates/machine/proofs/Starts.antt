@@ -34,7 +34,7 @@ use Rattle.widget.specs.declared.Went.{Went}
 use Rattle.widget.proofs.Going as going
 use Rattle.plan_choice.specs.Heads.{Examined}
 use Rattle.plan_code.specs.Code.{Ran, block-of}
-use Rattle.machine.proofs.Ending.{Ends, ends-steps}
+use Rattle.ends.proofs.Ending.{Ends, ends-steps}
 
 -- ---- the first values
 

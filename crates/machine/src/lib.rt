@@ -1,6 +1,5 @@
 // The calls on a widget over a plan, on any numbers, any state and any lent trace (01, "The plan"): the plan is examined
 // first, and each call on a plan that was examined stands in a module of its own.
-pub mod ends;
 pub mod running;
 pub mod starting;
 pub mod waiting;
@@ -27,7 +26,7 @@ pub fn start(plan: &[i32], state: State, trace: &mut [i32]) -> Called
 {
     let verdict = examine(plan);
     if verdict.number != 0 {
-        return refuse(NOT_A_PLAN, state, trace);
+        return refuse(NOT_A_PLAN, 0, state, trace);
     }
     start_examined(plan, counts(plan), state, trace)
 }
@@ -38,7 +37,7 @@ pub fn run(plan: &[i32], state: State, trace: &mut [i32]) -> Called
 {
     let verdict = examine(plan);
     if verdict.number != 0 {
-        return refuse(NOT_A_PLAN, state, trace);
+        return refuse(NOT_A_PLAN, 0, state, trace);
     }
     run_examined(plan, counts(plan), state, trace)
 }

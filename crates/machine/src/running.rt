@@ -1,6 +1,6 @@
 // A run on a plan that was examined (01, "One reaction"): the tests 7, 6 and 8, the front event's step, null steps.
-use super::ends::finish;
-use super::ends::refuse;
+use ends::finish;
+use ends::refuse;
 use meaning::Called;
 use meaning::State;
 use meaning::answers::FOREIGN;
@@ -29,7 +29,7 @@ ghost use Rattle.plan_choice.specs.Heads.{Examined};
 ghost use Rattle.plan_code.specs.Code.{Slotted, Ran};
 
 // One step with the event, then null steps.
-fn react(
+pub fn react(
     plan: &[i32],
     k: Counts,
     event: usize,
@@ -42,7 +42,7 @@ fn react(
     trace: &mut [i32],
 ) -> Went
     requires { ⌜ Examined (now plan) k × (length (now picks) ≡ transitions) × Slotted (now slots) ⌝ }
-    ensures { λ r. ⌜ Ran (plan-step (plan-by (now (plan .entry))) event arg then plan-settle (plan-by (now (plan .entry)))) (all-lent (now (active .entry)) (now (slots .entry)) (now (vars .entry)) (now (queue .entry)) (now (trace .entry))) 0 r (all-lent (now (active .exit)) (now (slots .exit)) (now (vars .exit)) (now (queue .exit)) (now (trace .exit))) ⌝ }
+    ensures { λ r. ⌜ Ran (plan-step (plan-by (now (plan .entry))) event arg then plan-settle (plan-by (now (plan .entry)))) (all-lent (now (active .entry)) (now (slots .entry)) (now (vars .entry)) (now (queue .entry)) (now (trace .entry))) 0 r (all-lent (now (active .exit)) (now (slots .exit)) (now (vars .exit)) (now (queue .exit)) (now (trace .exit))) × (length (now (picks .exit)) ≡ transitions) ⌝ }
 {
     let went = step(
         plan,
@@ -69,15 +69,15 @@ pub fn run_examined(plan: &[i32], k: Counts, state: State, trace: &mut [i32]) ->
     ensures { λ r. ⌜ (r ≡ called (plan-run (plan-by (now (plan .entry))) state (length (now (trace .entry))))) × (now (trace .exit) ≡ lent (length (now (trace .entry))) (plan-run (plan-by (now (plan .entry))) state (length (now (trace .entry))))) ⌝ }
 {
     if !state.started {
-        return refuse(NOT_STARTED, state, trace);
+        return refuse(NOT_STARTED, 0, state, trace);
     }
     if !own(plan, k, state) {
-        return refuse(FOREIGN, state, trace);
+        return refuse(FOREIGN, 0, state, trace);
     }
     let queue = state.queue;
     let removed = queue.remove();
     if !removed.done {
-        return refuse(QUEUE_EMPTY, state, trace);
+        return refuse(QUEUE_EMPTY, 0, state, trace);
     }
     let front = removed.front;
     let event = reference(front.event);

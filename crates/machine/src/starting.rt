@@ -1,5 +1,5 @@
 // A start on a plan that was examined (01, "One reaction"): a fresh widget, the start block, null steps.
-use super::ends::finish;
+use ends::finish;
 use meaning::Called;
 use meaning::State;
 use meaning::plan::Counts;

@@ -1,15 +1,15 @@
 // The plan program (01, "The plan"), for whoever ships widgets: reads chart.txt, a missing one as empty, and writes its plan: one line for
 // the six counts, one for each variable, head and instruction, numbers parted by single spaces; or `R`, answer and place where the text or
 // the chart is refused. It decides nothing itself: what a text and a chart give is said by the engine.
+use console::put;
+use console::put_digits;
+use console::put_numeral;
 use engine::Answer;
 use engine::VALUE;
 use files::LENT;
 use files::chart_text;
 use libc::STDOUT_FILENO;
 use numbers::reference;
-use pen::put;
-use pen::put_digits;
-use pen::put_numeral;
 
 // Room for every plan, so that 4 is never given (docs/PLAN.md).
 const ROOM: usize = 462390;

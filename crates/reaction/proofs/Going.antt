@@ -22,7 +22,7 @@ use Rattle.widget.proofs.Going.{said-ok}
 use Rattle.invariants.proofs.Good.{Good}
 use Rattle.invariants.proofs.Slots.{slot-child}
 use Rattle.reaction.specs.Ready.{Ready}
-use Rattle.leave_enter.specs.Moves.{Led}
+use Rattle.ways.specs.Ways.{Led}
 
 pub sized : (v : List ℤ) → Ruled v → Sized-chart (chart-of v)
 sized v r = sized-chart v (rules-passed v r .0)

@@ -39,7 +39,7 @@ use Rattle.invariants.proofs.Values.{removed-fits}
 use Rattle.invariants.proofs.Own.{own-whole}
 use Rattle.reaction.specs.Ready.{Ready}
 use Rattle.reaction.proofs.Going.{sized, ready-next}
-use Rattle.reaction.proofs.Ending.{Ends}
+use Rattle.ends.proofs.Ending.{Ends}
 
 -- ---- one step and null steps
 

@@ -37,7 +37,7 @@ use Rattle.invariants.proofs.GoodReaction.{below-inside}
 use Rattle.invariants.proofs.Own.{fresh-good}
 use Rattle.reaction.specs.Ready.{Ready}
 use Rattle.reaction.proofs.Going.{sized}
-use Rattle.reaction.proofs.Ending.{Ends}
+use Rattle.ends.proofs.Ending.{Ends}
 
 -- ---- the first values
 

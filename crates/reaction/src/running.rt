@@ -1,8 +1,8 @@
 // A run on a chart that passes the rules (01, "One reaction"): the tests 7, 6 and 8, the front event's step, null steps.
-use super::ends::finish;
-use super::ends::refuse;
 use super::steps::settle;
 use super::steps::step;
+use ends::finish;
+use ends::refuse;
 use meaning::Called;
 use meaning::State;
 use meaning::answers::FOREIGN;

@@ -1,9 +1,9 @@
 // A start on a chart that passes the rules (01, "One reaction"): a fresh widget, the root and its defaults, null steps.
-use super::ends::finish;
 use super::steps::settle;
 use acts::enter;
 use chart_rows::var_count;
 use chart_rows::var_row;
+use ends::finish;
 use leave_enter::entering::by_defaults;
 use meaning::Called;
 use meaning::State;

@@ -76,6 +76,28 @@ fn lengths(dice: &mut Dice, needed: usize) -> Vec<usize> {
     some
 }
 
+/// A start or run that ended so with ample room, again with other rooms: about all that it needs, also where it is refused later on.
+fn rooms(cmp: &mut Comparison, dice: &mut Dice, s: &Subject, name: Name, widget: &[i32], ample: &Outcome) -> Compared<()> {
+    let mut needed = 3 * ample.count as usize;
+    if matches!(ample.answer, 9 | 12) {
+        let (mut least, mut most) = (0, AMPLE);
+        while least < most {
+            let room = (least + most) / 2;
+            let short = both(cmp, s, name, widget, room, (0, 0))?.answer == 11;
+            if short {
+                least = room + 1;
+            } else {
+                most = room;
+            }
+        }
+        needed = least;
+    }
+    for room in lengths(dice, needed) {
+        both(cmp, s, name, widget, room, (0, 0))?;
+    }
+    Ok(())
+}
+
 const AMPLE: usize = 1500;
 
 /// A widget's life: posts, runs and discards, with every length of trace, and all by the chart and by its plan.
@@ -83,9 +105,7 @@ fn session(cmp: &mut Comparison, dice: &mut Dice) -> Compared<()> {
     let s = Subject::new(dice);
     let held: Vec<i32> = (0..WIDGET + dice.below(3)).map(|_| damage::odd(dice)).collect();
     let started = both(cmp, &s, Name::Start, &held, AMPLE, (0, 0))?;
-    for room in lengths(dice, 3 * started.count as usize) {
-        both(cmp, &s, Name::Start, &held, room, (0, 0))?;
-    }
+    rooms(cmp, dice, &s, Name::Start, &held, &started)?;
     let mut widget = started.widget[..held.len()].to_vec();
     for _ in 0..dice.from(4, 30) {
         widget = moved_on(cmp, dice, &s, widget)?;
@@ -110,9 +130,7 @@ fn moved_on(cmp: &mut Comparison, dice: &mut Dice, s: &Subject, widget: Vec<i32>
         _ => {
             let ran = both(cmp, s, Name::Run, &widget, AMPLE, event)?;
             if dice.chance(40) {
-                for room in lengths(dice, 3 * ran.count as usize) {
-                    both(cmp, s, Name::Run, &widget, room, event)?;
-                }
+                rooms(cmp, dice, s, Name::Run, &widget, &ran)?;
             }
             ran
         }
@@ -306,21 +324,28 @@ fn replays(cmp: &mut Comparison, dice: &mut Dice) -> Compared<()> {
         if dice.chance(5) {
             widget.truncate(dice.below(WIDGET));
         }
-        let mut events = Vec::new();
-        for _ in 0..dice.below(9) {
-            let (event, arg) = s.event(dice);
-            events.extend([event, arg]);
+        for _ in 0..12 {
+            replay(cmp, dice, &s, &widget)?;
         }
-        if dice.chance(10) {
-            events.push(1);
-        }
-        let mut plan = s.plan.clone();
-        if dice.chance(10) {
-            damage::numbers(dice, &mut plan);
-        }
-        let room = if dice.chance(70) { AMPLE } else { dice.below(40) };
-        cmp.make(&Call { events: &events, ..call(Name::PlanReplay, &plan, &widget, room) })?;
     }
+    Ok(())
+}
+
+fn replay(cmp: &mut Comparison, dice: &mut Dice, s: &Subject, widget: &[i32]) -> Compared<()> {
+    let mut events = Vec::new();
+    for _ in 0..dice.below(12) {
+        let (event, arg) = s.event(dice);
+        events.extend([event, arg]);
+    }
+    if dice.chance(10) {
+        events.push(1);
+    }
+    let mut plan = s.plan.clone();
+    if dice.chance(10) {
+        damage::numbers(dice, &mut plan);
+    }
+    let room = if dice.chance(70) { AMPLE } else { dice.below(40) };
+    cmp.make(&Call { events: &events, ..call(Name::PlanReplay, &plan, widget, room) })?;
     Ok(())
 }
 
@@ -328,12 +353,12 @@ fn replays(cmp: &mut Comparison, dice: &mut Dice) -> Compared<()> {
 pub fn case(cmp: &mut Comparison, seed: u64) -> Compared<()> {
     let mut dice = Dice::new(seed);
     cmp.begin(seed);
-    match dice.below(10) {
+    match dice.below(13) {
         0..=2 => session(cmp, &mut dice),
         3..=4 => states(cmp, &mut dice),
-        5 => texts(cmp, &mut dice),
-        6 => values(cmp, &mut dice),
-        7..=8 => plans(cmp, &mut dice),
+        5..=6 => texts(cmp, &mut dice),
+        7..=8 => values(cmp, &mut dice),
+        9..=10 => plans(cmp, &mut dice),
         _ => replays(cmp, &mut dice),
     }
 }

@@ -264,6 +264,9 @@ impl Maker<'_> {
         if self.dice.chance(25) {
             self.many_sends();
         }
+        if self.dice.chance(40) {
+            self.guarded_components();
+        }
     }
 
     fn room(&self, transitions: usize, actions: usize) -> bool {
@@ -289,6 +292,29 @@ impl Maker<'_> {
         self.chart.actions.push(Action { owner: begin, act: Act::Set(v, 0) });
         let on = self.in_place(0, Some(Guard { variable: v, sign: Sign::Less, constant: steps }));
         self.chart.actions.push(Action { owner: on, act: Act::Add(v, 1) });
+    }
+
+    /// Two components that react to one event (or to none): the higher changes what the lower's guard asks for.
+    fn guarded_components(&mut self) {
+        let c = &self.chart;
+        let groups: Vec<usize> = (0..c.states.len()).filter(|&s| c.kind(s) == Kind::A).collect();
+        if groups.is_empty() || !self.room(3, 3) || c.variables.len() >= 16 {
+            return;
+        }
+        let components = self.chart.children(self.dice.pick(&groups));
+        let v = self.chart.variables.len() as i64;
+        self.chart.variables.push(Variable { low: -1, high: 1, first: 0 });
+        let event = self.dice.number(1, self.chart.events);
+        let trigger = if self.dice.chance(80) { event } else { 0 };
+        let guard = |constant| Some(Guard { variable: v, sign: Sign::Equal, constant });
+        let moves = [(components[components.len() - 1], 1), (components[0], -1)];
+        for (component, value) in moves {
+            self.chart.transitions.push(Transition { source: component as i64, trigger, guard: guard(0), target: Target::InPlace });
+            let owner = Owner::Transition(self.chart.transitions.len() as i64 - 1);
+            self.chart.actions.push(Action { owner, act: Act::Set(v, value) });
+        }
+        let back = self.in_place(event, guard(-1));
+        self.chart.actions.push(Action { owner: back, act: Act::Set(v, 0) });
     }
 
     /// About as many sends at once as the queue has places.

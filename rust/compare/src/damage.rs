@@ -98,6 +98,11 @@ pub fn text(dice: &mut Dice, whole: &[u8]) -> Vec<u8> {
             }
             4 => cut = true,
             5 => lines[i].push(dice.pick(b"\t\r \0\xff-0")),
+            6..=7 => {
+                // two fields of one line: which is told?
+                field(dice, &mut lines[i]);
+                field(dice, &mut lines[i]);
+            }
             _ => field(dice, &mut lines[i]),
         }
     }
@@ -134,6 +139,7 @@ fn field(dice: &mut Dice, line: &mut Vec<u8>) {
         }
         2 => fields[i] = odd(dice).to_string().into_bytes(),
         3 => fields[i] = dice.below(12).to_string().into_bytes(),
+        4 => fields[i] = dice.pick(&["1000000001", "-1000000001", "99999999999999999999999999"]).as_bytes().to_vec(),
         _ => fields[i] = dice.pick(&FIELDS).as_bytes().to_vec(),
     }
     *line = fields.join(&b'\t');

@@ -1,6 +1,6 @@
 -- `run` examines the plan first. Assumes nothing.
 use borrow.Author.Needs.{needs}
-use Rattle.machine.proofs.Ending.{ends-as}
+use Rattle.ends.proofs.Ending.{ends-as}
 use Rattle.machine.proofs.Gates.{was-examined, run-5, run-is}
 use Rattle.machine.proofs.run.Statement.{statement}
 use Rattle.machine.proofs.run.Tie as tie

@@ -1,6 +1,6 @@
 -- `start` examines the plan first. Assumes nothing.
 use borrow.Author.Needs.{needs}
-use Rattle.machine.proofs.Ending.{ends-as}
+use Rattle.ends.proofs.Ending.{ends-as}
 use Rattle.machine.proofs.Gates.{was-examined, start-5, start-is}
 use Rattle.machine.proofs.start.Statement.{statement}
 use Rattle.machine.proofs.start.Tie as tie

@@ -6,7 +6,7 @@ use borrow.Author.Tests.{not-true, not-false}
 use Rattle.meaning.specs.Value.{chart-of}
 use Rattle.meaning.specs.Compile.{visit-code}
 use Rattle.meaning.specs.Entry.{by-defaults, defaults}
-use Rattle.leave_enter.proofs.Among.{defaults-way, defaults-on}
+use Rattle.ways.proofs.Among.{defaults-way, defaults-on}
 use Rattle.blocks.proofs.Descent.{Going, going-begin, going-skip, going-room, going-room-below, going-on, going-size, going-end}
 use borrow.Author.Needs.{needs}
 use native.Mathlib.Omega.{arith}

@@ -15,8 +15,8 @@ use Rattle.meaning.specs.Value.{chart-of}
 use Rattle.tree_walks.proofs.Passing.{sound}
 use Rattle.widget.specs.View.{Lent}
 use Rattle.meaning.specs.Entry.{by-defaults, defaults, visit}
-use Rattle.leave_enter.proofs.Among.{defaults-way, defaults-on}
-use Rattle.leave_enter.proofs.Levels.{child-fewer}
+use Rattle.ways.proofs.Among.{defaults-way, defaults-on}
+use Rattle.ways.proofs.Levels.{child-fewer}
 use Rattle.leave_enter.proofs.Descending.{Going, going-begin, going-skip, going-stop, going-stop-below, going-on, going-end}
 use Prim.Native.Nat.{ℕ, _<_}
 use borrow.Fn.Kinds.{In}
@@ -26,7 +26,7 @@ use Rattle.leave_enter.proofs.entering.by_defaults.Kinds as by-defaults
 use Rattle.leave_enter.proofs.entering.+by_defaults.Lts-by_defaults as by-defaults-lts
 use Rattle.chart_rows.proofs.tree.is_child.Reads as is-child-reads
 use Rattle.leave_enter.proofs.entering.visit.Reads as visit-reads
-use Rattle.leave_enter.proofs.ways.goes_on.Reads as goes-on-reads
+use Rattle.ways.proofs.goes_on.Reads as goes-on-reads
 use Rattle.leave_enter.proofs.entering.+by_defaults.{statement}
 use Rattle.leave_enter.proofs.entering.+by_defaults.Tie.{close}
 

@@ -13,9 +13,9 @@ use Rattle.meaning.specs.Tree.{descendants}
 use Rattle.meaning.specs.Value.{chart-of}
 use Rattle.tree_walks.proofs.Passing.{sound}
 use Rattle.meaning.specs.Entry.{revisit}
-use Rattle.leave_enter.specs.Moves.{stored-way}
-use Rattle.leave_enter.proofs.Among.{stored-child, stored-kids, stored-sound}
-use Rattle.leave_enter.proofs.Levels.{child-fewer}
+use Rattle.ways.specs.Ways.{stored-way}
+use Rattle.ways.proofs.Among.{stored-child, stored-kids, stored-sound}
+use Rattle.ways.proofs.Levels.{child-fewer}
 use Rattle.leave_enter.proofs.Descending.{Going, at-slots, one-list, revisited, going-begin, going-skip, going-stop, going-stop-below, going-on, going-end}
 use Prim.Native.Nat.{ℕ, _<_}
 use borrow.Fn.Kinds.{In}
@@ -25,8 +25,8 @@ use Rattle.leave_enter.proofs.entering.by_slots.Kinds as by-slots-kinds
 use Rattle.leave_enter.proofs.entering.+by_slots.Lts-by_slots as by-slots-lts
 use Rattle.chart_rows.proofs.tree.is_child.Reads as is-child-reads
 use Rattle.leave_enter.proofs.entering.revisit.Reads as revisit-reads
-use Rattle.leave_enter.proofs.ways.goes_on.Reads as goes-on-reads
-use Rattle.leave_enter.proofs.ways.stored.Reads as stored-reads
+use Rattle.ways.proofs.goes_on.Reads as goes-on-reads
+use Rattle.ways.proofs.stored.Reads as stored-reads
 use Rattle.leave_enter.proofs.entering.+by_slots.{statement}
 use Rattle.leave_enter.proofs.entering.+by_slots.Tie.{close}
 

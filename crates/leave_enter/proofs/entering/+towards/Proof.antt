@@ -13,9 +13,9 @@ use lib.ListN.{length}
 use Rattle.meaning.specs.Tree.{descendants}
 use Rattle.meaning.specs.Value.{chart-of}
 use Rattle.tree_walks.proofs.Passing.{sound}
-use Rattle.leave_enter.specs.Moves.{goal-way, goal-visit}
-use Rattle.leave_enter.proofs.Among.{goal-child, goal-kids, goal-sound}
-use Rattle.leave_enter.proofs.Levels.{child-fewer}
+use Rattle.ways.specs.Ways.{goal-way, goal-visit}
+use Rattle.ways.proofs.Among.{goal-child, goal-kids, goal-sound}
+use Rattle.ways.proofs.Levels.{child-fewer}
 use Rattle.leave_enter.proofs.Descending.{Going, at-slots, one-list, going-begin, going-skip, going-stop, going-stop-below, going-on, going-end}
 use Prim.Native.Nat.{ℕ, _<_}
 use borrow.Fn.Kinds.{In}
@@ -25,8 +25,8 @@ use Rattle.leave_enter.proofs.entering.towards.Kinds as towards-kinds
 use Rattle.leave_enter.proofs.entering.+towards.Lts-towards as towards-lts
 use Rattle.chart_rows.proofs.tree.is_child.Reads as is-child-reads
 use Rattle.leave_enter.proofs.entering.arrive.Reads as arrive-reads
-use Rattle.leave_enter.proofs.ways.goes_on.Reads as goes-on-reads
-use Rattle.leave_enter.proofs.ways.next_of.Reads as next-of-reads
+use Rattle.ways.proofs.goes_on.Reads as goes-on-reads
+use Rattle.ways.proofs.next_of.Reads as next-of-reads
 use Rattle.leave_enter.proofs.entering.+towards.{statement}
 use Rattle.leave_enter.proofs.entering.+towards.Tie.{close}
 

@@ -1,0 +1,131 @@
+// With which children a state goes on (01, "Firing" and "History"): by default, by its slot, towards a target or the owner
+// of a history; and the numbers among which these children are.
+use chart_rows::default_child;
+use chart_rows::kind_of;
+use chart_rows::state_count;
+use meaning::chart::Kind;
+use numbers::Place;
+use numbers::place_of;
+use sizes::STATES;
+use tree_walks::path_child;
+ghost use mathlib.Core.Path.{_≡_};
+ghost use Prim.Native.Nat.{_<_};
+ghost use lib.ListN.{length};
+ghost use Rattle.sizes.specs.Sizes.{STATES as states};
+ghost use Rattle.meaning.specs.Tree.{kind-of as kind-in};
+ghost use Rattle.meaning.specs.Value.{chart-of};
+ghost use Rattle.meaning.specs.Entry.{towards};
+ghost use Rattle.tree_walks.specs.Walks.{Ruled};
+ghost use Rattle.ways.specs.Ways.{way-by, slot-of as slot-in, stored-way, goal-way, defaulting, On-child, Kids};
+
+// How an o state goes on: with one child, with its default, or not at all.
+pub enum Next {
+    OnTo(usize),
+    Defaults,
+    Stops,
+}
+
+// Where a descent leads: to a target, or to the owner of a history and no further.
+pub enum Goal {
+    Target(usize),
+    Owner(usize),
+}
+
+// The children of a state that are entered are among the numbers from first up to below end.
+pub struct Children {
+    pub first: usize,
+    pub end: usize,
+}
+
+// "In each a state every component"; an o state goes on with one child.
+pub fn goes_on(chart: &[i32], s: usize, next: Next) -> Children
+    requires { ⌜ Ruled (now chart) × (s < length (chart-of (now chart) .states)) × On-child (chart-of (now chart)) s (way-by next) ⌝ }
+    ensures { λ r. ⌜ Kids (chart-of (now (chart .entry))) (way-by next) s (r .first) (r .end) ⌝ }
+{
+    let kind = kind_of(chart, s);
+    match kind {
+        Kind::O => match next {
+            Next::OnTo(d) => Children {
+                first: d,
+                end: d + 1,
+            },
+            Next::Defaults => {
+                let d = default_child(chart, s);
+                Children {
+                    first: d,
+                    end: d + 1,
+                }
+            }
+            Next::Stops => Children { first: s, end: s },
+        },
+        Kind::A => Children {
+            first: s + 1,
+            end: state_count(chart),
+        },
+        Kind::B => Children { first: s, end: s },
+    }
+}
+
+// Whether a state that goes on so enters its child by default.
+pub fn by_default(chart: &[i32], s: usize, next: Next) -> bool
+    ensures { λ r. ⌜ r ≡ defaulting (kind-in (chart-of (now (chart .entry))) s) (way-by next) ⌝ }
+{
+    let kind = kind_of(chart, s);
+    match kind {
+        Kind::O => match next {
+            Next::OnTo(d) => false,
+            Next::Defaults => true,
+            Next::Stops => false,
+        },
+        Kind::A => false,
+        Kind::B => false,
+    }
+}
+
+// What a slot holds: an empty slot's marker is no state.
+pub fn slot_of(slots: &[i32; STATES], s: usize) -> Place
+    requires { ⌜ (s < states) × (length (now slots) ≡ states) ⌝ }
+    ensures { λ r. ⌜ r ≡ slot-in (now (slots .entry)) s ⌝ }
+{
+    place_of(slots[s])
+}
+
+// "And so on down by the slots".
+pub fn stored(slots: &[i32; STATES], s: usize) -> Next
+    requires { ⌜ (s < states) × (length (now slots) ≡ states) ⌝ }
+    ensures { λ r. ⌜ way-by r ≡ stored-way (now (slots .entry)) s ⌝ }
+{
+    let place = slot_of(slots, s);
+    match place {
+        Place::At(d) => Next::OnTo(d),
+        Place::Empty => Next::Stops,
+    }
+}
+
+// "The path from below the scope to the target .. below that, defaults".
+fn next_to(chart: &[i32], t: usize, s: usize) -> Next
+    requires { ⌜ Ruled (now chart) ⌝ }
+    ensures { λ r. ⌜ way-by r ≡ towards (chart-of (now (chart .entry))) t s ⌝ }
+{
+    let place = path_child(chart, s, t);
+    match place {
+        Place::At(d) => Next::OnTo(d),
+        Place::Empty => Next::Defaults,
+    }
+}
+
+// The way to a goal; at the owner of a history it stops.
+pub fn next_of(chart: &[i32], goal: Goal, s: usize) -> Next
+    requires { ⌜ Ruled (now chart) ⌝ }
+    ensures { λ r. ⌜ way-by r ≡ goal-way (chart-of (now (chart .entry))) goal s ⌝ }
+{
+    match goal {
+        Goal::Target(t) => next_to(chart, t, s),
+        Goal::Owner(b) => {
+            if s == b {
+                return Next::Stops;
+            }
+            next_to(chart, b, s)
+        }
+    }
+}
