@@ -1,6 +1,7 @@
 //! Calls made on both sides and compared; what was seen; and a difference told so that it can be made again.
 
 use crate::call::{by_engine, by_oracle, Call, Name, Outcome};
+use crate::record::Record;
 use oracle::{text, value};
 use std::collections::BTreeMap;
 use std::fmt;
@@ -31,9 +32,15 @@ pub struct Comparison {
     turn: u64,
     /// How often each call gave each answer.
     seen: BTreeMap<(String, i32), u64>,
+    /// Where each call is written with what the engine gave, if it is.
+    pub record: Option<Record>,
 }
 
 impl Comparison {
+    pub fn recorded(record: Option<Record>) -> Comparison {
+        Comparison { record, ..Comparison::default() }
+    }
+
     pub fn begin(&mut self, seed: u64) {
         self.seed = seed;
         self.turn = 0;
@@ -53,6 +60,9 @@ impl Comparison {
         let oracle = by_oracle(call);
         if let Some(how) = engine.difference(&oracle) {
             return Err(self.apart(call, how));
+        }
+        if let Some(record) = &mut self.record {
+            record.write(call, &engine);
         }
         *self.seen.entry((format!("{:?}", call.name), engine.answer)).or_insert(0) += 1;
         Ok(engine)

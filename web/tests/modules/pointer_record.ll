@@ -1,0 +1,10 @@
+; refused: a record with a pointer has another size there
+source_filename = "rattle"
+target datalayout = "e-m:e-p270:32:32-p271:32:32-p272:64:64-i64:64-i128:128-f80:128-n8:16:32:64-S128"
+target triple = "x86_64-unknown-linux-gnu"
+
+define i64 @qh_record(ptr %p) {
+  %r = alloca { ptr, i64 }, align 8
+  store ptr %p, ptr %r, align 8
+  ret i64 0
+}
