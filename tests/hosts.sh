@@ -19,7 +19,7 @@ find_compilers() { # INSTALL
     fi
     c_compiler=cc emulate=()
     if [ "$machine" != x86_64 ]; then
-        c_compiler=x86_64-linux-gnu-gcc emulate=(qemu-x86_64)
+        c_compiler=x86_64-linux-gnu-gcc emulate=("$(kit_emulator || printf qemu-x86_64)")
         [ ! -d /usr/x86_64-linux-gnu ] || emulate+=(-L /usr/x86_64-linux-gnu)
         # under the emulator glibc copies and clears large blocks byte by byte unless told otherwise
         export GLIBC_TUNABLES=glibc.cpu.hwcaps=-ERMS,-FSRM
@@ -33,6 +33,14 @@ find_compilers() { # INSTALL
     return "$NOT_MADE"
 }
 
+# The toolchain's own emulator, where it has one; the toolchain is found from the command rt.
+kit_emulator() {
+    local rt kit
+    rt=$(command -v rt) || return 1
+    kit=${RATTLE_HOME:-$(cd "$(dirname "$(readlink -f "$rt")")/.." && pwd -P)}
+    [ -x "$kit/on/$machine/toolchain/bin/qemu-x86_64" ] && printf '%s\n' "$kit/on/$machine/toolchain/bin/qemu-x86_64"
+}
+
 # What is missing, and Debian's packages that have it.
 list_lacking() {
     packages=() lacking=()
@@ -43,7 +51,7 @@ list_lacking() {
         return
     fi
     need x86_64-linux-gnu-gcc gcc-x86-64-linux-gnu
-    need qemu-x86_64 qemu-user
+    need "${emulate[0]}" qemu-user
     if ! rust_for_x86; then
         lacking+=("Rust's standard library for x86-64 (with rustup: rustup target add x86_64-unknown-linux-gnu)")
         packages+=(libstd-rust-dev:amd64)

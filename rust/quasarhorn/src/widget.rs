@@ -140,6 +140,23 @@ impl Widget {
 
     /// Posts and runs each event with its argument, up to the first refusal: how many were done, and that refusal. The trace is that of the
     /// last run. What was done stays done.
+    ///
+    /// ```
+    /// use quasarhorn::{Answer, Chart, Trace, Widget};
+    ///
+    /// let chart = Chart::read(b"S\t0\t-\to\t1\nS\t1\t0\tb\t-\nS\t2\t0\tb\t-\nE\t2\nT\t0\t1\t1\t-\t-\t-\t2\nT\t1\t2\t2\t-\t-\t-\t1\n")?;
+    /// let plan = chart.compile();
+    /// let mut trace = Trace::with_room(100);
+    /// let mut widget = Widget::unstarted();
+    /// widget.start(&plan, &mut trace)?;
+    /// let (done, ended) = widget.replay(&plan, &[[1, 0], [2, 0], [1, 0]], &mut trace);
+    /// assert_eq!((done, ended), (3, Ok(())));
+    /// assert!(widget.is_active(2));
+    /// let (done, ended) = widget.replay(&plan, &[[2, 0], [3, 0], [1, 0]], &mut trace);
+    /// assert_eq!((done, ended.unwrap_err().answer), (1, Answer::NoSuchEvent));
+    /// assert!(widget.is_active(1));
+    /// # Ok::<(), quasarhorn::Refused>(())
+    /// ```
     pub fn replay(&mut self, plan: &Plan, events: &[[i32; 2]], trace: &mut Trace) -> (usize, Result<(), Refused>) {
         let pairs: Vec<i32> = events.iter().flat_map(|e| *e).collect();
         let (report, done) = numbers::plan_replay(plan.numbers(), &mut self.numbers, &pairs, &mut trace.numbers);
