@@ -223,6 +223,8 @@ fn texts(cmp: &mut Comparison, dice: &mut Dice) -> Compared<()> {
     }
     let long = damage::long_text(dice);
     cmp.make(&read(&long, NUMBERS))?;
+    let huge = damage::huge_number(dice, &whole);
+    cmp.make(&read(&huge, NUMBERS))?;
     let endless = damage::endless_text(dice, &whole);
     cmp.make(&read(&endless, NUMBERS))?;
     Ok(())

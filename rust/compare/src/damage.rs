@@ -167,6 +167,18 @@ pub fn long_text(dice: &mut Dice) -> Vec<u8> {
     }
 }
 
+/// A text with a number of thousands of digits.
+pub fn huge_number(dice: &mut Dice, whole: &[u8]) -> Vec<u8> {
+    let mut lines: Vec<Vec<u8>> = whole.split(|&b| b == b'\n').map(<[u8]>::to_vec).collect();
+    let i = dice.below(lines.len());
+    let mut fields: Vec<Vec<u8>> = lines[i].split(|&b| b == b'\t').map(<[u8]>::to_vec).collect();
+    let j = dice.below(fields.len());
+    let digits = vec![dice.pick(b"0159"); dice.from(1000, 20_000)];
+    fields[j] = [dice.pick(&["", "-", "h", "1"]).as_bytes(), &digits].concat();
+    lines[i] = fields.join(&b'\t');
+    lines.join(&b'\n')
+}
+
 /// A text at the length where it is too long, whatever it holds.
 pub fn endless_text(dice: &mut Dice, whole: &[u8]) -> Vec<u8> {
     let length = dice.from(32_766, 32_770);
