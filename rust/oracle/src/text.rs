@@ -1,7 +1,7 @@
 //! Chart texts, read and written.
 
 use crate::chart::{Act, Action, Chart, Guard, Kind, Owner, Sign, State, Target, Transition, Variable};
-use crate::{fault, in_range, refused, rules, Refused, MOST};
+use crate::{fault, refused, rules, Refused, MOST};
 
 const LONGEST: usize = 32_768;
 const STATES: usize = 64;
@@ -225,6 +225,40 @@ fn or_dash(n: Option<i64>) -> String {
     n.map_or("-".to_string(), |n| n.to_string())
 }
 
+fn transition_fields(t: &Transition) -> String {
+    let guard = t.guard.map_or("-\t-\t-".to_string(), |g| {
+        let sign = match g.sign {
+            Sign::Equal => '=',
+            Sign::Less => '<',
+            Sign::More => '>',
+        };
+        format!("{}\t{sign}\t{}", g.variable, g.constant)
+    });
+    let target = match t.target {
+        Target::State(d) => d.to_string(),
+        Target::History(b) => format!("h{b}"),
+        Target::InPlace => "-".to_string(),
+    };
+    format!("{}\t{}\t{guard}\t{target}", t.source, t.trigger)
+}
+
+fn action_fields(a: &Action) -> String {
+    let (kind, owner) = match a.owner {
+        Owner::Entry(n) => ('e', n),
+        Owner::Exit(n) => ('x', n),
+        Owner::Default(n) => ('d', n),
+        Owner::Transition(n) => ('t', n),
+    };
+    let act = match a.act {
+        Act::Set(v, x) => format!("s\t{v}\t{x}"),
+        Act::Add(v, x) => format!("a\t{v}\t{x}"),
+        Act::Take(v) => format!("k\t{v}\t-"),
+        Act::Send(e, x) => format!("q\t{e}\t{x}"),
+        Act::Tell(x) => format!("o\t{x}\t-"),
+    };
+    format!("{kind}\t{owner}\t{act}")
+}
+
 /// Writes a chart as text.
 pub fn write(c: &Chart) -> Vec<u8> {
     let mut out = String::new();
@@ -241,37 +275,10 @@ pub fn write(c: &Chart) -> Vec<u8> {
     }
     out += &format!("E\t{}\n", c.events);
     for (n, t) in c.transitions.iter().enumerate() {
-        let guard = t.guard.map_or("-\t-\t-".to_string(), |g| {
-            let sign = match g.sign {
-                Sign::Equal => '=',
-                Sign::Less => '<',
-                Sign::More => '>',
-            };
-            format!("{}\t{sign}\t{}", g.variable, g.constant)
-        });
-        let target = match t.target {
-            Target::State(d) => d.to_string(),
-            Target::History(b) => format!("h{b}"),
-            Target::InPlace => "-".to_string(),
-        };
-        out += &format!("T\t{n}\t{}\t{}\t{guard}\t{target}\n", t.source, t.trigger);
+        out += &format!("T\t{n}\t{}\n", transition_fields(t));
     }
     for a in &c.actions {
-        let (kind, owner) = match a.owner {
-            Owner::Entry(n) => ('e', n),
-            Owner::Exit(n) => ('x', n),
-            Owner::Default(n) => ('d', n),
-            Owner::Transition(n) => ('t', n),
-        };
-        let act = match a.act {
-            Act::Set(v, x) => format!("s\t{v}\t{x}"),
-            Act::Add(v, x) => format!("a\t{v}\t{x}"),
-            Act::Take(v) => format!("k\t{v}\t-"),
-            Act::Send(e, x) => format!("q\t{e}\t{x}"),
-            Act::Tell(x) => format!("o\t{x}\t-"),
-        };
-        out += &format!("A\t{kind}\t{owner}\t{act}\n");
+        out += &format!("A\t{}\n", action_fields(a));
     }
-    debug_assert!(c.variables.iter().all(|v| in_range(v.low)));
     out.into_bytes()
 }
