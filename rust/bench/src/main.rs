@@ -25,6 +25,10 @@ struct Subject {
     budget: f64,
 }
 
+/// A way that takes less for its events, in nanoseconds, takes more turns: so many times more.
+const SHORT: f64 = 0.2e9;
+const MOST_OFTEN: usize = 5;
+
 /// How an event is run.
 #[derive(Clone, Copy, PartialEq, Eq)]
 enum Way {
@@ -97,18 +101,22 @@ impl Subject {
         &self.events[..self.events.len().min(2 * count.max(300))]
     }
 
-    /// A line for each way, and the times in their order. The ways take turns, and the best of three turns counts.
+    /// A line for each way, and the times in their order. The ways take turns, at least three, and the best counts.
     fn table(&self, title: &str) -> Vec<f64> {
         println!("\n{title}; {} numbers lent for the trace", self.room);
         let ways: Vec<Way> = WAYS.iter().map(|w| w.0).filter(|w| *w != Way::Replay || numbers::HAS_REPLAY).collect();
         let events: Vec<&[i32]> = ways.iter().map(|w| self.affordable(*w)).collect();
         let ends: Vec<Vec<i32>> = events.iter().map(|e| self.time(Way::Plain, e).1).collect();
         let mut times = vec![f64::MAX; ways.len()];
-        for _ in 0..3 {
+        for turn in 0..3 * MOST_OFTEN {
             for (i, way) in ways.iter().enumerate() {
-                let (ns, widget) = self.time(*way, events[i]);
-                assert_eq!(widget, ends[i], "every way ends in the same widget");
-                times[i] = times[i].min(ns);
+                // a short one is made more often, since others on the machine disturb it more
+                let takes = times[i] * events[i].len() as f64 / 2.0;
+                if turn < 3 || takes < SHORT {
+                    let (ns, widget) = self.time(*way, events[i]);
+                    assert_eq!(widget, ends[i], "every way ends in the same widget");
+                    times[i] = times[i].min(ns);
+                }
             }
         }
         for (i, (_, name)) in WAYS.iter().enumerate() {
@@ -152,7 +160,7 @@ fn large(seed: &mut u64, many_events: bool) -> (Chart, Vec<i32>, f64) {
                 a.act = Act::Tell(x);
             }
         }
-        if (chart.events == 32) != many_events || chart.events == 0 {
+        if (chart.events == 32) != many_events || chart.events < 3 {
             continue;
         }
         let events: Vec<i32> = (0..3000).flat_map(|_| [dice.number(1, chart.events) as i32, dice.number(-9, 9) as i32]).collect();
@@ -193,7 +201,7 @@ fn main() {
             std::process::exit(2)
         }
     };
-    println!("Nanoseconds an event, posted and run: the best of three. Every way ends in the same widget. Each line says which tests are made");
+    println!("Nanoseconds an event, posted and run: the best of several turns. Every way ends in the same widget. Each line says which tests are made");
     println!("at each call, and whether the lent trace is cleared past its last entry.");
     let k = text::read(K.as_bytes()).expect("K keeps the rules");
     let events: Vec<i32> = [1, 2, 1].iter().cycle().take(count).flat_map(|&e| [e, 0]).collect();
