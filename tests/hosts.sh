@@ -1,9 +1,10 @@
+# shellcheck shell=bash
 # Sourced by the scripts that link the engine's archive with Rust and C: finds their compilers, and makes the archive.
 # The archive is for x86-64. On another processor everything is compiled for x86-64 and runs under an emulator.
 #
 # After `find_compilers INSTALL`, `rust` is cargo with its words for this machine, `c_compiler` compiles C, and `run_x86` runs what they made.
 # INSTALL is yes or no: whether Debian's packages may be installed where something is missing.
-# A function that cannot go on says why and returns 3: nothing was tested then.
+# The script that sources this says in `here` where the repository is. A function that cannot go on says why and returns 3: nothing was tested then.
 
 NOT_MADE=3
 
@@ -12,26 +13,41 @@ say() { printf '%s\n' "$*"; }
 # What this machine needs, and whether it is all there.
 find_compilers() { # INSTALL
     machine=$(uname -m)
-    packages=() lacking=()
-    if [ "$machine" = x86_64 ]; then
-        need cargo cargo
-        need rustc rustc
-        need cc gcc
-        c_compiler=cc emulate=()
-    else
-        need cargo cargo
-        need rustc rustc
-        need x86_64-linux-gnu-gcc gcc-x86-64-linux-gnu
-        need qemu-x86_64 qemu-user
-        if ! rust_for_x86; then
-            lacking+=("Rust's standard library for x86-64")
-            packages+=(libstd-rust-dev:amd64)
-        fi
+    if [ "$(uname -s)" != Linux ]; then
+        say "the archive is for Linux on x86-64, and this is $(uname -s)"
+        return "$NOT_MADE"
+    fi
+    c_compiler=cc emulate=()
+    if [ "$machine" != x86_64 ]; then
         c_compiler=x86_64-linux-gnu-gcc emulate=(qemu-x86_64)
         [ ! -d /usr/x86_64-linux-gnu ] || emulate+=(-L /usr/x86_64-linux-gnu)
+        # under the emulator glibc copies and clears large blocks byte by byte unless told otherwise
+        export GLIBC_TUNABLES=glibc.cpu.hwcaps=-ERMS,-FSRM
     fi
+    list_lacking
     [ "${#lacking[@]}" -eq 0 ] && return 0
     install_lacking "$1" || return "$NOT_MADE"
+    list_lacking
+    [ "${#lacking[@]}" -eq 0 ] && return 0
+    say "still missing: ${lacking[*]}"
+    return "$NOT_MADE"
+}
+
+# What is missing, and Debian's packages that have it.
+list_lacking() {
+    packages=() lacking=()
+    need cargo cargo
+    need rustc rustc
+    if [ "$machine" = x86_64 ]; then
+        need cc gcc
+        return
+    fi
+    need x86_64-linux-gnu-gcc gcc-x86-64-linux-gnu
+    need qemu-x86_64 qemu-user
+    if ! rust_for_x86; then
+        lacking+=("Rust's standard library for x86-64 (with rustup: rustup target add x86_64-unknown-linux-gnu)")
+        packages+=(libstd-rust-dev:amd64)
+    fi
 }
 
 need() { # COMMAND PACKAGE
@@ -49,15 +65,11 @@ install_lacking() { # INSTALL
     local part
     for part in "${lacking[@]}"; do say "missing here: $part"; done
     if [ ! -f /etc/debian_version ] || ! command -v apt-get >/dev/null 2>&1; then
-        say "this is no Debian: install a Rust compiler (1.63 or later, with cargo) and a C compiler, both for x86-64"
+        say 'this is no Debian: install a Rust compiler (1.63 or later, with cargo) and a C compiler, both for x86-64'
         return 1
     fi
-    if [ "$1" != yes ]; then
-        say "on Debian: apt-get install ${packages[*]}"
-        return 1
-    fi
-    if [ "$(id -u)" -ne 0 ]; then
-        say "not root; on Debian: apt-get install ${packages[*]}"
+    if [ "$1" != yes ] || [ "$(id -u)" -ne 0 ]; then
+        say "on Debian, as root: apt-get install ${packages[*]}"
         return 1
     fi
     say "installing ${packages[*]} .."
@@ -66,9 +78,10 @@ install_lacking() { # INSTALL
     fi
     if ! { apt-get update && DEBIAN_FRONTEND=noninteractive apt-get install -y --no-install-recommends "${packages[@]}"; } >"$here/target/apt.log" 2>&1; then
         tail -n 3 "$here/target/apt.log"
-        say "apt-get could not install them (target/apt.log says why)"
+        say 'apt-get could not install them (target/apt.log says why)'
         return 1
     fi
+    hash -r
 }
 
 # cargo in the folder rust, in release, with no registry; words after the subcommand go to cargo.
@@ -83,15 +96,12 @@ rust() { # SUBCOMMAND WORDS...
     fi
 }
 
-# Under the emulator glibc copies large blocks byte by byte unless told otherwise.
 run_x86() { # PROGRAM WORDS...
     ${emulate[@]+"${emulate[@]}"} "$@"
 }
 
 # The archive, proved where anything changed since it was last; or the one in a folder that was named.
 find_archive() { # FOLDER
-    export GLIBC_TUNABLES=glibc.cpu.hwcaps=-ERMS,-FSRM
-    [ "$machine" != x86_64 ] || unset GLIBC_TUNABLES
     if [ -n "$1" ]; then
         [ -f "$1/libboundary.a" ] || { say "no libboundary.a in $1"; return 2; }
         QUASARHORN_ARCHIVE=$(cd "$1" && pwd -P)

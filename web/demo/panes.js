@@ -7,7 +7,7 @@ export function make(name, cls = '', text = null) {
   return e;
 }
 export const counted = ([n, what]) => `${n.toLocaleString('en')} ${what}${n === 1 ? '' : 's'}`;
-const MOST_LOGGED = 200, MOST_ENTRIES = 300;
+const MOST_LINES = 33000, MOST_LOGGED = 200, MOST_ENTRIES = 300;
 
 // ---- the trace
 
@@ -96,7 +96,7 @@ export function showAgreement({ verdict, compared }) {
 // ---- the chart's text: line numbers, the faulty line marked
 
 export function showLines(bad = 0) {
-  const text = $('text').value, lines = text.split('\n').length, gutter = $('gutter');
+  const text = $('text').value, lines = Math.min(text.split('\n').length, MOST_LINES), gutter = $('gutter');
   const span = (from, to) => Array.from({ length: Math.max(0, to - from) }, (_, i) => from + i).join('\n');
   $('size').textContent = `${new TextEncoder().encode(text).length.toLocaleString('en')} bytes`;
   if (bad > 0 && bad <= lines) gutter.replaceChildren(span(1, bad) + (bad > 1 ? '\n' : ''), make('i', 'bad', bad), span(bad + 1, lines + 1));

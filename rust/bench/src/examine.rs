@@ -52,7 +52,7 @@ fn instruction_fits(r: &[i32], left: u32, c: Counts) -> bool {
 }
 
 /// The rows of a block, and what is after it, where it fits.
-fn block<'a>(code: &'a [i32], length: usize, c: Counts) -> Option<&'a [i32]> {
+fn block(code: &[i32], length: usize, c: Counts) -> Option<&[i32]> {
     let rows = code.get(..4 * length)?;
     let mut left = length as u32;
     for row in rows.chunks_exact(4) {

@@ -1,75 +1,12 @@
-//! An interpreter of charts as one would write it for speed: sets of states are words of 64 bits, transitions stand by trigger in choosing
-//! order, spans, ways and actions are worked out once, and nothing is allocated in a call. The tests check it against the plain interpreter.
+//! An interpreter of charts as one would write it for speed: sets of states are words of 64 bits, everything about the chart is worked out once
+//! (`tables`), and nothing is allocated in a call. The tests check it against the plain interpreter.
 
-use oracle::chart::{self, Kind, Owner, Sign, Target};
+pub use crate::tables::Chart;
+use crate::tables::{holds, Act, Goal, Span, Transition};
+use oracle::chart::Kind;
 use oracle::widget::{NULL_STEPS, QUEUE, STATES, VARIABLES};
-use oracle::MOST;
 
 const MOST_CHOSEN: usize = STATES;
-
-#[derive(Clone, Copy)]
-enum Act {
-    Set(usize, i32),
-    Add(usize, i32),
-    Take(usize),
-    Send(i32, i32),
-    Tell(i32),
-}
-
-#[derive(Clone, Copy, Default)]
-struct Span {
-    from: u16,
-    to: u16,
-}
-
-#[derive(Clone, Copy)]
-enum Goal {
-    InPlace,
-    State,
-    History,
-}
-
-#[derive(Clone, Copy)]
-struct Guard {
-    variable: usize,
-    sign: Sign,
-    constant: i32,
-}
-
-#[derive(Clone, Copy)]
-struct Transition {
-    number: i32,
-    source: usize,
-    guard: Option<Guard>,
-    goal: Goal,
-    scope: usize,
-    aim: usize,
-    /// The states that it may leave.
-    span: u64,
-    /// The states from below the scope to the aim.
-    way: u64,
-    acts: Span,
-}
-
-/// A chart, prepared.
-pub struct Chart {
-    states: usize,
-    variables: usize,
-    events: i32,
-    ranges: [(i32, i32, i32); VARIABLES],
-    kind: [Kind; STATES],
-    default: [usize; STATES],
-    /// The o parent, whose slot holds a state that is left.
-    o_parent: [Option<u8>; STATES],
-    parent: [u8; STATES],
-    children: [u64; STATES],
-    transitions: Vec<Transition>,
-    by_trigger: [Span; 33],
-    acts: Vec<Act>,
-    entry: [Span; STATES],
-    exit: [Span; STATES],
-    on_default: [Span; STATES],
-}
 
 /// A widget's state.
 #[derive(Clone, Copy, Debug, PartialEq, Eq)]
@@ -98,98 +35,6 @@ impl Widget {
         ns
     }
 }
-
-fn set(states: impl IntoIterator<Item = usize>) -> u64 {
-    states.into_iter().fold(0, |set, s| set | 1 << s)
-}
-
-// ---- preparing
-
-impl Chart {
-    /// Prepares a chart that keeps the rules.
-    pub fn new(c: &chart::Chart) -> Chart {
-        let mut made = Chart {
-            states: c.states.len(),
-            variables: c.variables.len(),
-            events: c.events as i32,
-            ranges: [(0, 0, 0); VARIABLES],
-            kind: [Kind::B; STATES],
-            default: [0; STATES],
-            o_parent: [None; STATES],
-            parent: [0; STATES],
-            children: [0; STATES],
-            transitions: Vec::new(),
-            by_trigger: [Span::default(); 33],
-            acts: Vec::new(),
-            entry: [Span::default(); STATES],
-            exit: [Span::default(); STATES],
-            on_default: [Span::default(); STATES],
-        };
-        for (v, row) in c.variables.iter().enumerate() {
-            made.ranges[v] = (row.low as i32, row.high as i32, row.first as i32);
-        }
-        for s in 0..c.states.len() {
-            made.state(c, s);
-        }
-        for trigger in 0..=c.events {
-            let from = made.transitions.len() as u16;
-            for t in c.choosing_order().into_iter().filter(|&t| c.transitions[t].trigger == trigger) {
-                let row = made.transition(c, t);
-                made.transitions.push(row);
-            }
-            made.by_trigger[trigger as usize] = Span { from, to: made.transitions.len() as u16 };
-        }
-        made
-    }
-
-    fn owned(&mut self, c: &chart::Chart, owner: Owner) -> Span {
-        let from = self.acts.len() as u16;
-        self.acts.extend(c.acts(owner).into_iter().map(|a| match a {
-            chart::Act::Set(v, x) => Act::Set(v as usize, x as i32),
-            chart::Act::Add(v, x) => Act::Add(v as usize, x as i32),
-            chart::Act::Take(v) => Act::Take(v as usize),
-            chart::Act::Send(e, x) => Act::Send(e as i32, x as i32),
-            chart::Act::Tell(x) => Act::Tell(x as i32),
-        }));
-        Span { from, to: self.acts.len() as u16 }
-    }
-
-    fn state(&mut self, c: &chart::Chart, s: usize) {
-        self.kind[s] = c.kind(s);
-        self.default[s] = c.default_child(s);
-        self.parent[s] = c.parent(s).unwrap_or(0) as u8;
-        self.o_parent[s] = c.parent(s).filter(|&p| c.kind(p) == Kind::O).map(|p| p as u8);
-        self.children[s] = set(c.children(s));
-        self.entry[s] = self.owned(c, Owner::Entry(s as i64));
-        self.exit[s] = self.owned(c, Owner::Exit(s as i64));
-        self.on_default[s] = self.owned(c, Owner::Default(s as i64));
-    }
-
-    fn transition(&mut self, c: &chart::Chart, t: usize) -> Transition {
-        let row = &c.transitions[t];
-        let source = row.source as usize;
-        let aim = c.aim(t).unwrap_or(source);
-        let scope = c.scope(source, aim);
-        let above_scope = set(c.ancestors(scope)) | 1 << scope;
-        Transition {
-            number: t as i32,
-            source,
-            guard: row.guard.map(|g| Guard { variable: g.variable as usize, sign: g.sign, constant: g.constant as i32 }),
-            goal: match row.target {
-                Target::InPlace => Goal::InPlace,
-                Target::State(_) => Goal::State,
-                Target::History(_) => Goal::History,
-            },
-            scope,
-            aim,
-            span: set(c.span(t)),
-            way: (set(c.ancestors(aim)) | 1 << aim) & !above_scope,
-            acts: self.owned(c, Owner::Transition(t as i64)),
-        }
-    }
-}
-
-// ---- calls
 
 /// A reaction under way.
 struct Reaction<'a> {
@@ -355,14 +200,7 @@ impl Reaction<'_> {
         for (i, t) in c.transitions[span.from as usize..span.to as usize].iter().enumerate() {
             let holds = w.active >> t.source & 1 == 1
                 && taken & t.span == 0
-                && t.guard.map_or(true, |g| {
-                    let x = w.vars[g.variable];
-                    match g.sign {
-                        Sign::Equal => x == g.constant,
-                        Sign::Less => x < g.constant,
-                        Sign::More => x > g.constant,
-                    }
-                });
+                && holds(t.guard, &w.vars);
             if holds {
                 chosen[count] = i as u8;
                 count += 1;
@@ -442,7 +280,7 @@ impl Chart {
             }
             inside |= active;
         }
-        inside == w.active && self.slots_fit(w) && self.values_fit(w) && self.queue_fits(w)
+        inside == w.active && self.slots_fit(w) && self.values_fit(&w.vars) && self.queue_fits(w)
     }
 
     fn slots_fit(&self, w: &Widget) -> bool {
@@ -471,19 +309,8 @@ impl Chart {
         }
     }
 
-    fn values_fit(&self, w: &Widget) -> bool {
-        let ranges = &self.ranges;
-        (0..VARIABLES).all(|v| if v < self.variables { ranges[v].0 <= w.vars[v] && w.vars[v] <= ranges[v].1 } else { w.vars[v] == 0 })
-    }
-
     fn queue_fits(&self, w: &Widget) -> bool {
-        w.places.iter().enumerate().all(|(i, &(e, a))| {
-            if i < w.length {
-                (1..=self.events).contains(&e) && i64::from(a).abs() <= MOST
-            } else {
-                (e, a) == (0, 0)
-            }
-        })
+        w.places.iter().enumerate().all(|(i, &(e, a))| if i < w.length { self.takes(e, a) } else { (e, a) == (0, 0) })
     }
 
     #[inline(always)]
@@ -546,10 +373,7 @@ impl Chart {
     /// Posts an event with its argument.
     pub fn post<const TESTS: bool>(&self, w: &mut Widget, event: i32, arg: i32) -> i32 {
         let posted = self.tested::<TESTS>(w).and_then(|()| {
-            if !(1..=self.events).contains(&event) || i64::from(arg).abs() > MOST {
-                return Err(10);
-            }
-            w.append(event, arg)
+            if self.takes(event, arg) { w.append(event, arg) } else { Err(10) }
         });
         posted.err().unwrap_or(0)
     }

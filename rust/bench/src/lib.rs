@@ -2,3 +2,4 @@
 
 pub mod examine;
 pub mod fast;
+pub mod tables;

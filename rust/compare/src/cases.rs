@@ -284,6 +284,9 @@ fn run_plan(cmp: &mut Comparison, dice: &mut Dice, plan: &[i32], events: i64) ->
         }
         widget = ran.widget[..WIDGET].to_vec();
     }
+    let list: Vec<i32> = (0..dice.below(9)).flat_map(|_| [dice.number(1, events.max(1)) as i32, dice.number(-9, 9) as i32]).collect();
+    let room = dice.pick(&[30, 600, 600]);
+    cmp.make(&Call { events: &list, ..call(Name::PlanReplay, plan, &widget, room) })?;
     Ok(())
 }
 
@@ -303,8 +306,12 @@ fn plans(cmp: &mut Comparison, dice: &mut Dice) -> Compared<()> {
     }
     for _ in 0..dice.from(5, 25) {
         let mut damaged = plan.clone();
-        let header = if dice.chance(15) { 6 } else { damaged.len() };
-        damage::numbers(dice, &mut damaged[..header]);
+        if dice.chance(25) {
+            damage::skip(dice, &mut damaged);
+        } else {
+            let header = if dice.chance(15) { 6 } else { damaged.len() };
+            damage::numbers(dice, &mut damaged[..header]);
+        }
         let examined = cmp.make(&call(Name::Examine, &damaged, &[], 0))?;
         if examined.answer == 0 || dice.chance(5) {
             run_plan(cmp, dice, &damaged, events)?;

@@ -94,6 +94,7 @@ impl Maker<'_> {
 
     fn children(&mut self, below: usize) -> usize {
         let most = match self.shape {
+            Shape::Deep if self.dice.chance(70) => 1,
             Shape::Deep => 2,
             Shape::Nested => 3,
             Shape::Wide => below,

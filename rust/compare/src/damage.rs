@@ -45,7 +45,7 @@ const LETTERS: &[u8] = b"oabexdtsakqo=<>h-SVETA";
 pub fn odd(dice: &mut Dice) -> i32 {
     match dice.below(8) {
         0 => i32::from(dice.pick(LETTERS)),
-        1 => dice.next() as i32,
+        1 => dice.throw() as i32,
         _ => dice.pick(&ODD),
     }
 }
@@ -115,7 +115,7 @@ pub fn text(dice: &mut Dice, whole: &[u8]) -> Vec<u8> {
 
 fn byte(dice: &mut Dice, line: &mut Vec<u8>) {
     let i = dice.below(line.len() + 1);
-    let new = if dice.chance(50) { dice.pick(LETTERS) } else { dice.next() as u8 };
+    let new = if dice.chance(50) { dice.pick(LETTERS) } else { dice.throw() as u8 };
     match dice.below(3) {
         0 => line.insert(i, new),
         1 if i < line.len() => line[i] = new,
@@ -212,6 +212,18 @@ pub fn plan(dice: &mut Dice) -> Vec<i32> {
         }
     }
     ns.iter().map(|&n| n as i32).collect()
+}
+
+/// One skip of a well-formed plan made to pass over a few more or fewer instructions: at the end of its block one more is too many.
+pub fn skip(dice: &mut Dice, plan: &mut [i32]) {
+    let code = 6 + 3 * plan[1] as usize + 10 * plan[3] as usize;
+    let skips: Vec<usize> = (code..plan.len()).step_by(4).filter(|&i| (3..=6).contains(&plan[i])).collect();
+    if skips.is_empty() {
+        return;
+    }
+    let row = dice.pick(&skips);
+    let field = if plan[row] == 6 { 3 } else { 2 };
+    plan[row + field] += dice.pick(&[-1, 1, 1, 2, 3]);
 }
 
 fn instruction(dice: &mut Dice, [states, vars, events]: [i64; 3], left: i64) -> [i64; 4] {

@@ -9,7 +9,7 @@ impl Dice {
         Dice(seed)
     }
 
-    pub fn next(&mut self) -> u64 {
+    pub fn throw(&mut self) -> u64 {
         self.0 = self.0.wrapping_add(0x9e37_79b9_7f4a_7c15);
         let mut z = self.0;
         z = (z ^ (z >> 30)).wrapping_mul(0xbf58_476d_1ce4_e5b9);
@@ -19,7 +19,7 @@ impl Dice {
 
     /// 0 to n-1.
     pub fn below(&mut self, n: usize) -> usize {
-        (self.next() % n as u64) as usize
+        (self.throw() % n as u64) as usize
     }
 
     /// From least to most, both included.
@@ -29,7 +29,7 @@ impl Dice {
 
     /// From least to most, both included.
     pub fn number(&mut self, least: i64, most: i64) -> i64 {
-        least + (self.next() % (most - least + 1) as u64) as i64
+        least + (self.throw() % (most - least + 1) as u64) as i64
     }
 
     pub fn chance(&mut self, percent: usize) -> bool {

@@ -21,7 +21,7 @@ pub fn compare(seed: u64, calls: u64) -> (Comparison, Option<Box<Difference>>) {
 pub fn compare_with(mut cmp: Comparison, seed: u64, calls: u64) -> (Comparison, Option<Box<Difference>>) {
     let mut seeds = Dice::new(seed);
     while cmp.calls < calls {
-        if let Err(apart) = cases::case(&mut cmp, seeds.next()) {
+        if let Err(apart) = cases::case(&mut cmp, seeds.throw()) {
             return (cmp, Some(apart));
         }
     }

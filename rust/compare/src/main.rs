@@ -6,6 +6,7 @@ use compare::comparison::Comparison;
 use compare::record::Record;
 use compare::{cases, compare_with};
 use oracle::fault;
+use quasarhorn::numbers::HAS_REPLAY;
 use std::process::exit;
 
 const USAGE: &str = "compare [--calls N] [--seed N] [--fault NAME] [--record] | compare --case SEED [--fault NAME]";
@@ -48,9 +49,12 @@ fn main() {
         exit(if record.end().is_ok() && apart.is_none() { 0 } else { 1 });
     }
     print!("{}", cmp.seen());
+    if !HAS_REPLAY {
+        println!("This archive has no qh_plan_replay: replays were made by single calls.");
+    }
     if let Some(apart) = apart {
         print!("{apart}");
-        println!("compare: a difference after {} calls; again with: compare --case {}", cmp.calls, apart.seed);
+        println!("compare: a difference after {} calls; again with: tests/compare --case {}", cmp.calls, apart.seed);
         exit(1);
     }
     println!("compare: {} calls in {} cases, seed {seed}: engine and interpreter alike", cmp.calls, cmp.cases);

@@ -49,7 +49,7 @@ pub const FAULTS: [(Fault, &str); 12] = [
 ];
 
 thread_local! {
-    static PLANTED: Cell<Option<Fault>> = Cell::new(None);
+    static PLANTED: Cell<Option<Fault>> = const { Cell::new(None) };
 }
 
 /// Plants a fault, or takes it out again.
