@@ -19,12 +19,12 @@ function entryLine(entry, words) {
   return line;
 }
 // A call in the trace: what was called, its answer, its entries in words and in numbers.
-export function log(title, { answer, trace = null }, words, kind = '') {
+export function log(title, { answer, trace = null, refusal = 'nothing changed' }, words, kind = '') {
   const view = $('trace'), item = make('li', answer.done ? kind : 'bad'), head = make('div', 'head'), list = make('ul');
   item.dataset.answer = answer.number; item.dataset.place = answer.place;
   if (!answer.done) head.append(make('span', 'no', answer.number));
   head.append(make('span', '', answer.done ? title : `${title} refused`));
-  const note = !answer.done ? 'nothing changed' : trace ? `${trace.length} ${trace.length === 1 ? 'entry' : 'entries'}` : '';
+  const note = !answer.done ? refusal : trace ? `${trace.length} ${trace.length === 1 ? 'entry' : 'entries'}` : '';
   head.append(make('small', '', note));
   item.append(head);
   if (!answer.done) item.append(make('div', 'why', answer.words));
