@@ -33,7 +33,7 @@ export function log(title, { answer, trace = null, refusal = 'nothing changed' }
   if (list.firstChild) item.append(list);
   view.append(item);
   while (view.children.length > MOST_LOGGED) view.firstChild.remove();
-  view.scrollTop = view.scrollHeight;
+  $('log').scrollTop = $('log').scrollHeight;
 }
 
 // ---- the state
