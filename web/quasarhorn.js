@@ -130,7 +130,7 @@ class Calls {
   constructor(x) {
     for (const name of ENTRY_POINTS) if (typeof x[name] !== 'function') throw new Error(`the module has no ${name}: it is no quasarhorn.wasm`);
     this.x = x; this.heap = new Heap(x); this.dead = null;
-    this.report = this.heap.take(12);
+    this.report = this.heap.take(12); this.pair = this.heap.take(8);
     this.room = ROOM; this.trace = this.heap.take(4 * ROOM);
   }
   call(name, ...words) {
@@ -157,6 +157,11 @@ class Calls {
     const lent = this.lendTrace(room);
     const number = this.call(name, over.at, over.length, widget.at, LENT_WIDGET, this.trace, lent);
     return { answer: this.answer(number), trace: number === 0 ? this.entries(this.said(1)) : NO_TRACE };
+  }
+  // Events that stand in the module's memory, replayed over a plan; the trace is that of the last run.
+  replayed(name, over, widget, at, length, lent) {
+    const number = this.call(name, over.at, over.length, widget.at, LENT_WIDGET, at, length, this.trace, lent);
+    return { answer: this.answer(number), trace: this.entries(this.said(1)) };
   }
   // Bytes of the module's memory, for the time of one call.
   borrow(bytes, use) {
@@ -317,9 +322,16 @@ export class Widget {
   }
   discard() { const c = this.#calls, o = this.#over; return c.answer(c.call(this.#names.discard, o.at, o.length, this.#lent.at, LENT_WIDGET)); }
   // Posted and, where that is accepted, run. The run takes the front event; one that it refuses goes on waiting.
-  send(event, argument = 0, options = {}) {
-    const answer = this.post(event, argument);
-    return answer.done ? this.run(options) : { answer, trace: NO_TRACE };
+  // Over a plan that is a replay of one event: one call, with the plan examined once.
+  send(event, argument = 0, { room = ROOM } = {}) {
+    if (this.#names.replay === null) {
+      const answer = this.post(event, argument);
+      return answer.done ? this.run({ room }) : { answer, trace: NO_TRACE };
+    }
+    int32(event, 'the event'); int32(argument, 'the argument');
+    const c = this.#calls, lent = c.lendTrace(room), { i32 } = c.heap;
+    i32[c.pair >> 2] = event; i32[(c.pair >> 2) + 1] = argument;
+    return c.replayed(this.#names.replay, this.#over, this.#lent, c.pair, 2n, lent);
   }
   // Pairs of event and argument, each posted and run, up to the first refusal: how many were done, and the trace of the last run.
   replay(pairs, { room = ROOM } = {}) {
@@ -328,8 +340,8 @@ export class Widget {
     if (this.#names.replay === null) return this.#replayed(list, room);
     return c.borrow(4 * list.length, (at) => {
       c.heap.i32.set(list, at >> 2);
-      const number = c.call(this.#names.replay, o.at, o.length, this.#lent.at, LENT_WIDGET, at, BigInt(list.length), c.trace, lent);
-      return { answer: c.answer(number), done: c.said(2), trace: c.entries(c.said(1)) };
+      const called = c.replayed(this.#names.replay, o, this.#lent, at, BigInt(list.length), lent);
+      return { ...called, done: c.said(2) };
     });
   }
   // The same over a chart, call by call.

@@ -1,5 +1,5 @@
 // A chart with its labels and calls as a link, and a widget as text. What comes from outside is only ever text: the engine examines it.
-const MOST_CALLS = 5000;
+const MOST_CALLS = 5000, MOST_LETTERS = 200000; // of a chart's text, packed: far more than any chart has
 
 function packed(text) {
   const bytes = new TextEncoder().encode(text);
@@ -21,6 +21,7 @@ export function linkOf({ text, labels, calls }, here) {
 export function fromLink(hash) {
   const fields = new URLSearchParams(hash.replace(/^#/, ''));
   if (!fields.has('c')) return null;
+  if (Math.max(fields.get('c').length, fields.get('l')?.length ?? 0) > MOST_LETTERS) throw new Error('it carries more than any chart has');
   const calls = (fields.get('e') ?? '').split('~').filter((c) => c !== '').slice(0, MOST_CALLS).map((word) => {
     const m = /^(?:(p)(-?\d{1,10})\.(-?\d{1,10})|(r)|(d))$/.exec(word);
     if (!m) throw new Error('a call in this link cannot be read');

@@ -38,7 +38,13 @@ const cap = (s) => s.charAt(0).toUpperCase() + s.slice(1);
 const withArgument = (argument) => (argument ? ` with ${argument}` : '');
 
 function start() { if (!ready()) return; const r = session.start(room()); log('Start', r, words); show(r, r.answer.done); }
-function run(title = 'Run') { if (!ready()) return; const r = session.run(room()); log(title, r, words); show(r); }
+function run(title = 'Run') {
+  if (!ready()) return;
+  const r = session.run(room());
+  // where the event was posted just before, it is what goes on waiting
+  log(r.answer.done || title === 'Run' ? title : `${title}: run`, title === 'Run' ? r : { ...r, refusal: 'it goes on waiting' }, words);
+  show(r);
+}
 function discard() { if (!ready()) return; const answer = session.discard(); log('Discard', { answer }, words, 'note'); show(); }
 function post(event, argument, quiet = false) {
   const answer = session.post(event, argument);

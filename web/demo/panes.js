@@ -7,7 +7,7 @@ export function make(name, cls = '', text = null) {
   return e;
 }
 export const counted = ([n, what]) => `${n.toLocaleString('en')} ${what}${n === 1 ? '' : 's'}`;
-const MOST_LOGGED = 200, MOST_ENTRIES = 300;
+const MOST_LINES = 33000, MOST_LOGGED = 200, MOST_ENTRIES = 300;
 
 // ---- the trace
 
@@ -19,12 +19,12 @@ function entryLine(entry, words) {
   return line;
 }
 // A call in the trace: what was called, its answer, its entries in words and in numbers.
-export function log(title, { answer, trace = null }, words, kind = '') {
+export function log(title, { answer, trace = null, refusal = 'nothing changed' }, words, kind = '') {
   const view = $('trace'), item = make('li', answer.done ? kind : 'bad'), head = make('div', 'head'), list = make('ul');
   item.dataset.answer = answer.number; item.dataset.place = answer.place;
   if (!answer.done) head.append(make('span', 'no', answer.number));
   head.append(make('span', '', answer.done ? title : `${title} refused`));
-  const note = !answer.done ? 'nothing changed' : trace ? `${trace.length} ${trace.length === 1 ? 'entry' : 'entries'}` : '';
+  const note = !answer.done ? refusal : trace ? `${trace.length} ${trace.length === 1 ? 'entry' : 'entries'}` : '';
   head.append(make('small', '', note));
   item.append(head);
   if (!answer.done) item.append(make('div', 'why', answer.words));
@@ -33,7 +33,7 @@ export function log(title, { answer, trace = null }, words, kind = '') {
   if (list.firstChild) item.append(list);
   view.append(item);
   while (view.children.length > MOST_LOGGED) view.firstChild.remove();
-  view.scrollTop = view.scrollHeight;
+  $('log').scrollTop = $('log').scrollHeight;
 }
 
 // ---- the state
@@ -96,7 +96,7 @@ export function showAgreement({ verdict, compared }) {
 // ---- the chart's text: line numbers, the faulty line marked
 
 export function showLines(bad = 0) {
-  const text = $('text').value, lines = text.split('\n').length, gutter = $('gutter');
+  const text = $('text').value, lines = Math.min(text.split('\n').length, MOST_LINES), gutter = $('gutter');
   const span = (from, to) => Array.from({ length: Math.max(0, to - from) }, (_, i) => from + i).join('\n');
   $('size').textContent = `${new TextEncoder().encode(text).length.toLocaleString('en')} bytes`;
   if (bad > 0 && bad <= lines) gutter.replaceChildren(span(1, bad) + (bad > 1 ? '\n' : ''), make('i', 'bad', bad), span(bad + 1, lines + 1));

@@ -2,6 +2,8 @@
 import assert from 'node:assert/strict';
 import fs from 'node:fs';
 import test from 'node:test';
+import v8 from 'node:v8';
+import vm from 'node:vm';
 import { ANSWERS, Engine, RULES, Widget } from '../quasarhorn.js';
 import { K, deep } from './charts.mjs';
 import { WASM } from './vectors.mjs';
@@ -133,6 +135,18 @@ test('a thousand charts, plans and widgets keep the memory small', async () => {
     if (i === 100) after = exports.memory.buffer.byteLength;
   }
   assert.equal(exports.memory.buffer.byteLength, after); assert.ok(after < 5e6, `${after} bytes`);
+});
+test('what a page forgets is given back', async () => {
+  const { engine: e, exports } = await laidOpen();
+  v8.setFlagsFromString('--expose-gc');
+  const collect = vm.runInNewContext('gc');
+  for (let round = 0; round < 40; round++) {
+    for (let i = 0; i < 50; i++) e.read(deep).chart.widget({ over: 'chart' }).start();
+    collect();
+    await new Promise((done) => { setTimeout(done, 2); });
+  }
+  const kept = exports.memory.buffer.byteLength; // 2,000 charts of 16 KB and widgets of 1 KB are 34 MB
+  assert.ok(kept < 10e6, `${kept} bytes`);
 });
 test('any order of calls: chart and plan agree on each, number by number, and nothing throws', () => {
   let seed = 12345;

@@ -168,9 +168,9 @@ def links():
     page.open('#' + link.split('#')[1])
     check('link: same state', (page.active(), page.css('[data-variable="0"]').text), (lit, value))
     check('link: own chart', page.at('sample').get_attribute('value'), 'own')
-    for bad in ('#c=!!!', '#c=_w', '#c=UyAw&e=zz', '#c=UyAw&e=p1.99999999999999', '#nothing'):
+    for bad in ('#c=!!!', '#c=_w', '#c=UyAw&e=zz', '#c=UyAw&e=p1.99999999999999', '#c=' + 'Cg' * 300000, '#nothing'):
         page.open(bad)
-        check(f'bad link {bad} is survived', page.script('return document.body.dataset.ready'), 'yes')
+        check(f'bad link {bad[:40]} is survived', page.script('return document.body.dataset.ready'), 'yes')
     check('link without a chart: the first sample', page.active(), [0, 1])
 
 
@@ -198,8 +198,18 @@ def keys():
         page.browser.switch_to.active_element.send_keys(Keys.TAB)
         here = page.browser.switch_to.active_element
         reached.add(here.get_attribute('id') or here.get_attribute('data-event') or here.tag_name)
-    want = {'text', 'read', 'readonly', 'argument', 'number', 'post', 'run', 'discard', 'start', 'atonce', 'trace', 'clear', 'sample', 'share', '1', '2', 'svg'}
+    want = {'text', 'read', 'readonly', 'argument', 'number', 'post', 'run', 'discard', 'start', 'atonce', 'log', 'clear', 'sample', 'share', '1', '2', 'svg'}
     check('Tab reaches everything', want - reached, set())
+
+
+FAINT = """const light = (c) => { const v = c.map((x) => { x /= 255; return x <= .03928 ? x / 12.92 : ((x + .055) / 1.055) ** 2.4 });
+  return .2126 * v[0] + .7152 * v[1] + .0722 * v[2] };
+const rgb = (s) => s.match(/[\\d.]+/g).map(Number), behind = (e) => { for (; e; e = e.parentElement) {
+  const c = rgb(getComputedStyle(e).backgroundColor); if (c.length < 4 || c[3] > .99) return c } return [255, 255, 255] };
+return [...document.querySelectorAll('header *, main *')].filter((e) => !(e instanceof SVGElement) && e.checkVisibility()
+  && [...e.childNodes].some((n) => n.nodeType === 3 && n.data.trim())).map((e) => {
+  const a = light(rgb(getComputedStyle(e).color)), b = light(behind(e));
+  return [(Math.max(a, b) + .05) / (Math.min(a, b) + .05), e.tagName + '.' + e.className, e.textContent.slice(0, 20)] }).filter(([r]) => r < 4.5)"""
 
 
 def names():
@@ -210,7 +220,8 @@ def names():
     nameless = [e.get_attribute('outerHTML')[:90] for e in page.browser.find_elements(By.CSS_SELECTOR, 'button, input, select, textarea, [role=img]')
                 if e.is_displayed() and not e.accessible_name.strip()]
     check('each control has a name', nameless, [])
-    trace = page.at('trace')
+    check('no text is too faint to read', page.script(FAINT), [])
+    trace = page.at('log')
     check('the trace is a live log', (trace.aria_role, trace.get_attribute('aria-live'), trace.accessible_name != ''), ('log', 'polite', True))
     page.sample(0)
     event(1)
