@@ -1,10 +1,10 @@
--- `replay::put_text` is safe and ends. The measure is how many bytes of the text are left. Assumes nothing.
+-- `plan_session::put_text` is safe and ends. The measure is how many bytes of the text are left. Assumes nothing.
 use mathlib.Core.Path.{_≡_}
 use Prim.Native.Nat.{_-_}
 use lib.ListN.{length}
 use borrow.Author.Needs.{needs}
-use Rattle.replay.proofs.put_text.Statement.{statement}
-use Rattle.replay.proofs.put_text.Tie as tie
+use Rattle.plan_session.proofs.put_text.Statement.{statement}
+use Rattle.plan_session.proofs.put_text.Tie as tie
 
 abbrev Inv-loop : tie.InvT-loop
 Inv-loop text out₀ at p₀ i₀ out p i = length out ≡ length out₀

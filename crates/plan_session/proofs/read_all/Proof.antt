@@ -1,7 +1,7 @@
--- `replay::read_all` is safe and ends. The measure is the count of parts that are left. Assumes nothing.
+-- `plan_session::read_all` is safe and ends. The measure is the count of parts that are left. Assumes nothing.
 use borrow.Author.Needs.{needs}
-use Rattle.replay.proofs.read_all.Statement.{statement}
-use Rattle.replay.proofs.read_all.Tie as tie
+use Rattle.plan_session.proofs.read_all.Statement.{statement}
+use Rattle.plan_session.proofs.read_all.Tie as tie
 
 abbrev Inv-loop : tie.InvT-loop
 Inv-loop plan here₀ parts₀ here parts = Unit {0}

@@ -1,8 +1,8 @@
--- `replay::taken_in` is safe and ends. The measure is how many entries are left. Assumes nothing.
+-- `plan_session::taken_in` is safe and ends. The measure is how many entries are left. Assumes nothing.
 use Prim.Native.Nat.{_-_}
 use borrow.Author.Needs.{needs}
-use Rattle.replay.proofs.taken_in.Statement.{statement}
-use Rattle.replay.proofs.taken_in.Tie as tie
+use Rattle.plan_session.proofs.taken_in.Statement.{statement}
+use Rattle.plan_session.proofs.taken_in.Tie as tie
 
 abbrev Inv-loop : tie.InvT-loop
 Inv-loop trace entries count₀ i₀ at₀ count i at = Unit {0}

@@ -1,9 +1,9 @@
--- `replay::feed_all` is safe and ends. The measure is how many bytes of the part are left. Assumes nothing.
+-- `plan_session::feed_all` is safe and ends. The measure is how many bytes of the part are left. Assumes nothing.
 use Prim.Native.Nat.{_-_}
 use lib.ListN.{length}
 use borrow.Author.Needs.{needs}
-use Rattle.replay.proofs.feed_all.Statement.{statement}
-use Rattle.replay.proofs.feed_all.Tie as tie
+use Rattle.plan_session.proofs.feed_all.Statement.{statement}
+use Rattle.plan_session.proofs.feed_all.Tie as tie
 
 abbrev Inv-loop : tie.InvT-loop
 Inv-loop plan part at₀ i₀ at i = Unit {0}

@@ -1,10 +1,10 @@
--- `replay::print` writes the bytes up to a place within the slice. Assumes nothing.
+-- `plan_session::print` writes the bytes up to a place within the slice. Assumes nothing.
 use mathlib.Core.Path.{sym}
 use native.Mathlib.Omega.{arith}
 use lib.Seq.{length-take-le}
 use borrow.Author.Needs.{needs}
-use Rattle.replay.proofs.print.Statement.{statement}
-use Rattle.replay.proofs.print.Tie as tie
+use Rattle.plan_session.proofs.print.Statement.{statement}
+use Rattle.plan_session.proofs.print.Tie as tie
 
 slice-aggregate-write-all : tie.Need-slice-aggregate-write-all
 slice-aggregate-write-all c = sym (length-take-le _ _ (omega arith))
