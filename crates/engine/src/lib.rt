@@ -1,7 +1,8 @@
 // The engine's door (01): every function that a host or a program calls, each with its promise by name (crate promises). A chart is a
 // value in lent numbers, and no function here asks anything of what it is lent. A caller that has checked a chart once finds in checked
-// the same calls without the check. Plans are made and examined in plans, and run in planned.
+// the same calls without the check. Plans are made and examined in plans, and run in planned; examined is for a plan that was examined once.
 pub mod checked;
+pub mod examined;
 pub mod planned;
 pub mod plans;
 

@@ -28,7 +28,7 @@ ghost use mathlib.Core.List.{[]};
 ghost use mathlib.Core.Bool.{true};
 ghost use Prim.Native.Nat.{_≤_};
 ghost use lib.ListN.{length, take};
-ghost use Rattle.meaning.specs.WellFormed.{plan-by};
+ghost use Rattle.meaning.specs.WellFormed.{plan-by, well-formed};
 ghost use Rattle.widget.specs.View.{all-lent, widget as said-by};
 ghost use Rattle.plan_choice.specs.Heads.{Examined};
 ghost use Rattle.plan_invariants.specs.Replay.{replay-examined as once};
@@ -175,7 +175,18 @@ pub fn replay_examined(
     )
 }
 
-// Replay over any numbers: without an event no call is made; else 5 where the plan is not well formed.
+// Replay on numbers that were examined: without an event no call is made.
+pub fn replay_planned(plan: &[i32], state: State, events: &[i32], trace: &mut [i32]) -> Replayed
+    requires { ⌜ well-formed (now plan) ≡ true ⌝ }
+    ensures { λ r. ⌜ Told (defined (now (plan .entry)) state (items-of (now (events .entry))) (length (now (trace .entry)))) (now (trace .entry)) r (now (trace .exit)) ⌝ }
+{
+    if events.len() < EVENT {
+        return stopped(0, state, trace);
+    }
+    replay_examined(plan, counts(plan), state, events, trace)
+}
+
+// Replay over any numbers: with an event, 5 where the plan is not well formed.
 pub fn replay(plan: &[i32], state: State, events: &[i32], trace: &mut [i32]) -> Replayed
     ensures { λ r. ⌜ Told (defined (now (plan .entry)) state (items-of (now (events .entry))) (length (now (trace .entry)))) (now (trace .entry)) r (now (trace .exit)) ⌝ }
 {
@@ -186,5 +197,5 @@ pub fn replay(plan: &[i32], state: State, events: &[i32], trace: &mut [i32]) -> 
     if verdict.number != 0 {
         return stopped(NOT_A_PLAN, state, trace);
     }
-    replay_examined(plan, counts(plan), state, events, trace)
+    replay_planned(plan, state, events, trace)
 }

@@ -4,8 +4,8 @@ use native.Mathlib.Omega.{arith}
 use lib.ListN.{length, length-map}
 use borrow.Author.Needs.{needs}
 use Rattle.invariants.proofs.Good.{Sized}
-use Rattle.machine.proofs.Gates.{failed, passed, was-examined}
-use Rattle.replaying.proofs.Events.{replay-5, replay-is, replay-none}
+use Rattle.machine.proofs.Gates.{failed, passed}
+use Rattle.replaying.proofs.Events.{replay-5, replay-none}
 use Rattle.replaying.proofs.Telling.{told-as}
 use Rattle.replaying.proofs.replay.Statement.{statement}
 use Rattle.replaying.proofs.replay.Tie as tie
@@ -35,20 +35,12 @@ returns-2 c =
     told-as (replay-5 (a .plan .now) (a .state) (length (a .trace .now)) (sized-of s) (a .events .now) (omega (arith, e .before .if1 .left))
     (failed (a .plan .now) (e .examine .ensures) (c .before .before .before .if2 .taken))) refl (c .before .stopped2 .ensures)
 
-replay-examined-requires : tie.Need-replay-examined-requires
-replay-examined-requires c κs =
-    let e = c .before .before .before .before in
-    was-examined (e .before .before .args .plan .now) (e .examine .ensures) (c .before .before .if2 .left) (c .before .counts .ensures)
-
-returns-3 : tie.Need-returns-3
-returns-3 c =
-    let e = c .before .before .before .before .before .before in
-    let s = e .before .before in
-    let a = s .args in
-    told-as (replay-is (a .plan .now) (a .state) (length (a .trace .now)) (sized-of s) (a .events .now) (omega (arith, e .before .if1 .left))
-    (passed (a .plan .now) (e .examine .ensures) (c .before .before .before .before .if2 .left))) refl (c .before .replay-examined .ensures)
+replay-planned-requires : tie.Need-replay-planned-requires
+replay-planned-requires c κs =
+    let e = c .before .before .before in
+    passed (e .before .before .args .plan .now) (e .examine .ensures) (c .before .if2 .left)
 
 pub replay-spec : {M : Type 1} → statement M
 replay-spec =
     tie.close (tie.spec (λ c κs. search needs) (λ c. search needs) returns (λ c κs. search needs) (λ c κs. search needs)
-    (λ c. search needs) returns-2 (λ c κs. search needs) replay-examined-requires (λ c. search needs) returns-3)
+    (λ c. search needs) returns-2 replay-planned-requires (λ c. search needs) (λ c. search needs))

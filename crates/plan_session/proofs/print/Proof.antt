@@ -1,0 +1,13 @@
+-- `plan_session::print` writes the bytes up to a place within the slice. Assumes nothing.
+use mathlib.Core.Path.{sym}
+use native.Mathlib.Omega.{arith}
+use lib.Seq.{length-take-le}
+use borrow.Author.Needs.{needs}
+use Rattle.plan_session.proofs.print.Statement.{statement}
+use Rattle.plan_session.proofs.print.Tie as tie
+
+slice-aggregate-write-all : tie.Need-slice-aggregate-write-all
+slice-aggregate-write-all c = sym (length-take-le _ _ (omega arith))
+
+pub print-spec : {M : Type 1} → statement M
+print-spec = tie.close (tie.spec slice-aggregate-write-all (λ c κs. search needs) (λ c. search needs) (λ c. search needs))
