@@ -6,6 +6,8 @@
 // standard error.
 use console::LF;
 use console::Scan;
+use console::put;
+use console::put_digits;
 use engine::State;
 use engine::VALUE;
 use files::LENT;
@@ -15,8 +17,6 @@ use libc::STDIN_FILENO;
 use libc::STDOUT_FILENO;
 use meaning::Line;
 use meaning::answers::WRONG_LINE;
-use pen::put;
-use pen::put_digits;
 ghost use Prim.Native.Nat.{_≤_};
 ghost use lib.ListN.{length};
 ghost use Rattle.promises.specs.Promises.{Planned};
