@@ -94,7 +94,7 @@ enabled-requires c κs =
 transitions-again-2 : tie.Need-transitions-again-2 Inv-loop μ-loop Inv-transitions μ-transitions Inv-sources μ-sources
 transitions-again-2 c =
     let l : c .before .before .before .before .before .before .transitions .t < length (chart-of (c .before .before .before .before .before .before .before .before .before .before .before .before .before .args .chart .now) .transitions) =
-      omega (arith, c .before .before .before .before .before .transitions-test .taken, c .before .before .before .before .before .before .before .before .before .before .before .before .transition-count .ensures) in
+    omega (arith, c .before .before .before .before .before .transitions-test .taken, c .before .before .before .before .before .before .before .before .before .before .before .before .transition-count .ensures) in
     choosing-off (c .before .before .before .before .before .before .transitions .inv) (c .before .before .before .before .before .transitions-test .taken)
     (row-enabled _ (c .before .before .before .before .before .before .before .before .before .before .before .before .before .pre .0) _ _ (c .before .before .trans-row .ensures) l _ _ _ (c .before .enabled .ensures) ∙ not-true _ (c .if3 .taken))
 
@@ -112,20 +112,20 @@ array-read-if4 : tie.Need-array-read-if4 Inv-loop μ-loop Inv-transitions μ-tra
 array-read-if4 c =
     let h = start-from-span-of (c .before .before) .pre .0 in
     let l : at-transitions-from-span-of (c .before .before) .transitions .t < length (chart-of (start-from-span-of (c .before .before) .args .chart .now) .transitions) =
-      omega (arith, row-meant-from-span-of (c .before .before) .before .transitions-test .taken, transition-count-from-span-of (c .before .before) .transition-count .ensures) in
+    omega (arith, row-meant-from-span-of (c .before .before) .before .transitions-test .taken, transition-count-from-span-of (c .before .before) .transition-count .ensures) in
     let g = turn-of _ h _ (trans-row-from-span-of (c .before .before) .trans-row .ensures) l _ _
-      (row-meant-from-span-of (c .before .before) .row-meant .ensures) (not-false _ (trans-row-from-span-of (c .before .before) .before .if2 .left))
-      (c .before .before .before .before .enabled .ensures) (not-false _ (c .before .before .before .if3 .left)) (c .before .before .span-of .ensures) in
+    (row-meant-from-span-of (c .before .before) .row-meant .ensures) (not-false _ (trans-row-from-span-of (c .before .before) .before .if2 .left))
+    (c .before .before .before .before .enabled .ensures) (not-false _ (c .before .before .before .if3 .left)) (c .before .before .span-of .ensures) in
     omega (arith, g .ends, c .loop-test .taken)
 
 transitions-again-3 : tie.Need-transitions-again-3 Inv-loop μ-loop Inv-transitions μ-transitions Inv-sources μ-sources
 transitions-again-3 c =
     let h = start-from-span-of (c .before .before .before) .pre .0 in
     let l : at-transitions-from-span-of (c .before .before .before) .transitions .t < length (chart-of (start-from-span-of (c .before .before .before) .args .chart .now) .transitions) =
-      omega (arith, row-meant-from-span-of (c .before .before .before) .before .transitions-test .taken, transition-count-from-span-of (c .before .before .before) .transition-count .ensures) in
+    omega (arith, row-meant-from-span-of (c .before .before .before) .before .transitions-test .taken, transition-count-from-span-of (c .before .before .before) .transition-count .ensures) in
     let g = turn-of _ h _ (trans-row-from-span-of (c .before .before .before) .trans-row .ensures) l _ _
-      (row-meant-from-span-of (c .before .before .before) .row-meant .ensures) (not-false _ (trans-row-from-span-of (c .before .before .before) .before .if2 .left))
-      (c .before .before .before .before .before .enabled .ensures) (not-false _ (c .before .before .before .before .if3 .left)) (c .before .before .before .span-of .ensures) in
+    (row-meant-from-span-of (c .before .before .before) .row-meant .ensures) (not-false _ (trans-row-from-span-of (c .before .before .before) .before .if2 .left))
+    (c .before .before .before .before .before .enabled .ensures) (not-false _ (c .before .before .before .before .if3 .left)) (c .before .before .before .span-of .ensures) in
     let w = c .before .before .loop .inv in
     rw (w .0) (choosing-clash (at-transitions-from-span-of (c .before .before .before) .transitions .inv) (row-meant-from-span-of (c .before .before .before) .before .transitions-test .taken) g _ (w .1) (c .before .loop-test .taken) (c .if4 .taken))
 
@@ -138,10 +138,10 @@ mark-gone-requires : tie.Need-mark-gone-requires Inv-loop μ-loop Inv-transition
 mark-gone-requires c κs =
     let h = start-from-span-of (c .before .before .before) .pre .0 in
     let l : at-transitions-from-span-of (c .before .before .before) .transitions .t < length (chart-of (start-from-span-of (c .before .before .before) .args .chart .now) .transitions) =
-      omega (arith, row-meant-from-span-of (c .before .before .before) .before .transitions-test .taken, transition-count-from-span-of (c .before .before .before) .transition-count .ensures) in
+    omega (arith, row-meant-from-span-of (c .before .before .before) .before .transitions-test .taken, transition-count-from-span-of (c .before .before .before) .transition-count .ensures) in
     let g = turn-of _ h _ (trans-row-from-span-of (c .before .before .before) .trans-row .ensures) l _ _
-      (row-meant-from-span-of (c .before .before .before) .row-meant .ensures) (not-false _ (trans-row-from-span-of (c .before .before .before) .before .if2 .left))
-      (c .before .before .before .before .before .enabled .ensures) (not-false _ (c .before .before .before .before .if3 .left)) (c .before .before .before .span-of .ensures) in
+    (row-meant-from-span-of (c .before .before .before) .row-meant .ensures) (not-false _ (trans-row-from-span-of (c .before .before .before) .before .if2 .left))
+    (c .before .before .before .before .before .enabled .ensures) (not-false _ (c .before .before .before .before .if3 .left)) (c .before .before .before .span-of .ensures) in
     (g .spans .some, g .ends, at-transitions-from-span-of (c .before .before .before) .transitions .inv .held .long)
 
 mul-picks : tie.Need-mul-picks Inv-loop μ-loop Inv-transitions μ-transitions Inv-sources μ-sources
@@ -151,10 +151,10 @@ element-write-picks : tie.Need-element-write-picks Inv-loop μ-loop Inv-transiti
 element-write-picks c =
     let h = start-from-span-of (c .before .before .before .before) .pre .0 in
     let l : at-transitions-from-span-of (c .before .before .before .before) .transitions .t < length (chart-of (start-from-span-of (c .before .before .before .before) .args .chart .now) .transitions) =
-      omega (arith, row-meant-from-span-of (c .before .before .before .before) .before .transitions-test .taken, transition-count-from-span-of (c .before .before .before .before) .transition-count .ensures) in
+    omega (arith, row-meant-from-span-of (c .before .before .before .before) .before .transitions-test .taken, transition-count-from-span-of (c .before .before .before .before) .transition-count .ensures) in
     let g = turn-of _ h _ (trans-row-from-span-of (c .before .before .before .before) .trans-row .ensures) l _ _
-      (row-meant-from-span-of (c .before .before .before .before) .row-meant .ensures) (not-false _ (trans-row-from-span-of (c .before .before .before .before) .before .if2 .left))
-      (c .before .before .before .before .before .before .enabled .ensures) (not-false _ (c .before .before .before .before .before .if3 .left)) (c .before .before .before .before .span-of .ensures) in
+    (row-meant-from-span-of (c .before .before .before .before) .row-meant .ensures) (not-false _ (trans-row-from-span-of (c .before .before .before .before) .before .if2 .left))
+    (c .before .before .before .before .before .before .enabled .ensures) (not-false _ (c .before .before .before .before .before .if3 .left)) (c .before .before .before .before .span-of .ensures) in
     choosing-room (at-transitions-from-span-of (c .before .before .before .before) .transitions .inv) (row-meant-from-span-of (c .before .before .before .before) .before .transitions-test .taken) g
     (λ y p q. c .before .before .before .loop .inv .2 y (omega (arith, q, c .before .before .loop-test .left)) p) (transitions-most (start-from-span-of (c .before .before .before .before) .args .chart .now))
 
@@ -165,10 +165,10 @@ transitions-again-4 : tie.Need-transitions-again-4 Inv-loop μ-loop Inv-transiti
 transitions-again-4 c =
     let h = start-from-span-of (c .before .before .before .before) .pre .0 in
     let l : at-transitions-from-span-of (c .before .before .before .before) .transitions .t < length (chart-of (start-from-span-of (c .before .before .before .before) .args .chart .now) .transitions) =
-      omega (arith, row-meant-from-span-of (c .before .before .before .before) .before .transitions-test .taken, transition-count-from-span-of (c .before .before .before .before) .transition-count .ensures) in
+    omega (arith, row-meant-from-span-of (c .before .before .before .before) .before .transitions-test .taken, transition-count-from-span-of (c .before .before .before .before) .transition-count .ensures) in
     let g = turn-of _ h _ (trans-row-from-span-of (c .before .before .before .before) .trans-row .ensures) l _ _
-      (row-meant-from-span-of (c .before .before .before .before) .row-meant .ensures) (not-false _ (trans-row-from-span-of (c .before .before .before .before) .before .if2 .left))
-      (c .before .before .before .before .before .before .enabled .ensures) (not-false _ (c .before .before .before .before .before .if3 .left)) (c .before .before .before .before .span-of .ensures) in
+    (row-meant-from-span-of (c .before .before .before .before) .row-meant .ensures) (not-false _ (trans-row-from-span-of (c .before .before .before .before) .before .if2 .left))
+    (c .before .before .before .before .before .before .enabled .ensures) (not-false _ (c .before .before .before .before .before .if3 .left)) (c .before .before .before .before .span-of .ensures) in
     let w = c .before .before .before .loop .inv in
     rw (w .0) (choosing-take (at-transitions-from-span-of (c .before .before .before .before) .transitions .inv) (row-meant-from-span-of (c .before .before .before .before) .before .transitions-test .taken) g
     (λ y p q. w .2 y (omega (arith, q, c .before .before .loop-test .left)) p) (transitions-most (start-from-span-of (c .before .before .before .before) .args .chart .now)) (c .mark-gone .ensures))
