@@ -83,7 +83,8 @@ row-named v r i h row e = subst
     (sound v r .acts i h))
 
 -- the row of an action that is the owner's
-pub owned : (o : Owner) {row whole : ActRow} {b : Bool} → row ≡ whole → b ≡ same-owner o (whole .owner) → b ≡ true → same-owner o (row .owner) ≡ true
+pub owned : (o : Owner) {row whole : ActRow} {b : Bool} → row ≡ whole → b ≡ same-owner o (whole .owner) → b ≡ true → same-owner o
+    (row .owner) ≡ true
 owned o e f t = ap (λ x. same-owner o (x .owner)) e ∙ sym f ∙ t
 
 -- ---- the loop over the rows

@@ -67,14 +67,16 @@ number-by : (k n : ℤ) → owner-number (owner-by k n) ≡ ref n
 unfolding owner-by
 number-by k n = go (is-letter 101 k) (is-letter 120 k) (is-letter 100 k)
   where
-    go : (e x d : Bool) → owner-number (cond e (entry-of (ref n)) (cond x (exit-of (ref n)) (cond d (default-of (ref n)) (transition-of (ref n))))) ≡ ref n
+    go : (e x d : Bool) → owner-number (cond e (entry-of (ref n))
+        (cond x (exit-of (ref n)) (cond d (default-of (ref n)) (transition-of (ref n))))) ≡ ref n
     go true x d = refl
     go false true d = refl
     go false false true = refl
     go false false false = refl
 
 module _ (v : List ℤ) (i : ℕ) (l : i < length (chart-of v .actions)) where
-  pub owner-said : owner-by (getD v (ACTIONS-AT + i * ACT-ROW) (pos 0)) (getD v (ACTIONS-AT + i * ACT-ROW + 1) (pos 0)) ≡ getD (chart-of v .actions) i no-action .owner
+  pub owner-said : owner-by (getD v (ACTIONS-AT + i * ACT-ROW) (pos 0)) (getD v (ACTIONS-AT + i * ACT-ROW + 1) (pos 0)) ≡ getD
+      (chart-of v .actions) i no-action .owner
   unfolding action-by
   owner-said = sym (ap (λ r. r .owner) (action-at v i l)
       ∙ rw (num-first ACT-ROW (ACTIONS-AT + i * ACT-ROW) v (omega arith), num-at ACT-ROW (ACTIONS-AT + i * ACT-ROW) v 1 (omega arith)))

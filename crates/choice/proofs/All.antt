@@ -62,7 +62,14 @@ module _ (src : ℕ → ℕ) where
   -- a transition is of one source at most
   past-source : (t : ℕ) (ts : List ℕ) (n : ℕ) → n ≤ src t → length (all-of (t ∷ ts) n) ≡ length (all-of ts n)
   past-source t ts zero l = unfold all-of concat-map from in refl
-  past-source t ts (suc n) l = omega (arith, length-next (t ∷ ts) n, length-next ts n, past-source t ts n (omega arith), length-other t ts n (λ e. omega arith))
+  past-source t ts (suc n) l = omega (
+    arith,
+    length-next (t ∷ ts) n,
+    length-next ts n,
+    past-source t ts n
+        (omega arith),
+    length-other t ts n (λ e. omega arith),
+  )
 
   one-source : (t : ℕ) (ts : List ℕ) (n : ℕ) → length (all-of (t ∷ ts) n) ≤ suc (length (all-of ts n))
   one-source t ts zero = unfold all-of concat-map from in omega arith
@@ -89,7 +96,8 @@ unfolding keep from
 keep-none p q a zero h = refl
 keep-none p q a (suc n) h = go (q a) refl (keep-none p q (suc a) n (λ x l m. h x (omega arith) (omega arith)))
   where
-    go : (b : Bool) → q a ≡ b → keep p (keep q (from (suc a) n)) ≡ [] → keep p (cond b (a ∷ keep q (from (suc a) n)) (keep q (from (suc a) n))) ≡ []
+    go : (b : Bool) → q a ≡ b → keep p (keep q (from (suc a) n)) ≡ [] → keep p
+        (cond b (a ∷ keep q (from (suc a) n)) (keep q (from (suc a) n))) ≡ []
     go true e ih = rw (h a (omega arith) (omega arith) e) ih
     go false e ih = ih
 
@@ -105,7 +113,8 @@ module _ (c : Chart) where
   thin-few g [] = unfold thin in omega arith
   thin-few g (x ∷ xs) = go (meets (span c x) g) refl (thin-few g xs) (thin-few (span c x ++ g) xs)
     where
-      go : (b : Bool) → meets (span c x) g ≡ b → length (thin c g xs) ≤ length xs → length (thin c (span c x ++ g) xs) ≤ length xs → length (thin c g (x ∷ xs)) ≤ suc (length xs)
+      go : (b : Bool) → meets (span c x) g ≡ b → length (thin c g xs) ≤ length xs → length (thin c (span c x ++ g) xs) ≤ length xs
+          → length (thin c g (x ∷ xs)) ≤ suc (length xs)
       go true e p q = rw (thin-clash c g x xs e) (omega arith)
       go false e p q = rw (thin-take c g x xs e) (omega arith)
 
@@ -119,7 +128,8 @@ module _ (c : Chart) where
   thin-append g (x ∷ xs) ys = go (meets (span c x) g) refl (thin-append g xs ys) (thin-append (span c x ++ g) xs ys)
     where
       go : (b : Bool) → meets (span c x) g ≡ b → thin c g (xs ++ ys) ≡ thin c g xs ++ thin c (gone-after c g (thin c g xs)) ys
-          → thin c (span c x ++ g) (xs ++ ys) ≡ thin c (span c x ++ g) xs ++ thin c (gone-after c (span c x ++ g) (thin c (span c x ++ g) xs)) ys
+          → thin c (span c x ++ g) (xs ++ ys) ≡ thin c (span c x ++ g) xs ++ thin c
+          (gone-after c (span c x ++ g) (thin c (span c x ++ g) xs)) ys
           → thin c g (x ∷ (xs ++ ys)) ≡ thin c g (x ∷ xs) ++ thin c (gone-after c g (thin c g (x ∷ xs))) ys
       go true e p q = rw (thin-clash c g x (xs ++ ys) e, thin-clash c g x xs e) p
       go false e p q = rw (thin-take c g x (xs ++ ys) e, thin-take c g x xs e) (unfold gone-after in ap (λ r. x ∷ r) q)
@@ -141,17 +151,28 @@ module _ (c : Chart) where
     none-left ps zero l = append-nil ps
     none-left ps (suc n) l = absurd (omega arith)
 
-    pub next-source : (n s : ℕ) (ps : List ℕ) → n ≡ suc s → with-sources n ps ≡ with-sources s (with-rest c e u s 0 (length (c .transitions)) ps)
+    pub next-source : (n s : ℕ) (ps : List ℕ) → n ≡ suc s → with-sources n ps ≡ with-sources s
+        (with-rest c e u s 0 (length (c .transitions)) ps)
     unfolding with-sources sources with-rest candidates-from of-source all-transitions
     next-source n s ps q =
-        rw (q, all-next (λ t. trans-row c t .source) (keep (enabled c e u) (from 0 (length (c .transitions)))) s, thin-append, gone-append, append-assoc)
+        rw (
+          q,
+          all-next (λ t. trans-row c t .source) (keep (enabled c e u)
+              (from 0 (length (c .transitions)))) s,
+          thin-append,
+          gone-append,
+          append-assoc,
+        )
 
     pub chosen-few : length (chosen c e u) ≤ length (c .transitions)
     chosen-few =
         let ts = keep (enabled c e u) (all-transitions c) in
-        let a : length (chosen c e u) ≤ length (sources (length (c .states))) = rw (← chosen-all) (unfold with-sources gone-after in thin-few [] (sources (length (c .states)))) in
-        let b : length (sources (length (c .states))) ≤ length ts = unfold sources in all-few (λ t. trans-row c t .source) ts (length (c .states)) in
-        let d : length ts ≤ length (from 0 (length (c .transitions))) = unfold all-transitions in keep-few (enabled c e u) (from 0 (length (c .transitions))) in
+        let a : length (chosen c e u) ≤ length (sources (length (c .states))) = rw (← chosen-all)
+        (unfold with-sources gone-after in thin-few [] (sources (length (c .states)))) in
+        let b : length (sources (length (c .states))) ≤ length ts = unfold sources in all-few (λ t. trans-row c t .source) ts
+        (length (c .states)) in
+        let d : length ts ≤ length (from 0 (length (c .transitions))) = unfold all-transitions in keep-few (enabled c e u)
+        (from 0 (length (c .transitions))) in
         omega (arith, length-from 0 (length (c .transitions)))
 
     longer : (n : ℕ) (qs : List ℕ) → length qs ≤ length (with-sources n qs)
@@ -159,8 +180,10 @@ module _ (c : Chart) where
     longer n qs = rw length-append (omega arith)
 
     -- there is room for one more where one more is chosen
-    pub take-room : (s t n : ℕ) (ps : List ℕ) → with-sources s (with-rest c e u s t (n - t) ps) ≡ chosen c e u → t < n → trans-row c t .source ≡ s
-        → enabled c e u t ≡ true → meets (span c t) (gone-after c [] ps) ≡ false → length (c .transitions) ≤ TRANSITIONS → length ps < TRANSITIONS
+    pub take-room : (s t n : ℕ) (ps : List ℕ) → with-sources s (with-rest c e u s t (n - t) ps) ≡ chosen c e u → t < n
+        → trans-row c t .source ≡ s
+        → enabled c e u t ≡ true → meets (span c t) (gone-after c [] ps) ≡ false → length (c .transitions) ≤ TRANSITIONS
+        → length ps < TRANSITIONS
     take-room s t n ps i l o f m k =
         omega (arith, chosen-few, longer s (with-rest c e u s t (n - t) ps), ap length i, rest-longer c e u s t n l ps o f m)
 
@@ -169,7 +192,8 @@ module _ (c : Chart) where
         → with-sources s (with-rest c e u s 0 (m - 0) ps) ≡ chosen c e u
     source-begins n s m ps q z i = rw (z, sub-zero) (sym (next-source n s ps q) ∙ i)
 
-    pub source-ends : (s t n : ℕ) (ps : List ℕ) → n ≤ t → with-sources s (with-rest c e u s t (n - t) ps) ≡ chosen c e u → with-sources s ps ≡ chosen c e u
+    pub source-ends : (s t n : ℕ) (ps : List ℕ) → n ≤ t → with-sources s (with-rest c e u s t (n - t) ps) ≡ chosen c e u
+        → with-sources s ps ≡ chosen c e u
     source-ends s t n ps l i = ap (with-sources s) (sym (rest-end c e u s t n ps l)) ∙ i
 
     pub source-off : (n s : ℕ) (marks : List Bool) (ps : List ℕ) → Sources c e (u .active) marks → getD marks s false ≡ false → n ≡ suc s
@@ -183,4 +207,5 @@ module _ (c : Chart) where
             ∙ sym (h t l (eqb-true _ _ (and-left (eqb (trans-row c t .trigger) e) _ f))) ∙ ap (λ x. getD marks x false) z ∙ g))
 
         idle : with-rest c e u s 0 (length (c .transitions)) ps ≡ ps
-        idle = rw (keep-none (λ x. eqb (trans-row c x .source) s) (enabled c e u) 0 (length (c .transitions)) (λ x l m. other x (omega arith))) (append-nil ps)
+        idle = rw (keep-none (λ x. eqb (trans-row c x .source) s) (enabled c e u) 0 (length (c .transitions))
+            (λ x l m. other x (omega arith))) (append-nil ps)

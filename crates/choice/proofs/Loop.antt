@@ -34,7 +34,8 @@ reads-by : (c : Chart) (g : Guard) → length (c .vars) ≤ VARIABLES → Guard-
 reads-by c always l f = tt
 reads-by c (compares v s x) l f = omega arith
 
-module _ (v : List ℤ) (h : Ruled v) (t : ℕ) (row : TransRow) (e : row ≡ trans-row (chart-of v) t) (l : t < length (chart-of v .transitions)) where
+module _ (v : List ℤ) (h : Ruled v) (t : ℕ) (row : TransRow) (e : row ≡ trans-row (chart-of v) t)
+    (l : t < length (chart-of v .transitions)) where
   facts : Transition-facts (chart-of v) row
   facts = rw e (sound v h .transitions t l)
 
@@ -57,7 +58,8 @@ module _ (v : List ℤ) (h : Ruled v) (t : ℕ) (row : TransRow) (e : row ≡ tr
   pub row-source : (s : ℕ) → row .source ≡ s → trans-row (chart-of v) t .source ≡ s
   row-source s q = rw (← e) q
 
-pub source-small : (v : List ℤ) (h : Ruled v) (t n : ℕ) → n ≡ trans-row (chart-of v) t .source → t < length (chart-of v .transitions) → n < STATES
+pub source-small : (v : List ℤ) (h : Ruled v) (t n : ℕ) → n ≡ trans-row (chart-of v) t .source → t < length (chart-of v .transitions)
+    → n < STATES
 source-small v h t n e l = omega (arith, e, row-fits v h t (trans-row (chart-of v) t) refl l .0)
 
 -- ---- all numbers up to one more
@@ -93,8 +95,10 @@ held-more c picks count gone new t r h l f g = record {
 -- a span clashes where one of its states is gone
 module _ {c : Chart} {picks : List ℕ} {count : ℕ} {gone : List Bool} (h : Held c picks count gone) (t : ℕ) {r : Span}
     (f : Spans (span c t) r) (l : r .end ≤ STATES) where
-  pub held-clash : (x : ℕ) → r .first ≤ x → x < r .end → getD gone x false ≡ true → meets (span c t) (gone-after c [] (take count picks)) ≡ true
+  pub held-clash : (x : ℕ) → r .first ≤ x → x < r .end → getD gone x false ≡ true → meets (span c t)
+      (gone-after c [] (take count picks)) ≡ true
   held-clash x p q e = clash-hit (span c t) _ r f x p q (sym (h .marks x (omega arith)) ∙ e)
 
-  pub held-apart : ((x : ℕ) → r .first ≤ x → x < r .end → getD gone x false ≡ false) → meets (span c t) (gone-after c [] (take count picks)) ≡ false
+  pub held-apart : ((x : ℕ) → r .first ≤ x → x < r .end → getD gone x false ≡ false) → meets (span c t)
+      (gone-after c [] (take count picks)) ≡ false
   held-apart e = clash-none (span c t) _ r f (λ x p q. sym (h .marks x (omega arith)) ∙ e x p q)

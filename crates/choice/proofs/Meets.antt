@@ -24,23 +24,27 @@ or-none a b p q = rw (p, q)
 has-in : (x b m : ℕ) → b ≤ x → x < b + m → has x (from b m) ≡ true
 unfolding has from
 has-in x b zero l h = absurd (omega arith)
-has-in x b (suc m) l h = ⊎-elim (λ q. or-left (eqb x b) _ (eq-eqb x b (omega arith))) (λ q. or-right (eqb x b) _ (has-in x (suc b) m q (omega arith))) (le-or-lt x b)
+has-in x b (suc m) l h = ⊎-elim (λ q. or-left (eqb x b) _ (eq-eqb x b (omega arith)))
+    (λ q. or-right (eqb x b) _ (has-in x (suc b) m q (omega arith))) (le-or-lt x b)
 
 has-out : (x b m : ℕ) → (x < b) ⊎ (b + m ≤ x) → has x (from b m) ≡ false
 unfolding has from
 has-out x b zero o = refl
-has-out x b (suc m) o = or-none (eqb x b) _ (ne-eqb x b (λ e. ⊎-elim (λ q. omega arith) (λ q. omega arith) o)) (has-out x (suc b) m (⊎-elim (λ q. inl (omega arith)) (λ q. inr (omega arith)) o))
+has-out x b (suc m) o = or-none (eqb x b) _ (ne-eqb x b (λ e. ⊎-elim (λ q. omega arith) (λ q. omega arith) o))
+    (has-out x (suc b) m (⊎-elim (λ q. inl (omega arith)) (λ q. inr (omega arith)) o))
 
 exists-in : (p : ℕ → Bool) (x a n : ℕ) → a ≤ x → x < a + n → p x ≡ true → exists p (from a n) ≡ true
 unfolding exists from
 exists-in p x a zero l h e = absurd (omega arith)
 exists-in p x a (suc n) l h e =
-    ⊎-elim (λ q. let z : x ≡ a = omega arith in or-left (p a) _ (ap p (sym z) ∙ e)) (λ q. or-right (p a) _ (exists-in p x (suc a) n q (omega arith) e)) (le-or-lt x a)
+    ⊎-elim (λ q. let z : x ≡ a = omega arith in or-left (p a) _ (ap p (sym z) ∙ e))
+    (λ q. or-right (p a) _ (exists-in p x (suc a) n q (omega arith) e)) (le-or-lt x a)
 
 exists-none : (p : ℕ → Bool) (a n : ℕ) → ((x : ℕ) → a ≤ x → x < a + n → p x ≡ false) → exists p (from a n) ≡ false
 unfolding exists from
 exists-none p a zero h = refl
-exists-none p a (suc n) h = or-none (p a) _ (h a (omega arith) (omega arith)) (exists-none p (suc a) n (λ x l g. h x (omega arith) (omega arith)))
+exists-none p a (suc n) h = or-none (p a) _ (h a (omega arith) (omega arith))
+    (exists-none p (suc a) n (λ x l g. h x (omega arith) (omega arith)))
 
 -- a list meets a range where a number of the range is in it
 module _ (xs g : List ℕ) (r : Span) (f : Spans xs r) where
@@ -98,5 +102,6 @@ module _ {first x : ℕ} {old marks : List Bool} (h : Goes (record { first = fir
     above = λ y p. getD-set-other marks x y true false (λ z. omega arith) ∙ h .above y (omega arith);
   }
 
-pub goes-end : (r : Span) {x : ℕ} {old marks : List Bool} → Goes (record { first = r .first; end = x }) old marks → x ≡ r .end → Goes r old marks
+pub goes-end : (r : Span) {x : ℕ} {old marks : List Bool} → Goes (record { first = r .first; end = x }) old marks → x ≡ r .end
+    → Goes r old marks
 goes-end r {x} {old} {marks} h e = subst (λ y. Goes (record { first = r .first; end = y }) old marks) e h

@@ -39,16 +39,23 @@ own-source r s e n m q o p = rw (p, eq-eqb (r .source) s (sym q ∙ o))
 -- ---- the marks, transition by transition
 
 pub record Marking (c : Chart) (e : ℕ) (active : List Bool) (t : ℕ) (marks : List Bool) : Type 0 where
-  pub told : (i : ℕ) → i < t → trans-row c i .trigger ≡ e → getD marks (trans-row c i .source) false ≡ getD active (trans-row c i .source) false
+  pub told : (i : ℕ) → i < t → trans-row c i .trigger ≡ e → getD marks (trans-row c i .source) false ≡ getD active
+      (trans-row c i .source) false
 
 module _ {c : Chart} {e : ℕ} {active : List Bool} {t : ℕ} {marks : List Bool} (h : Marking c e active t marks) where
   pub marking-other : (m : ℕ) → m ≡ trans-row c t .trigger → (m ≡ e → ⊥) → Marking c e active (t + 1) marks
-  marking-other m q o = record { told = λ i l z. ⊎-elim (λ p. let y : t ≡ i = omega arith in absurd (o (q ∙ ap (λ x. trans-row c x .trigger) y ∙ z))) (λ p. h .told i p z) (le-or-lt t i) }
+  marking-other m q o = record {
+    told = λ i l z. ⊎-elim (λ p. let y : t ≡ i = omega arith in absurd
+        (o (q ∙ ap (λ x. trans-row c x .trigger) y ∙ z))) (λ p. h .told i p z) (le-or-lt t i);
+  }
 
-  pub marking-more : (s : ℕ) → s ≡ trans-row c t .source → s < length marks → Marking c e active (t + 1) (set marks s (getD active s false))
+  pub marking-more : (s : ℕ) → s ≡ trans-row c t .source → s < length marks → Marking c e active (t + 1)
+      (set marks s (getD active s false))
   marking-more s q l = record {
     told = λ i k z. ⊎-elim
-        (λ p. ap (λ x. getD (set marks s (getD active s false)) x false) (sym p) ∙ getD-set-same marks s _ false l ∙ ap (λ x. getD active x false) p)
-        (λ p. getD-set-other marks s _ _ false (λ y. p (sym y)) ∙ ⊎-elim (λ g. let y : t ≡ i = omega arith in absurd (p (q ∙ ap (λ x. trans-row c x .source) y))) (λ g. h .told i g z) (le-or-lt t i))
+        (λ p. ap (λ x. getD (set marks s (getD active s false)) x false) (sym p) ∙ getD-set-same marks s _ false l ∙ ap
+        (λ x. getD active x false) p)
+        (λ p. getD-set-other marks s _ _ false (λ y. p (sym y)) ∙ ⊎-elim
+        (λ g. let y : t ≡ i = omega arith in absurd (p (q ∙ ap (λ x. trans-row c x .source) y))) (λ g. h .told i g z) (le-or-lt t i))
         (same-or s (trans-row c i .source));
   }

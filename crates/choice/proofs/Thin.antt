@@ -74,7 +74,8 @@ module _ (c : Chart) (e : ℕ) (u : State) (s t n : ℕ) (l : t < n) (ps : List 
   unfolding with-rest next
   rest-other o = go (enabled c e u t) refl
     where
-      go : (f : Bool) → enabled c e u t ≡ f → ps ++ thin c (gone-after c [] ps) (candidates-from c e u s (t + 1) (n - (t + 1))) ≡ ps ++ thin c (gone-after c [] ps) (candidates-from c e u s t (n - t))
+      go : (f : Bool) → enabled c e u t ≡ f → ps ++ thin c (gone-after c [] ps)
+          (candidates-from c e u s (t + 1) (n - (t + 1))) ≡ ps ++ thin c (gone-after c [] ps) (candidates-from c e u s t (n - t))
       go true f = rw (candidates-next false true (ne-eqb _ s o) f)
       go false f = rw (candidates-next false false (ne-eqb _ s o) f)
 
@@ -82,7 +83,8 @@ module _ (c : Chart) (e : ℕ) (u : State) (s t n : ℕ) (l : t < n) (ps : List 
   unfolding with-rest next
   rest-off f = go (eqb (trans-row c t .source) s) refl
     where
-      go : (o : Bool) → eqb (trans-row c t .source) s ≡ o → ps ++ thin c (gone-after c [] ps) (candidates-from c e u s (t + 1) (n - (t + 1))) ≡ ps ++ thin c (gone-after c [] ps) (candidates-from c e u s t (n - t))
+      go : (o : Bool) → eqb (trans-row c t .source) s ≡ o → ps ++ thin c (gone-after c [] ps)
+          (candidates-from c e u s (t + 1) (n - (t + 1))) ≡ ps ++ thin c (gone-after c [] ps) (candidates-from c e u s t (n - t))
       go true o = rw (candidates-next true false o f)
       go false o = rw (candidates-next false false o f)
 
@@ -90,17 +92,30 @@ module _ (c : Chart) (e : ℕ) (u : State) (s t n : ℕ) (l : t < n) (ps : List 
   pub rest-passed : meant (trans-row c t) s e ≡ false → with-rest c e u s (t + 1) (n - (t + 1)) ps ≡ with-rest c e u s t (n - t) ps
   unfolding meant enabled enabled-by
   rest-passed m = ⊎-elim
-      (λ o. rest-off (rw (ne-eqb (trans-row c t .trigger) e (λ z. true≢false (sym (and-both _ _ (eq-eqb (trans-row c t .source) s o) (eq-eqb (trans-row c t .trigger) e z)) ∙ m)))))
+      (λ o. rest-off (rw (ne-eqb (trans-row c t .trigger) e (λ z. true≢false
+      (sym (and-both _ _ (eq-eqb (trans-row c t .source) s o) (eq-eqb (trans-row c t .trigger) e z)) ∙ m)))))
       rest-other (same-or (trans-row c t .source) s)
 
   module _ (o : trans-row c t .source ≡ s) (f : enabled c e u t ≡ true) where
-    pub rest-clash : meets (span c t) (gone-after c [] ps) ≡ true → with-rest c e u s (t + 1) (n - (t + 1)) ps ≡ with-rest c e u s t (n - t) ps
+    pub rest-clash : meets (span c t) (gone-after c [] ps) ≡ true → with-rest c e u s (t + 1) (n - (t + 1)) ps ≡ with-rest c e u s t
+        (n - t) ps
     unfolding with-rest next
-    rest-clash m = rw (candidates-next true true (eq-eqb _ s o) f, thin-clash c (gone-after c [] ps) t (candidates-from c e u s (t + 1) (n - (t + 1))) m)
+    rest-clash m = rw (
+      candidates-next true true (eq-eqb _ s o) f,
+      thin-clash c (gone-after c [] ps) t
+          (candidates-from c e u s (t + 1) (n - (t + 1))) m,
+    )
 
-    pub rest-take : meets (span c t) (gone-after c [] ps) ≡ false → with-rest c e u s (t + 1) (n - (t + 1)) (ps ++ (t ∷ [])) ≡ with-rest c e u s t (n - t) ps
+    pub rest-take : meets (span c t) (gone-after c [] ps) ≡ false → with-rest c e u s (t + 1) (n - (t + 1))
+        (ps ++ (t ∷ [])) ≡ with-rest c e u s t (n - t) ps
     unfolding with-rest next
-    rest-take m = rw (candidates-next true true (eq-eqb _ s o) f, thin-take c (gone-after c [] ps) t (candidates-from c e u s (t + 1) (n - (t + 1))) m, gone-snoc c [] ps t, append-assoc)
+    rest-take m = rw (
+      candidates-next true true (eq-eqb _ s o) f,
+      thin-take c (gone-after c [] ps) t
+          (candidates-from c e u s (t + 1) (n - (t + 1))) m,
+      gone-snoc c [] ps t,
+      append-assoc,
+    )
 
     -- one more is chosen, so there is room for it
     pub rest-longer : meets (span c t) (gone-after c [] ps) ≡ false → length ps < length (with-rest c e u s t (n - t) ps)

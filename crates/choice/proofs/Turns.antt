@@ -41,7 +41,8 @@ pub record Turn (c : Chart) (e : ℕ) (u : State) (s t : ℕ) (r : Span) : Type 
   pub ends : r .end ≤ STATES
 
 -- what the tests of a row say of it
-module _ (v : List ℤ) (h : Ruled v) (t : ℕ) {row : TransRow} (q : row ≡ trans-row (chart-of v) t) (l : t < length (chart-of v .transitions))
+module _ (v : List ℤ) (h : Ruled v) (t : ℕ) {row : TransRow} (q : row ≡ trans-row (chart-of v) t)
+    (l : t < length (chart-of v .transitions))
     (e s : ℕ) {m : Bool} (p : m ≡ meant (trans-row (chart-of v) t) s e) (y : m ≡ true) where
   meant-source : row .source ≡ s
   unfolding meant
@@ -50,7 +51,8 @@ module _ (v : List ℤ) (h : Ruled v) (t : ℕ) {row : TransRow} (q : row ≡ tr
   pub meant-aims : Aims (chart-of v) s (row .target)
   meant-aims = row-aims v h t row q l s meant-source
 
-  pub turn-of : {u : State} {b : Bool} {r : Span} → b ≡ enabled-by row e u → b ≡ true → Spans (span-of (chart-of v) s (row .target)) r → Turn (chart-of v) e u s t r
+  pub turn-of : {u : State} {b : Bool} {r : Span} → b ≡ enabled-by row e u → b ≡ true → Spans (span-of (chart-of v) s (row .target)) r
+      → Turn (chart-of v) e u s t r
   turn-of {u} {b} {r} f z w = record {
     source = sym (ap (λ x. x .source) q) ∙ meant-source;
     on = row-enabled v h t row q l e u b f ∙ z;
@@ -61,7 +63,11 @@ module _ (v : List ℤ) (h : Ruled v) (t : ℕ) {row : TransRow} (q : row ≡ tr
 module _ {c : Chart} {e : ℕ} {u : State} {s t n : ℕ} {picks : List ℕ} {count : ℕ} {gone : List Bool}
     (w : Choosing c e u s t n picks count gone) (l : t < n) where
   pub choosing-passed : {b : Bool} → b ≡ meant (trans-row c t) s e → b ≡ false → Choosing c e u s (t + 1) n picks count gone
-  choosing-passed q z = record { owes = ap (with-sources c e u s) (rest-passed c e u s t n l (take count picks) (sym q ∙ z)) ∙ w .owes; held = w .held }
+  choosing-passed q z = record {
+    owes = ap (with-sources c e u s) (rest-passed c e u s t n l (take count picks) (sym q ∙ z))
+        ∙ w .owes;
+    held = w .held;
+  }
 
   pub choosing-off : enabled c e u t ≡ false → Choosing c e u s (t + 1) n picks count gone
   choosing-off z = record { owes = ap (with-sources c e u s) (rest-off c e u s t n l (take count picks) z) ∙ w .owes; held = w .held }

@@ -34,7 +34,8 @@ abbrev pub marked : List Bool → ℕ → Bool
 marked marks d = getD marks d false
 
 -- the counts are done
-pub tallied : (c : Chart) (marks : List Bool) (s : ℕ) {n d all on : ℕ} → n ≡ length (c .states) → Counted (is-child c s) (marked marks) n d all on → n ≤ d
+pub tallied : (c : Chart) (marks : List Bool) (s : ℕ) {n d all on : ℕ} → n ≡ length (c .states) → Counted (is-child c s)
+    (marked marks) n d all on → n ≤ d
     → record { all = all; on = on } ≡ tally-of c marks s
 unfolding tally-of children all-states
 tallied c marks s {n} e k h =
@@ -81,7 +82,8 @@ module _ (c : Chart) (marks : List Bool) {n d : ℕ} {all on : List ℕ} (h : Ta
       all-long = length-set all p _ ∙ h .all-long;
       on-long = h .on-long;
       counted = λ s b. ⊎-elim
-          (λ q. subst (λ y. Counted (is-child c y) (marked marks) n (d + 1) (getD (set all p (getD all p 0 + 1)) y 0) (getD on y 0)) (sym q)
+          (λ q. subst (λ y. Counted (is-child c y) (marked marks) n (d + 1) (getD (set all p (getD all p 0 + 1)) y 0) (getD on y 0))
+          (sym q)
           (rw (getD-set-same all p (getD all p 0 + 1) 0 (rw (h .all-long) k)) (counted-off _ _ n (h .counted p k) l mine m)))
           (λ q. rw (getD-set-other all p s (getD all p 0 + 1) 0 q) (counted-skip _ _ n (h .counted s b) l (other s q)))
           (same-or s p);
@@ -92,7 +94,8 @@ module _ (c : Chart) (marks : List Bool) {n d : ℕ} {all on : List ℕ} (h : Ta
       all-long = length-set all p _ ∙ h .all-long;
       on-long = length-set on p _ ∙ h .on-long;
       counted = λ s b. ⊎-elim
-          (λ q. subst (λ y. Counted (is-child c y) (marked marks) n (d + 1) (getD (set all p (getD all p 0 + 1)) y 0) (getD (set on p (getD on p 0 + 1)) y 0)) (sym q)
+          (λ q. subst (λ y. Counted (is-child c y) (marked marks) n (d + 1) (getD (set all p (getD all p 0 + 1)) y 0)
+          (getD (set on p (getD on p 0 + 1)) y 0)) (sym q)
           (rw (getD-set-same all p (getD all p 0 + 1) 0 (rw (h .all-long) k), getD-set-same on p (getD on p 0 + 1) 0 (rw (h .on-long) k))
           (counted-on _ _ n (h .counted p k) l mine m)))
           (λ q. rw (getD-set-other all p s (getD all p 0 + 1) 0 q, getD-set-other on p s (getD on p 0 + 1) 0 q)
@@ -139,7 +142,8 @@ module _ (c : Chart) (u : State) (s : ℕ) {marks : List Bool} {t : Tally} (e : 
 
     pub legal-a : k ≡ kind-a → eqb (t .on) (t .all) ≡ legal-at c u s
     unfolding children-legal by-mark
-    legal-a m = rw (on-of, all-of) (all-counted (is-active u) (children c s)) ∙ ap (λ x. children-legal c u x (children c s)) (sym m ∙ l) ∙ at-mark g
+    legal-a m = rw (on-of, all-of) (all-counted (is-active u) (children c s)) ∙ ap (λ x. children-legal c u x (children c s)) (sym m ∙ l)
+        ∙ at-mark g
 
     pub legal-b : k ≡ kind-b → true ≡ legal-at c u s
     unfolding children-legal by-mark
@@ -156,6 +160,7 @@ module _ (c : Chart) (u : State) {marks : List Bool} (e : u .active ≡ marks) w
   unfolding legal
   legal-rootless g = rw (root-in g)
 
-  pub legal-rooted : {b : Bool} {n : ℕ} → n ≡ length (c .states) → getD marks 0 false ≡ true → b ≡ every (legal-at c u) (from 0 n) → b ≡ legal c u
+  pub legal-rooted : {b : Bool} {n : ℕ} → n ≡ length (c .states) → getD marks 0 false ≡ true → b ≡ every (legal-at c u) (from 0 n)
+      → b ≡ legal c u
   unfolding legal all-states
   legal-rooted l g h = h ∙ rw (root-in g, l)

@@ -13,7 +13,8 @@ use Rattle.chart_rows.proofs.Rows.{states-most, transitions-most}
 use Rattle.choice.specs.Choice.{seen}
 use Rattle.choice.proofs.Loop.{row-fits, row-enabled, up-to, Held, held-none}
 use Rattle.choice.proofs.All.{with-sources, chosen-all, none-left, source-off, source-begins, source-ends}
-use Rattle.choice.proofs.Turns.{Choosing, meant-aims, turn-of, choosing-passed, choosing-off, choosing-clash, choosing-room, choosing-take}
+use Rattle.choice.proofs.Turns.{Choosing, meant-aims, turn-of, choosing-passed, choosing-off}
+use Rattle.choice.proofs.Turns.{choosing-clash, choosing-room, choosing-take}
 use Rattle.choice.proofs.choose.Statement.{statement}
 use Rattle.choice.proofs.choose.Tie as tie
 
@@ -39,19 +40,24 @@ Inv-sources chart event active vars picks₀ n sources gone₀ count₀ s₀ pic
 abbrev μ-sources : tie.MeasureT-sources
 μ-sources chart event active vars picks₀ n sources gone₀ count₀ s₀ picks gone count s = s
 
-abbrev trans-row-from-span-of : tie.After-span-of Inv-loop μ-loop Inv-transitions μ-transitions Inv-sources μ-sources → tie.After-trans-row Inv-loop μ-loop Inv-transitions μ-transitions Inv-sources μ-sources
+abbrev trans-row-from-span-of : tie.After-span-of Inv-loop μ-loop Inv-transitions μ-transitions Inv-sources μ-sources
+    → tie.After-trans-row Inv-loop μ-loop Inv-transitions μ-transitions Inv-sources μ-sources
 trans-row-from-span-of c = c .before .before .before
 
-abbrev row-meant-from-span-of : tie.After-span-of Inv-loop μ-loop Inv-transitions μ-transitions Inv-sources μ-sources → tie.After-row-meant Inv-loop μ-loop Inv-transitions μ-transitions Inv-sources μ-sources
+abbrev row-meant-from-span-of : tie.After-span-of Inv-loop μ-loop Inv-transitions μ-transitions Inv-sources μ-sources
+    → tie.After-row-meant Inv-loop μ-loop Inv-transitions μ-transitions Inv-sources μ-sources
 row-meant-from-span-of c = trans-row-from-span-of c .before .before
 
-abbrev at-transitions-from-span-of : tie.After-span-of Inv-loop μ-loop Inv-transitions μ-transitions Inv-sources μ-sources → tie.At-transitions Inv-loop μ-loop Inv-transitions μ-transitions Inv-sources μ-sources
+abbrev at-transitions-from-span-of : tie.After-span-of Inv-loop μ-loop Inv-transitions μ-transitions Inv-sources μ-sources
+    → tie.At-transitions Inv-loop μ-loop Inv-transitions μ-transitions Inv-sources μ-sources
 at-transitions-from-span-of c = row-meant-from-span-of c .before .before
 
-abbrev transition-count-from-span-of : tie.After-span-of Inv-loop μ-loop Inv-transitions μ-transitions Inv-sources μ-sources → tie.After-transition-count Inv-loop μ-loop Inv-transitions μ-transitions Inv-sources μ-sources
+abbrev transition-count-from-span-of : tie.After-span-of Inv-loop μ-loop Inv-transitions μ-transitions Inv-sources μ-sources
+    → tie.After-transition-count Inv-loop μ-loop Inv-transitions μ-transitions Inv-sources μ-sources
 transition-count-from-span-of c = at-transitions-from-span-of c .before .before .before .before .before .before
 
-abbrev start-from-span-of : tie.After-span-of Inv-loop μ-loop Inv-transitions μ-transitions Inv-sources μ-sources → tie.Start Inv-loop μ-loop Inv-transitions μ-transitions Inv-sources μ-sources
+abbrev start-from-span-of : tie.After-span-of Inv-loop μ-loop Inv-transitions μ-transitions Inv-sources μ-sources
+    → tie.Start Inv-loop μ-loop Inv-transitions μ-transitions Inv-sources μ-sources
 start-from-span-of c = transition-count-from-span-of c .before
 
 sources-holds : tie.Need-sources-holds Inv-loop μ-loop Inv-transitions μ-transitions Inv-sources μ-sources
@@ -66,43 +72,78 @@ array-read-if1 c = omega (arith, c .before .sources .inv .2)
 
 sources-again : tie.Need-sources-again Inv-loop μ-loop Inv-transitions μ-transitions Inv-sources μ-sources
 sources-again c =
-    let w = c .before .before .sources in
-    (source-off _ _ _ (w .s) _ (c .before .before .before .before .sources-of .result) _ (c .before .before .before .before .sources-of .ensures) (not-true _ (c .if1 .taken)) (omega arith) (w .inv .0), w .inv .1, omega (arith, w .inv .2))
+    let w = c .before .before .sources in (
+      source-off _ _ _ (w .s) _ (c .before .before .before .before .sources-of .result) _
+          (c .before .before .before .before .sources-of .ensures) (not-true _ (c .if1 .taken)) (omega arith) (w .inv .0),
+      w .inv .1,
+      omega
+          (arith, w .inv .2),
+    )
 
 transitions-holds : tie.Need-transitions-holds Inv-loop μ-loop Inv-transitions μ-transitions Inv-sources μ-sources
 transitions-holds c =
     let w = c .before .before .sources in
-    record { owes = source-begins _ _ _ (w .s) _ _ _ (omega arith) (c .before .before .before .before .before .transition-count .ensures) (w .inv .0); held = w .inv .1 }
+    record {
+      owes = source-begins _ _ _ (w .s) _ _ _ (omega arith) (c .before .before .before .before .before .transition-count .ensures)
+          (w .inv .0);
+      held = w .inv .1;
+    }
 
 sources-again-2 : tie.Need-sources-again-2 Inv-loop μ-loop Inv-transitions μ-transitions Inv-sources μ-sources
 sources-again-2 c =
-    let w = c .before .transitions .inv in
-    (source-ends _ _ _ _ _ _ _ (c .transitions-test .left) (w .owes), w .held, omega (arith, c .before .before .before .before .sources .inv .2))
+    let w = c .before .transitions .inv in (
+      source-ends _ _ _ _ _ _ _ (c .transitions-test .left) (w .owes),
+      w .held,
+      omega
+          (arith, c .before .before .before .before .sources .inv .2),
+    )
 
 row-meant-requires : tie.Need-row-meant-requires Inv-loop μ-loop Inv-transitions μ-transitions Inv-sources μ-sources
-row-meant-requires c κs = omega (arith, c .transitions-test .taken, c .before .before .before .before .before .before .before .transition-count .ensures)
+row-meant-requires c κs = omega (
+  arith,
+  c .transitions-test .taken,
+  c .before .before .before .before .before .before .before .transition-count .ensures,
+)
 
 transitions-again : tie.Need-transitions-again Inv-loop μ-loop Inv-transitions μ-transitions Inv-sources μ-sources
 transitions-again c =
-    choosing-passed (c .before .before .before .transitions .inv) (c .before .before .transitions-test .taken) (c .before .row-meant .ensures) (not-true _ (c .if2 .taken))
+    choosing-passed (c .before .before .before .transitions .inv) (c .before .before .transitions-test .taken)
+    (c .before .row-meant .ensures) (not-true _ (c .if2 .taken))
 
 enabled-requires : tie.Need-enabled-requires Inv-loop μ-loop Inv-transitions μ-transitions Inv-sources μ-sources
 enabled-requires c κs =
-    row-fits _ (c .before .before .before .before .before .before .before .before .before .before .before .pre .0) _ _ (c .trans-row .ensures)
-    (omega (arith, c .before .before .before .transitions-test .taken, c .before .before .before .before .before .before .before .before .before .before .transition-count .ensures))
+    row-fits _ (c .before .before .before .before .before .before .before .before .before .before .before .pre .0) _ _
+    (c .trans-row .ensures)
+    (omega (
+      arith,
+      c .before .before .before .transitions-test .taken,
+      c .before .before .before .before .before .before .before .before .before .before .transition-count .ensures,
+    ))
 
 transitions-again-2 : tie.Need-transitions-again-2 Inv-loop μ-loop Inv-transitions μ-transitions Inv-sources μ-sources
 transitions-again-2 c =
-    let l : c .before .before .before .before .before .before .transitions .t < length (chart-of (c .before .before .before .before .before .before .before .before .before .before .before .before .before .args .chart .now) .transitions) =
-    omega (arith, c .before .before .before .before .before .transitions-test .taken, c .before .before .before .before .before .before .before .before .before .before .before .before .transition-count .ensures) in
-    choosing-off (c .before .before .before .before .before .before .transitions .inv) (c .before .before .before .before .before .transitions-test .taken)
-    (row-enabled _ (c .before .before .before .before .before .before .before .before .before .before .before .before .before .pre .0) _ _ (c .before .before .trans-row .ensures) l _ _ _ (c .before .enabled .ensures) ∙ not-true _ (c .if3 .taken))
+    let l : c .before .before .before .before .before .before .transitions .t < length
+    (chart-of (c .before .before .before .before .before .before .before .before .before .before .before .before .before .args .chart .now) .transitions) =
+    omega (
+      arith,
+      c .before .before .before .before .before .transitions-test .taken,
+      c .before .before .before .before .before .before .before .before .before .before .before .before .transition-count .ensures,
+    ) in
+    choosing-off (c .before .before .before .before .before .before .transitions .inv)
+    (c .before .before .before .before .before .transitions-test .taken)
+    (row-enabled _ (c .before .before .before .before .before .before .before .before .before .before .before .before .before .pre .0) _ _
+    (c .before .before .trans-row .ensures) l _ _ _ (c .before .enabled .ensures) ∙ not-true _ (c .if3 .taken))
 
 span-of-requires : tie.Need-span-of-requires Inv-loop μ-loop Inv-transitions μ-transitions Inv-sources μ-sources
 span-of-requires c κs = (
   c .before .before .before .before .before .before .before .before .before .before .before .before .before .pre .0,
-  meant-aims _ (c .before .before .before .before .before .before .before .before .before .before .before .before .before .pre .0) _ (c .before .before .trans-row .ensures)
-      (omega (arith, c .before .before .before .before .before .transitions-test .taken, c .before .before .before .before .before .before .before .before .before .before .before .before .transition-count .ensures)) _ _ (c .before .before .before .before .row-meant .ensures) (not-false _ (c .before .before .before .if2 .left)),
+  meant-aims _ (c .before .before .before .before .before .before .before .before .before .before .before .before .before .pre .0) _
+      (c .before .before .trans-row .ensures)
+      (omega (
+        arith,
+        c .before .before .before .before .before .transitions-test .taken,
+        c .before .before .before .before .before .before .before .before .before .before .before .before .transition-count .ensures,
+      )) _ _ (c .before .before .before .before .row-meant .ensures) (not-false _ (c .before .before .before .if2 .left)),
 )
 
 loop-holds : tie.Need-loop-holds Inv-loop μ-loop Inv-transitions μ-transitions Inv-sources μ-sources
@@ -111,23 +152,41 @@ loop-holds c = (refl, omega arith, λ y p q. absurd (omega arith))
 array-read-if4 : tie.Need-array-read-if4 Inv-loop μ-loop Inv-transitions μ-transitions Inv-sources μ-sources
 array-read-if4 c =
     let h = start-from-span-of (c .before .before) .pre .0 in
-    let l : at-transitions-from-span-of (c .before .before) .transitions .t < length (chart-of (start-from-span-of (c .before .before) .args .chart .now) .transitions) =
-    omega (arith, row-meant-from-span-of (c .before .before) .before .transitions-test .taken, transition-count-from-span-of (c .before .before) .transition-count .ensures) in
+    let l : at-transitions-from-span-of (c .before .before) .transitions .t < length
+    (chart-of (start-from-span-of (c .before .before) .args .chart .now) .transitions) =
+    omega (
+      arith,
+      row-meant-from-span-of (c .before .before) .before .transitions-test .taken,
+      transition-count-from-span-of
+          (c .before .before) .transition-count .ensures,
+    ) in
     let g = turn-of _ h _ (trans-row-from-span-of (c .before .before) .trans-row .ensures) l _ _
-    (row-meant-from-span-of (c .before .before) .row-meant .ensures) (not-false _ (trans-row-from-span-of (c .before .before) .before .if2 .left))
-    (c .before .before .before .before .enabled .ensures) (not-false _ (c .before .before .before .if3 .left)) (c .before .before .span-of .ensures) in
+    (row-meant-from-span-of (c .before .before) .row-meant .ensures)
+    (not-false _ (trans-row-from-span-of (c .before .before) .before .if2 .left))
+    (c .before .before .before .before .enabled .ensures) (not-false _ (c .before .before .before .if3 .left))
+    (c .before .before .span-of .ensures) in
     omega (arith, g .ends, c .loop-test .taken)
 
 transitions-again-3 : tie.Need-transitions-again-3 Inv-loop μ-loop Inv-transitions μ-transitions Inv-sources μ-sources
 transitions-again-3 c =
     let h = start-from-span-of (c .before .before .before) .pre .0 in
-    let l : at-transitions-from-span-of (c .before .before .before) .transitions .t < length (chart-of (start-from-span-of (c .before .before .before) .args .chart .now) .transitions) =
-    omega (arith, row-meant-from-span-of (c .before .before .before) .before .transitions-test .taken, transition-count-from-span-of (c .before .before .before) .transition-count .ensures) in
+    let l : at-transitions-from-span-of (c .before .before .before) .transitions .t < length
+    (chart-of (start-from-span-of (c .before .before .before) .args .chart .now) .transitions) =
+    omega (
+      arith,
+      row-meant-from-span-of (c .before .before .before) .before .transitions-test .taken,
+      transition-count-from-span-of
+          (c .before .before .before) .transition-count .ensures,
+    ) in
     let g = turn-of _ h _ (trans-row-from-span-of (c .before .before .before) .trans-row .ensures) l _ _
-    (row-meant-from-span-of (c .before .before .before) .row-meant .ensures) (not-false _ (trans-row-from-span-of (c .before .before .before) .before .if2 .left))
-    (c .before .before .before .before .before .enabled .ensures) (not-false _ (c .before .before .before .before .if3 .left)) (c .before .before .before .span-of .ensures) in
+    (row-meant-from-span-of (c .before .before .before) .row-meant .ensures)
+    (not-false _ (trans-row-from-span-of (c .before .before .before) .before .if2 .left))
+    (c .before .before .before .before .before .enabled .ensures) (not-false _ (c .before .before .before .before .if3 .left))
+    (c .before .before .before .span-of .ensures) in
     let w = c .before .before .loop .inv in
-    rw (w .0) (choosing-clash (at-transitions-from-span-of (c .before .before .before) .transitions .inv) (row-meant-from-span-of (c .before .before .before) .before .transitions-test .taken) g _ (w .1) (c .before .loop-test .taken) (c .if4 .taken))
+    rw (w .0) (choosing-clash (at-transitions-from-span-of (c .before .before .before) .transitions .inv)
+    (row-meant-from-span-of (c .before .before .before) .before .transitions-test .taken) g _ (w .1) (c .before .loop-test .taken)
+    (c .if4 .taken))
 
 loop-again : tie.Need-loop-again Inv-loop μ-loop Inv-transitions μ-transitions Inv-sources μ-sources
 loop-again c =
@@ -137,11 +196,19 @@ loop-again c =
 mark-gone-requires : tie.Need-mark-gone-requires Inv-loop μ-loop Inv-transitions μ-transitions Inv-sources μ-sources
 mark-gone-requires c κs =
     let h = start-from-span-of (c .before .before .before) .pre .0 in
-    let l : at-transitions-from-span-of (c .before .before .before) .transitions .t < length (chart-of (start-from-span-of (c .before .before .before) .args .chart .now) .transitions) =
-    omega (arith, row-meant-from-span-of (c .before .before .before) .before .transitions-test .taken, transition-count-from-span-of (c .before .before .before) .transition-count .ensures) in
+    let l : at-transitions-from-span-of (c .before .before .before) .transitions .t < length
+    (chart-of (start-from-span-of (c .before .before .before) .args .chart .now) .transitions) =
+    omega (
+      arith,
+      row-meant-from-span-of (c .before .before .before) .before .transitions-test .taken,
+      transition-count-from-span-of
+          (c .before .before .before) .transition-count .ensures,
+    ) in
     let g = turn-of _ h _ (trans-row-from-span-of (c .before .before .before) .trans-row .ensures) l _ _
-    (row-meant-from-span-of (c .before .before .before) .row-meant .ensures) (not-false _ (trans-row-from-span-of (c .before .before .before) .before .if2 .left))
-    (c .before .before .before .before .before .enabled .ensures) (not-false _ (c .before .before .before .before .if3 .left)) (c .before .before .before .span-of .ensures) in
+    (row-meant-from-span-of (c .before .before .before) .row-meant .ensures)
+    (not-false _ (trans-row-from-span-of (c .before .before .before) .before .if2 .left))
+    (c .before .before .before .before .before .enabled .ensures) (not-false _ (c .before .before .before .before .if3 .left))
+    (c .before .before .before .span-of .ensures) in
     (g .spans .some, g .ends, at-transitions-from-span-of (c .before .before .before) .transitions .inv .held .long)
 
 mul-picks : tie.Need-mul-picks Inv-loop μ-loop Inv-transitions μ-transitions Inv-sources μ-sources
@@ -150,13 +217,22 @@ mul-picks c = omega (arith, at-transitions-from-span-of (c .before .before .befo
 element-write-picks : tie.Need-element-write-picks Inv-loop μ-loop Inv-transitions μ-transitions Inv-sources μ-sources
 element-write-picks c =
     let h = start-from-span-of (c .before .before .before .before) .pre .0 in
-    let l : at-transitions-from-span-of (c .before .before .before .before) .transitions .t < length (chart-of (start-from-span-of (c .before .before .before .before) .args .chart .now) .transitions) =
-    omega (arith, row-meant-from-span-of (c .before .before .before .before) .before .transitions-test .taken, transition-count-from-span-of (c .before .before .before .before) .transition-count .ensures) in
+    let l : at-transitions-from-span-of (c .before .before .before .before) .transitions .t < length
+    (chart-of (start-from-span-of (c .before .before .before .before) .args .chart .now) .transitions) =
+    omega (
+      arith,
+      row-meant-from-span-of (c .before .before .before .before) .before .transitions-test .taken,
+      transition-count-from-span-of (c .before .before .before .before) .transition-count .ensures,
+    ) in
     let g = turn-of _ h _ (trans-row-from-span-of (c .before .before .before .before) .trans-row .ensures) l _ _
-    (row-meant-from-span-of (c .before .before .before .before) .row-meant .ensures) (not-false _ (trans-row-from-span-of (c .before .before .before .before) .before .if2 .left))
-    (c .before .before .before .before .before .before .enabled .ensures) (not-false _ (c .before .before .before .before .before .if3 .left)) (c .before .before .before .before .span-of .ensures) in
-    choosing-room (at-transitions-from-span-of (c .before .before .before .before) .transitions .inv) (row-meant-from-span-of (c .before .before .before .before) .before .transitions-test .taken) g
-    (λ y p q. c .before .before .before .loop .inv .2 y (omega (arith, q, c .before .before .loop-test .left)) p) (transitions-most (start-from-span-of (c .before .before .before .before) .args .chart .now))
+    (row-meant-from-span-of (c .before .before .before .before) .row-meant .ensures)
+    (not-false _ (trans-row-from-span-of (c .before .before .before .before) .before .if2 .left))
+    (c .before .before .before .before .before .before .enabled .ensures)
+    (not-false _ (c .before .before .before .before .before .if3 .left)) (c .before .before .before .before .span-of .ensures) in
+    choosing-room (at-transitions-from-span-of (c .before .before .before .before) .transitions .inv)
+    (row-meant-from-span-of (c .before .before .before .before) .before .transitions-test .taken) g
+    (λ y p q. c .before .before .before .loop .inv .2 y (omega (arith, q, c .before .before .loop-test .left)) p)
+    (transitions-most (start-from-span-of (c .before .before .before .before) .args .chart .now))
 
 add-count : tie.Need-add-count Inv-loop μ-loop Inv-transitions μ-transitions Inv-sources μ-sources
 add-count c = omega (arith, at-transitions-from-span-of (c .before .before .before .before) .transitions .inv .held .few)
@@ -164,14 +240,23 @@ add-count c = omega (arith, at-transitions-from-span-of (c .before .before .befo
 transitions-again-4 : tie.Need-transitions-again-4 Inv-loop μ-loop Inv-transitions μ-transitions Inv-sources μ-sources
 transitions-again-4 c =
     let h = start-from-span-of (c .before .before .before .before) .pre .0 in
-    let l : at-transitions-from-span-of (c .before .before .before .before) .transitions .t < length (chart-of (start-from-span-of (c .before .before .before .before) .args .chart .now) .transitions) =
-    omega (arith, row-meant-from-span-of (c .before .before .before .before) .before .transitions-test .taken, transition-count-from-span-of (c .before .before .before .before) .transition-count .ensures) in
+    let l : at-transitions-from-span-of (c .before .before .before .before) .transitions .t < length
+    (chart-of (start-from-span-of (c .before .before .before .before) .args .chart .now) .transitions) =
+    omega (
+      arith,
+      row-meant-from-span-of (c .before .before .before .before) .before .transitions-test .taken,
+      transition-count-from-span-of (c .before .before .before .before) .transition-count .ensures,
+    ) in
     let g = turn-of _ h _ (trans-row-from-span-of (c .before .before .before .before) .trans-row .ensures) l _ _
-    (row-meant-from-span-of (c .before .before .before .before) .row-meant .ensures) (not-false _ (trans-row-from-span-of (c .before .before .before .before) .before .if2 .left))
-    (c .before .before .before .before .before .before .enabled .ensures) (not-false _ (c .before .before .before .before .before .if3 .left)) (c .before .before .before .before .span-of .ensures) in
+    (row-meant-from-span-of (c .before .before .before .before) .row-meant .ensures)
+    (not-false _ (trans-row-from-span-of (c .before .before .before .before) .before .if2 .left))
+    (c .before .before .before .before .before .before .enabled .ensures)
+    (not-false _ (c .before .before .before .before .before .if3 .left)) (c .before .before .before .before .span-of .ensures) in
     let w = c .before .before .before .loop .inv in
-    rw (w .0) (choosing-take (at-transitions-from-span-of (c .before .before .before .before) .transitions .inv) (row-meant-from-span-of (c .before .before .before .before) .before .transitions-test .taken) g
-    (λ y p q. w .2 y (omega (arith, q, c .before .before .loop-test .left)) p) (transitions-most (start-from-span-of (c .before .before .before .before) .args .chart .now)) (c .mark-gone .ensures))
+    rw (w .0) (choosing-take (at-transitions-from-span-of (c .before .before .before .before) .transitions .inv)
+    (row-meant-from-span-of (c .before .before .before .before) .before .transitions-test .taken) g
+    (λ y p q. w .2 y (omega (arith, q, c .before .before .loop-test .left)) p)
+    (transitions-most (start-from-span-of (c .before .before .before .before) .args .chart .now)) (c .mark-gone .ensures))
 
 returns : tie.Need-returns Inv-loop μ-loop Inv-transitions μ-transitions Inv-sources μ-sources
 returns c =
@@ -181,8 +266,10 @@ returns c =
 pub choose-spec : {M : Type 1} → statement M
 choose-spec =
     tie.close (tie.spec Inv-loop μ-loop Inv-transitions μ-transitions Inv-sources μ-sources
-    (λ c κs. search needs) (λ c κs. c .before .pre .0) (λ c κs. search needs) sources-holds (λ c. omega arith) array-read-if1 (λ c. omega arith) sources-again
+    (λ c κs. search needs) (λ c κs. c .before .pre .0) (λ c κs. search needs) sources-holds (λ c. omega arith) array-read-if1
+    (λ c. omega arith) sources-again
     transitions-holds (λ c. omega arith) sources-again-2 row-meant-requires (λ c. omega arith) (λ c. omega arith) transitions-again
-    (λ c κs. search needs) enabled-requires (λ c. omega arith) (λ c. omega arith) transitions-again-2 span-of-requires loop-holds array-read-if4
+    (λ c κs. search needs) enabled-requires (λ c. omega arith)
+    (λ c. omega arith) transitions-again-2 span-of-requires loop-holds array-read-if4
     (λ c. omega arith) (λ c. omega arith) transitions-again-3 (λ c. omega arith) (λ c. omega arith) loop-again mark-gone-requires mul-picks
     element-write-picks add-count (λ c. omega arith) (λ c. omega arith) transitions-again-4 returns)

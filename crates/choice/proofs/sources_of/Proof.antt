@@ -43,8 +43,13 @@ array-write-sources c =
 loop-again-2 : tie.Need-loop-again-2 Inv-loop μ-loop
 loop-again-2 c =
     let w = c .before .before .before .before .before .loop .inv in
-    let q = source-small _ (c .before .before .before .before .before .before .before .pre) _ _ (c .before .source-at .ensures) (omega arith) in
-    (marking-more (w .0) _ (c .before .source-at .ensures) (omega (arith, q, w .1)), length-set (c .before .before .before .before .before .loop .sources) _ _ ∙ w .1, omega arith)
+    let q = source-small _ (c .before .before .before .before .before .before .before .pre) _ _ (c .before .source-at .ensures)
+    (omega arith) in (
+      marking-more (w .0) _ (c .before .source-at .ensures) (omega (arith, q, w .1)),
+      length-set
+          (c .before .before .before .before .before .loop .sources) _ _ ∙ w .1,
+      omega arith,
+    )
 
 returns : tie.Need-returns Inv-loop μ-loop
 returns c = λ t l z. c .before .loop .inv .0 .told t (omega (arith, l, c .before .before .transition-count .ensures, c .loop-test .left)) z

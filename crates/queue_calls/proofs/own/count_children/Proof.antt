@@ -25,29 +25,54 @@ loop-again c = tally-root _ _ (c .before .before .loop .inv) (c .before .loop-te
 
 loop-again-2 : tie.Need-loop-again-2 Inv-loop μ-loop
 loop-again-2 c =
-    tally-far _ _ (c .before .before .before .before .loop .inv) (c .before .before .before .loop-test .taken) (c .before .before .if1 .left) (c .before .parent-of .ensures) (c .if2 .taken)
+    tally-far _ _ (c .before .before .before .before .loop .inv) (c .before .before .before .loop-test .taken)
+    (c .before .before .if1 .left) (c .before .parent-of .ensures) (c .if2 .taken)
 
 add-all : tie.Need-add-all Inv-loop μ-loop
 add-all c =
     let w = c .before .before .before .before .loop .inv .counted _ (c .if2 .left) in
-    omega (arith, w .most, c .before .before .before .loop-test .taken, c .before .before .before .before .before .state-count .ensures, states-most (c .before .before .before .before .before .before .args .chart .now))
+    omega (
+      arith,
+      w .most,
+      c .before .before .before .loop-test .taken,
+      c .before .before .before .before .before .state-count .ensures,
+      states-most (c .before .before .before .before .before .before .args .chart .now),
+    )
 
 element-copy-out-if3 : tie.Need-element-copy-out-if3 Inv-loop μ-loop
-element-copy-out-if3 c = omega (arith, c .before .before .before .loop-test .taken, c .before .before .before .before .before .state-count .ensures, states-most (c .before .before .before .before .before .before .args .chart .now))
+element-copy-out-if3 c = omega (
+  arith,
+  c .before .before .before .loop-test .taken,
+  c .before .before .before .before .before .state-count .ensures,
+  states-most
+      (c .before .before .before .before .before .before .args .chart .now),
+)
 
 loop-again-3 : tie.Need-loop-again-3 Inv-loop μ-loop
 loop-again-3 c =
-    tally-off _ _ (c .before .before .before .before .before .before .loop .inv) (c .before .before .before .before .before .loop-test .taken) (c .before .before .before .before .if1 .left) (c .before .before .before .parent-of .ensures)
+    tally-off _ _ (c .before .before .before .before .before .before .loop .inv)
+    (c .before .before .before .before .before .loop-test .taken) (c .before .before .before .before .if1 .left)
+    (c .before .before .before .parent-of .ensures)
     (c .before .before .if2 .left) (not-true _ (c .if3 .taken))
 
 add-on : tie.Need-add-on Inv-loop μ-loop
 add-on c =
     let w = c .before .before .before .before .before .before .loop .inv .counted _ (c .before .before .if2 .left) in
-    omega (arith, w .most, w .fewer, c .before .before .before .before .before .loop-test .taken, c .before .before .before .before .before .before .before .state-count .ensures, states-most (c .before .before .before .before .before .before .before .before .args .chart .now))
+    omega (
+      arith,
+      w .most,
+      w .fewer,
+      c .before .before .before .before .before .loop-test .taken,
+      c .before .before .before .before .before .before .before .state-count .ensures,
+      states-most
+          (c .before .before .before .before .before .before .before .before .args .chart .now),
+    )
 
 loop-again-4 : tie.Need-loop-again-4 Inv-loop μ-loop
 loop-again-4 c =
-    tally-on _ _ (c .before .before .before .before .before .before .loop .inv) (c .before .before .before .before .before .loop-test .taken) (c .before .before .before .before .if1 .left) (c .before .before .before .parent-of .ensures)
+    tally-on _ _ (c .before .before .before .before .before .before .loop .inv)
+    (c .before .before .before .before .before .loop-test .taken) (c .before .before .before .before .if1 .left)
+    (c .before .before .before .parent-of .ensures)
     (c .before .before .if2 .left) (not-false _ (c .if3 .left))
 
 returns : tie.Need-returns Inv-loop μ-loop

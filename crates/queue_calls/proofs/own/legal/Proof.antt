@@ -19,7 +19,8 @@ use Rattle.queue_calls.proofs.own.legal.Tie as tie
 abbrev Inv-loop : tie.InvT-loop
 Inv-loop chart active n all on s₀ s =
     (s ≤ n)
-    × ((u : State) → u .active ≡ active → every (legal-at (chart-of chart) u) (drop s (from 0 n)) ≡ every (legal-at (chart-of chart) u) (from 0 n))
+    × ((u : State) → u .active ≡ active → every (legal-at (chart-of chart) u) (drop s (from 0 n)) ≡ every (legal-at (chart-of chart) u)
+    (from 0 n))
 
 abbrev μ-loop : tie.MeasureT-loop
 μ-loop chart active n all on s₀ s = n - s
@@ -31,22 +32,40 @@ loop-holds : tie.Need-loop-holds Inv-loop μ-loop
 loop-holds c = (omega arith, λ u e. refl)
 
 array-read-t16 : tie.Need-array-read-t16 Inv-loop μ-loop
-array-read-t16 c = omega (arith, c .before .before .before .before .before .state-count .ensures, states-most (c .before .before .before .before .before .before .before .before .args .chart .now))
+array-read-t16 c = omega (
+  arith,
+  c .before .before .before .before .before .state-count .ensures,
+  states-most
+      (c .before .before .before .before .before .before .before .before .args .chart .now),
+)
 
 array-read-t19 : tie.Need-array-read-t19 Inv-loop μ-loop
-array-read-t19 c = omega (arith, c .before .before .before .before .before .state-count .ensures, states-most (c .before .before .before .before .before .before .before .before .args .chart .now))
+array-read-t19 c = omega (
+  arith,
+  c .before .before .before .before .before .state-count .ensures,
+  states-most
+      (c .before .before .before .before .before .before .before .before .args .chart .now),
+)
 
 legal-at-requires : tie.Need-legal-at-requires Inv-loop μ-loop
 legal-at-requires c κs =
-    let l : c .before .loop .s < STATES = omega (arith, c .loop-test .taken, c .before .before .before .before .before .state-count .ensures, states-most (c .before .before .before .before .before .before .before .before .args .chart .now)) in
+    let l : c .before .loop .s < STATES = omega (
+      arith,
+      c .loop-test .taken,
+      c .before .before .before .before .before .state-count .ensures,
+      states-most
+          (c .before .before .before .before .before .before .before .before .args .chart .now),
+    ) in
     (l, c .before .before .before .before .count-children .ensures .told _ l)
 
 returns-2 : tie.Need-returns-2 Inv-loop μ-loop
 returns-2 c u e =
     let k = chart-of (c .before .before .before .before .before .before .before .before .before .before .args .chart .now) in
     let w = c .before .before .before .loop in
-    legal-rooted k u e (c .before .before .before .before .before .before .before .state-count .ensures) (not-false _ (c .before .before .before .before .before .before .before .before .if1 .left))
-    (upto-no (legal-at k u) (c .before .before .before .before .before .before .before .state-count .result) (w .s) (w .inv .1 u e) (c .before .before .loop-test .taken)
+    legal-rooted k u e (c .before .before .before .before .before .before .before .state-count .ensures)
+    (not-false _ (c .before .before .before .before .before .before .before .before .if1 .left))
+    (upto-no (legal-at k u) (c .before .before .before .before .before .before .before .state-count .result) (w .s) (w .inv .1 u e)
+    (c .before .before .loop-test .taken)
     (sym (c .before .legal-at .ensures u e) ∙ not-true _ (c .if2 .taken)))
 
 loop-again : tie.Need-loop-again Inv-loop μ-loop
@@ -61,7 +80,8 @@ returns-3 : tie.Need-returns-3 Inv-loop μ-loop
 returns-3 c u e =
     let k = chart-of (c .before .before .before .before .before .before .before .before .args .chart .now) in
     let w = c .before .loop in
-    legal-rooted k u e (c .before .before .before .before .before .state-count .ensures) (not-false _ (c .before .before .before .before .before .before .if1 .left))
+    legal-rooted k u e (c .before .before .before .before .before .state-count .ensures)
+    (not-false _ (c .before .before .before .before .before .before .if1 .left))
     (upto-done (legal-at k u) (c .before .before .before .before .before .state-count .result) (w .s) (w .inv .1 u e) (omega arith))
 
 pub legal-spec : {M : Type 1} → statement M
