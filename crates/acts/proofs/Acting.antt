@@ -2,7 +2,7 @@
 -- act, and one step after another where a refusal ends it. Assumes nothing.
 use mathlib.Core.Path.{_≡_, refl, sym, ap, subst, _∙_}
 use Prim.Native.Nat.{ℕ, _+_, _≤_, _<_}
-use mathlib.Core.Bool.{true, false, false≢true, _&&_}
+use mathlib.Core.Bool.{Bool, true, false, false≢true, _&&_}
 use mathlib.Core.List.{List, [], _∷_}
 use native.Mathlib.Omega.{arith}
 use native.Mathlib.Numerals.{add-one}
@@ -81,6 +81,11 @@ pub row-named : (v : List ℤ) → Ruled v → (i : ℕ) → i < length (chart-o
 row-named v r i h row e = subst
     (λ x. Named (x .act)) (sym e) (named (chart-of v) (vars-most v) (events-most v r) (getD (chart-of v .actions) i no-action .act)
     (sound v r .acts i h))
+
+-- the row of an action that is the owner's
+pub owned : (o : Owner) {row whole : ActRow} {b : Bool} → row ≡ whole → b ≡ same-owner o (whole .owner) → b ≡ true → same-owner o
+    (row .owner) ≡ true
+owned o e f t = ap (λ x. same-owner o (x .owner)) e ∙ sym f ∙ t
 
 -- ---- the loop over the rows
 

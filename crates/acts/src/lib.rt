@@ -2,10 +2,15 @@
 // Each function has one promise: what it leaves behind is what the definition of the same name gives.
 use chart_rows::action_count;
 use chart_rows::action_row;
+use chart_rows::decode::owner_by;
+use chart_rows::layout::ACT_ROW;
+use chart_rows::layout::ACTIONS_AT;
+use chart_rows::number_at;
 use chart_rows::tree::o_parent;
 use chart_rows::var_row;
 use meaning::chart::Act;
 use meaning::chart::Owner;
+use numbers::reference;
 use queue::lent::QUEUE_NUMBERS;
 use sizes::STATES;
 use sizes::VARIABLES;
@@ -15,7 +20,8 @@ use widget::mark_left;
 use widget::perform;
 ghost use mathlib.Core.Path.{_≡_};
 ghost use Prim.Native.Nat.{_≤_, _<_};
-ghost use lib.ListN.{length};
+ghost use lib.ListN.{length, getD};
+ghost use Rattle.meaning.specs.Chart.{no-action};
 ghost use Rattle.meaning.specs.Effects.{act-var, same-owner, perform-all, enter as enters, leave as leaves};
 ghost use Rattle.meaning.specs.Value.{chart-of};
 ghost use Rattle.sizes.specs.Sizes.{STATES as states};
@@ -70,6 +76,22 @@ pub fn same_owner(a: Owner, b: Owner) -> bool
     owner_number(a) == owner_number(b)
 }
 
+// Whether action i is this owner's: the two numbers that name its owner, read where they stand. What does not match is passed over
+// before anything else of its row is read.
+fn is_owned(chart: &[i32], i: usize, owner: Owner) -> bool
+    requires { ⌜ i < length (chart-of (now chart) .actions) ⌝ }
+    ensures { λ r. ⌜ r ≡ same-owner owner (getD (chart-of (now (chart .entry)) .actions) i no-action .owner) ⌝ }
+{
+    let at = ACTIONS_AT + i * ACT_ROW;
+    if reference(number_at(chart, at + 1)) != owner_number(owner) {
+        return false;
+    }
+    same_owner(
+        owner,
+        owner_by(number_at(chart, at), number_at(chart, at + 1)),
+    )
+}
+
 // "An owner's actions run in line order"; the first refusal ends them.
 pub fn perform_all(
     chart: &[i32],
@@ -85,11 +107,10 @@ pub fn perform_all(
 {
     let mut went = Went { number: 0, at: at };
     for i in 0..action_count(chart) {
-        let row = action_row(chart, i);
-        let whose = row.owner;
-        if !same_owner(owner, whose) {
+        if !is_owned(chart, i, owner) {
             continue;
         }
+        let row = action_row(chart, i);
         let act = row.act;
         let bounds = var_row(chart, act_var(act));
         went = perform(bounds, arg, act, vars, queue, trace, went.at);

@@ -1,7 +1,10 @@
 pub mod Walk
 pub mod Aim
+pub mod Inside
 pub mod Seen
+pub mod Rows
 pub mod Meets
 pub mod Thin
 pub mod Loop
 pub mod All
+pub mod Turns

@@ -4,10 +4,12 @@ use mathlib.Core.Path.{_≡_, refl, sym, ap, _∙_, subst}
 use Prim.Native.Nat.{ℕ, suc, _+_, _-_, _≤_, _<_}
 use native.Mathlib.Omega.{arith}
 use mathlib.Core.Bool.{Bool, true, false}
-use mathlib.Core.List.{List, []}
-use lib.ListN.{length, getD}
+use mathlib.Core.List.{List, [], _∷_, _++_}
+use native.Mathlib.Numerals.{add-one}
+use lib.ListN.{length, getD, take, set, replicate, length-replicate, length-set}
+use lib.Seq.{take-suc-set}
 use lib.IntN.{ℤ}
-use Rattle.sizes.specs.Sizes.{STATES, VARIABLES}
+use Rattle.sizes.specs.Sizes.{STATES, VARIABLES, TRANSITIONS}
 use Rattle.meaning.specs.declared.State.{State}
 use Rattle.meaning.specs.declared.chart.Guard.{Guard}
 use Rattle.meaning.specs.declared.chart.Guard.the-variants.{Always as always, Compares as compares}
@@ -23,16 +25,17 @@ use Rattle.laws.proofs.Value.{sized-chart}
 use Rattle.tree_walks.specs.Walks.{Ruled}
 use Rattle.tree_walks.proofs.Passing.{sound, rules-passed}
 use Rattle.choice.specs.declared.Span.{Span}
-use Rattle.choice.specs.Span.{Spans, Aims}
-use Rattle.choice.specs.declared.Pick.{Pick}
-use Rattle.choice.specs.Choice.{Reads, picked-by, gone-after, with-rest}
-use Rattle.choice.proofs.Thin.{rest-longer, rest-end, picked-length}
+use Rattle.choice.specs.Span.{Spans, Aims, Goes}
+use Rattle.choice.specs.Choice.{Reads}
+use Rattle.choice.proofs.Meets.{Gone, gone-none, gone-more, clash-hit, clash-none}
+use Rattle.choice.proofs.Thin.{gone-after, gone-snoc}
 
 reads-by : (c : Chart) (g : Guard) → length (c .vars) ≤ VARIABLES → Guard-facts c g → Reads g
 reads-by c always l f = tt
 reads-by c (compares v s x) l f = omega arith
 
-module _ (v : List ℤ) (h : Ruled v) (t : ℕ) (row : TransRow) (e : row ≡ trans-row (chart-of v) t) (l : t < length (chart-of v .transitions)) where
+module _ (v : List ℤ) (h : Ruled v) (t : ℕ) (row : TransRow) (e : row ≡ trans-row (chart-of v) t)
+    (l : t < length (chart-of v .transitions)) where
   facts : Transition-facts (chart-of v) row
   facts = rw e (sound v h .transitions t l)
 
@@ -55,20 +58,47 @@ module _ (v : List ℤ) (h : Ruled v) (t : ℕ) (row : TransRow) (e : row ≡ tr
   pub row-source : (s : ℕ) → row .source ≡ s → trans-row (chart-of v) t .source ≡ s
   row-source s q = rw (← e) q
 
+pub source-small : (v : List ℤ) (h : Ruled v) (t n : ℕ) → n ≡ trans-row (chart-of v) t .source → t < length (chart-of v .transitions)
+    → n < STATES
+source-small v h t n e l = omega (arith, e, row-fits v h t (trans-row (chart-of v) t) refl l .0)
+
 -- ---- all numbers up to one more
 
 pub up-to : (P : ℕ → Type 0) (j : ℕ) → ((i : ℕ) → i < j → P i) → P j → (i : ℕ) → i < j + 1 → P i
 up-to P j h p i l = ⊎-elim (λ q. let z : j ≡ i = omega arith in subst P z p) (h i) (le-or-lt j i)
 
--- ---- there is room for one more where one more is chosen; and after the last nothing is left to choose
+-- ---- the picks so far, with the states that are gone
 
-module _ (c : Chart) (e : ℕ) (u : State) (s t n k : ℕ) (at : ℕ) (ps : List Pick) (before : List ℕ)
-    (inv : with-rest c e u s t (n - t) (picked-by at ps) ≡ with-rest c e u s 0 n before) (q : n ≡ k) where
-  pub take-room : (m : ℕ) → at ≤ length ps → t < n → trans-row c t .source ≡ s → enabled c e u t ≡ true → meets (span c t) (gone-after c [] (picked-by at ps)) ≡ false
-      → length (with-rest c e u s 0 k before) ≤ m → at < m
-  take-room m b l o f x r =
-      let all : length (with-rest c e u s t (n - t) (picked-by at ps)) ≤ m = rw (inv, q) r in
-      omega (arith, picked-length ps at b, rest-longer c e u s t n l (picked-by at ps) o f x)
+pub record Held (c : Chart) (picks : List ℕ) (count : ℕ) (gone : List Bool) : Type 0 where
+  pub few : count ≤ TRANSITIONS
+  pub size : length picks ≡ TRANSITIONS
+  pub marks : Gone (gone-after c [] (take count picks)) gone
+  pub long : length gone ≡ STATES
 
-  pub all-taken : n ≤ t → picked-by at ps ≡ with-rest c e u s 0 k before
-  all-taken l = sym (rest-end c e u s t n (picked-by at ps) l) ∙ inv ∙ ap (λ x. with-rest c e u s 0 x before) q
+pub held-none : (c : Chart) (picks : List ℕ) → length picks ≡ TRANSITIONS → Held c picks 0 (replicate STATES false)
+unfolding gone-after
+held-none c picks l = record { few = omega arith; size = l; marks = gone-none; long = length-replicate STATES false }
+
+pub one-more : (picks : List ℕ) (count t : ℕ) → count < length picks → take (count + 1) (set picks count t) ≡ take count picks ++ (t ∷ [])
+one-more picks count t l = rw (add-one count, take-suc-set picks count t l)
+
+pub held-more : (c : Chart) (picks : List ℕ) (count : ℕ) (gone new : List Bool) (t : ℕ) (r : Span) → Held c picks count gone
+    → count < TRANSITIONS → Spans (span c t) r → Goes r gone new → Held c (set picks count t) (count + 1) new
+held-more c picks count gone new t r h l f g = record {
+  few = omega arith;
+  size = length-set picks count t ∙ h .size;
+  marks = subst (λ ps. Gone (gone-after c [] ps) new) (sym (one-more picks count t (omega (arith, h .size))))
+      (subst (λ ps. Gone ps new) (sym (gone-snoc c [] (take count picks) t)) (gone-more (span c t) _ r gone new f g (h .marks)));
+  long = g .long ∙ h .long;
+}
+
+-- a span clashes where one of its states is gone
+module _ {c : Chart} {picks : List ℕ} {count : ℕ} {gone : List Bool} (h : Held c picks count gone) (t : ℕ) {r : Span}
+    (f : Spans (span c t) r) (l : r .end ≤ STATES) where
+  pub held-clash : (x : ℕ) → r .first ≤ x → x < r .end → getD gone x false ≡ true → meets (span c t)
+      (gone-after c [] (take count picks)) ≡ true
+  held-clash x p q e = clash-hit (span c t) _ r f x p q (sym (h .marks x (omega arith)) ∙ e)
+
+  pub held-apart : ((x : ℕ) → r .first ≤ x → x < r .end → getD gone x false ≡ false) → meets (span c t)
+      (gone-after c [] (take count picks)) ≡ false
+  held-apart e = clash-none (span c t) _ r f (λ x p q. sym (h .marks x (omega arith)) ∙ e x p q)

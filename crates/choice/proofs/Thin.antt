@@ -4,10 +4,9 @@ use mathlib.Core.Path.{_≡_, refl, sym, ap, _∙_, subst}
 use Prim.Native.Nat.{ℕ, zero, suc, _+_, _-_, _≤_, _<_}
 use native.Mathlib.Omega.{arith}
 use native.Mathlib.Numerals.{add-one}
-use mathlib.Core.Bool.{Bool, true, false, cond}
+use mathlib.Core.Bool.{Bool, true, false, cond, _&&_, true≢false}
 use mathlib.Core.List.{List, [], _∷_, _++_, map, append-nil, append-assoc}
-use lib.ListN.{length, getD, take, set, length-append, length-map, length-set}
-use lib.Seq.{length-take-le, take-suc-set, getD-set-same, getD-set-other}
+use lib.ListN.{length, length-append}
 use lib.Dec.{eqb}
 use borrow.Author.Tests.{eq-eqb, ne-eqb}
 use Rattle.sizes.specs.Sizes.{TRANSITIONS}
@@ -15,14 +14,25 @@ use Rattle.meaning.specs.declared.State.{State}
 use Rattle.meaning.specs.Lists.{keep, from}
 use Rattle.meaning.specs.Chart.{Chart}
 use Rattle.meaning.specs.Tree.{trans-row, span}
-use Rattle.meaning.specs.Reaction.{enabled, meets, thin}
-use Rattle.laws.proofs.Lists.{le-or-lt}
+use Rattle.meaning.specs.Reaction.{enabled-by, enabled, meets, thin}
+use Rattle.laws.proofs.Lists.{same-or, and-both}
 use mathlib.Core.Logic.{⊎-elim}
-use Rattle.choice.specs.declared.Pick.{Pick}
-use Rattle.choice.specs.Span.{Spans}
-use Rattle.choice.specs.Choice.{no-pick, picked-by, gone-after, candidates-from, with-rest, Kept}
+use Rattle.choice.specs.Choice.{meant}
 
-gone-snoc : (c : Chart) (g : List ℕ) (ts : List ℕ) (t : ℕ) → gone-after c g (ts ++ (t ∷ [])) ≡ span c t ++ gone-after c g ts
+-- the states of the spans already chosen
+unfoldable pub gone-after : Chart → List ℕ → List ℕ → List ℕ
+gone-after c gone [] = gone
+gone-after c gone (t ∷ ts) = gone-after c (span c t ++ gone) ts
+
+-- the enabled transitions of one source from t on, n of them at most
+unfoldable pub candidates-from : Chart → ℕ → State → ℕ → ℕ → ℕ → List ℕ
+candidates-from c e u s t n = keep (λ x. eqb (trans-row c x .source) s) (keep (enabled c e u) (from t n))
+
+-- the chosen so far with what the enabled transitions of the source s from t on, n at most, add to them
+unfoldable pub with-rest : Chart → ℕ → State → ℕ → ℕ → ℕ → List ℕ → List ℕ
+with-rest c e u s t n ps = ps ++ thin c (gone-after c [] ps) (candidates-from c e u s t n)
+
+pub gone-snoc : (c : Chart) (g : List ℕ) (ts : List ℕ) (t : ℕ) → gone-after c g (ts ++ (t ∷ [])) ≡ span c t ++ gone-after c g ts
 unfolding gone-after
 gone-snoc c g [] t = refl
 gone-snoc c g (x ∷ ts) t = gone-snoc c (span c x ++ g) ts t
@@ -64,7 +74,8 @@ module _ (c : Chart) (e : ℕ) (u : State) (s t n : ℕ) (l : t < n) (ps : List 
   unfolding with-rest next
   rest-other o = go (enabled c e u t) refl
     where
-      go : (f : Bool) → enabled c e u t ≡ f → ps ++ thin c (gone-after c [] ps) (candidates-from c e u s (t + 1) (n - (t + 1))) ≡ ps ++ thin c (gone-after c [] ps) (candidates-from c e u s t (n - t))
+      go : (f : Bool) → enabled c e u t ≡ f → ps ++ thin c (gone-after c [] ps)
+          (candidates-from c e u s (t + 1) (n - (t + 1))) ≡ ps ++ thin c (gone-after c [] ps) (candidates-from c e u s t (n - t))
       go true f = rw (candidates-next false true (ne-eqb _ s o) f)
       go false f = rw (candidates-next false false (ne-eqb _ s o) f)
 
@@ -72,18 +83,39 @@ module _ (c : Chart) (e : ℕ) (u : State) (s t n : ℕ) (l : t < n) (ps : List 
   unfolding with-rest next
   rest-off f = go (eqb (trans-row c t .source) s) refl
     where
-      go : (o : Bool) → eqb (trans-row c t .source) s ≡ o → ps ++ thin c (gone-after c [] ps) (candidates-from c e u s (t + 1) (n - (t + 1))) ≡ ps ++ thin c (gone-after c [] ps) (candidates-from c e u s t (n - t))
+      go : (o : Bool) → eqb (trans-row c t .source) s ≡ o → ps ++ thin c (gone-after c [] ps)
+          (candidates-from c e u s (t + 1) (n - (t + 1))) ≡ ps ++ thin c (gone-after c [] ps) (candidates-from c e u s t (n - t))
       go true o = rw (candidates-next true false o f)
       go false o = rw (candidates-next false false o f)
 
-  module _ (o : trans-row c t .source ≡ s) (f : enabled c e u t ≡ true) where
-    pub rest-clash : meets (span c t) (gone-after c [] ps) ≡ true → with-rest c e u s (t + 1) (n - (t + 1)) ps ≡ with-rest c e u s t (n - t) ps
-    unfolding with-rest next
-    rest-clash m = rw (candidates-next true true (eq-eqb _ s o) f, thin-clash c (gone-after c [] ps) t (candidates-from c e u s (t + 1) (n - (t + 1))) m)
+  -- a row of another source or trigger
+  pub rest-passed : meant (trans-row c t) s e ≡ false → with-rest c e u s (t + 1) (n - (t + 1)) ps ≡ with-rest c e u s t (n - t) ps
+  unfolding meant enabled enabled-by
+  rest-passed m = ⊎-elim
+      (λ o. rest-off (rw (ne-eqb (trans-row c t .trigger) e (λ z. true≢false
+      (sym (and-both _ _ (eq-eqb (trans-row c t .source) s o) (eq-eqb (trans-row c t .trigger) e z)) ∙ m)))))
+      rest-other (same-or (trans-row c t .source) s)
 
-    pub rest-take : meets (span c t) (gone-after c [] ps) ≡ false → with-rest c e u s (t + 1) (n - (t + 1)) (ps ++ (t ∷ [])) ≡ with-rest c e u s t (n - t) ps
+  module _ (o : trans-row c t .source ≡ s) (f : enabled c e u t ≡ true) where
+    pub rest-clash : meets (span c t) (gone-after c [] ps) ≡ true → with-rest c e u s (t + 1) (n - (t + 1)) ps ≡ with-rest c e u s t
+        (n - t) ps
     unfolding with-rest next
-    rest-take m = rw (candidates-next true true (eq-eqb _ s o) f, thin-take c (gone-after c [] ps) t (candidates-from c e u s (t + 1) (n - (t + 1))) m, gone-snoc c [] ps t, append-assoc)
+    rest-clash m = rw (
+      candidates-next true true (eq-eqb _ s o) f,
+      thin-clash c (gone-after c [] ps) t
+          (candidates-from c e u s (t + 1) (n - (t + 1))) m,
+    )
+
+    pub rest-take : meets (span c t) (gone-after c [] ps) ≡ false → with-rest c e u s (t + 1) (n - (t + 1))
+        (ps ++ (t ∷ [])) ≡ with-rest c e u s t (n - t) ps
+    unfolding with-rest next
+    rest-take m = rw (
+      candidates-next true true (eq-eqb _ s o) f,
+      thin-take c (gone-after c [] ps) t
+          (candidates-from c e u s (t + 1) (n - (t + 1))) m,
+      gone-snoc c [] ps t,
+      append-assoc,
+    )
 
     -- one more is chosen, so there is room for it
     pub rest-longer : meets (span c t) (gone-after c [] ps) ≡ false → length ps < length (with-rest c e u s t (n - t) ps)
@@ -93,19 +125,3 @@ module _ (c : Chart) (e : ℕ) (u : State) (s t n : ℕ) (l : t < n) (ps : List 
 pub rest-end : (c : Chart) (e : ℕ) (u : State) (s t n : ℕ) (ps : List ℕ) → n ≤ t → with-rest c e u s t (n - t) ps ≡ ps
 unfolding with-rest candidates-from from keep thin
 rest-end c e u s t n ps l = let q : n - t ≡ 0 = omega arith in rw q (append-nil ps)
-
--- ---- one more pick in the array
-
-module _ (ps : List Pick) (at : ℕ) (p : Pick) (l : at < length ps) where
-  pub picked-more : picked-by (at + 1) (set ps at p) ≡ picked-by at ps ++ (p .transition ∷ [])
-  picked-more = rw (add-one at, take-suc-set ps at p l) (map-snoc (take at ps))
-    where
-      map-snoc : (qs : List Pick) → map (λ q. q .transition) (qs ++ (p ∷ [])) ≡ map (λ q. q .transition) qs ++ (p .transition ∷ [])
-      map-snoc [] = refl
-      map-snoc (q ∷ qs) = ap (λ r. q .transition ∷ r) (map-snoc qs)
-
-  pub kept-more : (c : Chart) → Kept c at ps → Spans (span c (p .transition)) (p .span) → Kept c (at + 1) (set ps at p)
-  kept-more c k s j m = ⊎-elim (λ q. let z : at ≡ j = omega arith in rw (← z, getD-set-same ps at p no-pick l) s) (λ q. rw (getD-set-other ps at j p no-pick (λ z. omega arith)) (k j q)) (le-or-lt at j)
-
-pub picked-length : (ps : List Pick) (at : ℕ) → at ≤ length ps → length (picked-by at ps) ≡ at
-picked-length ps at l = length-map (take at ps) (λ q. q .transition) ∙ length-take-le at ps l

@@ -1,8 +1,9 @@
 -- A span as a range (01, "Span"). Assumes nothing.
 use mathlib.Core.Path.{_≡_}
-use Prim.Native.Nat.{ℕ, _-_, _<_}
+use Prim.Native.Nat.{ℕ, _-_, _<_, _≤_}
+use mathlib.Core.Bool.{Bool, true, false}
 use mathlib.Core.List.{List}
-use lib.ListN.{length}
+use lib.ListN.{length, getD}
 use Rattle.meaning.specs.Lists.{from}
 use Rattle.meaning.specs.Chart.{Chart}
 use Rattle.meaning.specs.declared.chart.Target.{Target}
@@ -17,3 +18,10 @@ pub record Spans (l : List ℕ) (r : Span) : Type 0 where
 -- a source and a target as R6 wants them
 abbrev pub Aims : Chart → ℕ → Target → Type 0
 Aims c s t = (s < length (c .states)) × Target-facts c s t
+
+-- the states of a span are marked, the others stay as they were
+pub record Goes (r : Span) (old new : List Bool) : Type 0 where
+  pub within : (x : ℕ) → r .first ≤ x → x < r .end → getD new x false ≡ true
+  pub below : (x : ℕ) → x < r .first → getD new x false ≡ getD old x false
+  pub long : length new ≡ length old
+  pub above : (x : ℕ) → r .end ≤ x → getD new x false ≡ getD old x false

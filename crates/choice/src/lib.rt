@@ -1,4 +1,7 @@
 // Which transitions a step fires (01, "Enabled", "Chosen"): the guards, the span of a transition as a range, and the chooser.
+use chart_rows::layout::TRANS_ROW;
+use chart_rows::layout::TRANSITIONS_AT;
+use chart_rows::number_at;
 use chart_rows::state_count;
 use chart_rows::trans_row;
 use chart_rows::transition_count;
@@ -7,6 +10,7 @@ use meaning::chart::Sign;
 use meaning::chart::Target;
 use meaning::chart::TransRow;
 use numbers::less;
+use numbers::reference;
 use numbers::same;
 use sizes::STATES;
 use sizes::TRANSITIONS;
@@ -15,31 +19,20 @@ use tree_walks::end_below;
 use tree_walks::scope;
 ghost use mathlib.Core.Path.{_≡_};
 ghost use mathlib.Core.List.{[]};
-ghost use Prim.Native.Nat.{_<_};
-ghost use Rattle.sizes.specs.Sizes.{STATES as states};
-ghost use Rattle.meaning.specs.Tree.{span-of};
+ghost use Prim.Native.Nat.{_<_, _≤_};
+ghost use lib.ListN.{length};
+ghost use Rattle.sizes.specs.Sizes.{STATES as states, TRANSITIONS as transitions};
+ghost use Rattle.meaning.specs.Tree.{span-of, trans-row};
 ghost use Rattle.meaning.specs.Value.{chart-of};
 ghost use Rattle.meaning.specs.Reaction.{compare-by, guard-holds, enabled-by};
 ghost use Rattle.tree_walks.specs.Walks.{Ruled};
-ghost use Rattle.choice.specs.Span.{Spans, Aims};
-ghost use Rattle.choice.specs.Choice.{seen, overlap, Reads, Picked, Fewer, Chose};
+ghost use Rattle.choice.specs.Span.{Spans, Aims, Goes};
+ghost use Rattle.choice.specs.Choice.{seen, Reads, meant, Sources, Chose};
 
 // The numbers from first up to below end.
 pub struct Span {
     pub first: usize,
     pub end: usize,
-}
-
-// A chosen transition with its span.
-pub struct Pick {
-    pub transition: usize,
-    pub span: Span,
-}
-
-// The chosen so far, in the order in which they fire.
-pub struct Chosen {
-    pub count: usize,
-    pub picks: [Pick; TRANSITIONS],
 }
 
 // "all proper descendants of the scope; for a reaction in place, the source and its descendants"
@@ -68,17 +61,6 @@ pub fn span_of(chart: &[i32], s: usize, target: Target) -> Span
             first: s,
             end: end_below(chart, s),
         },
-    }
-}
-
-// Whether two spans have a state in common.
-fn spans_meet(a: Span, b: Span) -> bool
-    ensures { λ r. ⌜ r ≡ overlap a b ⌝ }
-{
-    if a.first < b.end {
-        b.first < a.end
-    } else {
-        false
     }
 }
 
@@ -125,70 +107,103 @@ pub fn enabled(
     guard_true(guard, vars)
 }
 
-// The chosen of one source, "rising transition number, less any whose span meets that of one already chosen".
-fn choose_at(
-    chart: &[i32],
-    event: usize,
-    s: usize,
-    active: &[bool; STATES],
-    vars: &[i32; VARIABLES],
-    before: Chosen,
-) -> Chosen
-    requires { ⌜ Ruled (now chart) × Fewer (chart-of (now chart)) event (seen (now active) (now vars)) s before ⌝ }
-    ensures { λ r. ⌜ Picked (chart-of (now (chart .entry))) event (seen (now (active .entry)) (now (vars .entry))) s before r ⌝ }
+// The source of transition t, read where it stands: nothing else of its row is decoded.
+fn source_at(chart: &[i32], t: usize) -> usize
+    requires { ⌜ t < length (chart-of (now chart) .transitions) ⌝ }
+    ensures { λ r. ⌜ r ≡ trans-row (chart-of (now (chart .entry))) t .source ⌝ }
 {
-    let mut out = before;
-    let mut at = before.count;
-    let n = transition_count(chart);
-    'transitions: for t in 0..n {
-        let row = trans_row(chart, t);
-        if row.source != s {
-            continue;
-        }
-        if !enabled(row, event, active, vars) {
-            continue;
-        }
-        let target = row.target;
-        let span = span_of(chart, s, target);
-        for j in 0..at {
-            let pick = out.picks[j];
-            let taken = pick.span;
-            if spans_meet(span, taken) {
-                continue 'transitions;
-            }
-        }
-        out.picks[at] = Pick {
-            transition: t,
-            span: span,
-        };
-        at += 1;
-    }
-    out.count = at;
-    out
+    reference(number_at(chart, TRANSITIONS_AT + t * TRANS_ROW))
 }
 
-// "the enabled, by falling source then rising transition number, less any whose span meets that of one already chosen"
+// The trigger of transition t, likewise.
+fn trigger_at(chart: &[i32], t: usize) -> usize
+    requires { ⌜ t < length (chart-of (now chart) .transitions) ⌝ }
+    ensures { λ r. ⌜ r ≡ trans-row (chart-of (now (chart .entry))) t .trigger ⌝ }
+{
+    reference(number_at(chart, TRANSITIONS_AT + t * TRANS_ROW + 1))
+}
+
+// The active sources of the transitions with this trigger: no other state can add to the chosen.
+fn sources_of(chart: &[i32], event: usize, active: &[bool; STATES]) -> [bool; STATES]
+    requires { ⌜ Ruled (now chart) ⌝ }
+    ensures { λ r. ⌜ Sources (chart-of (now (chart .entry))) event (now (active .entry)) r ⌝ }
+{
+    let mut sources = [false; STATES];
+    let n = transition_count(chart);
+    for t in 0..n {
+        if trigger_at(chart, t) != event {
+            continue;
+        }
+        let s = source_at(chart, t);
+        sources[s] = active[s];
+    }
+    sources
+}
+
+// Whether transition t has this source and this trigger.
+fn row_meant(chart: &[i32], t: usize, s: usize, event: usize) -> bool
+    requires { ⌜ t < length (chart-of (now chart) .transitions) ⌝ }
+    ensures { λ r. ⌜ r ≡ meant (trans-row (chart-of (now (chart .entry))) t) s event ⌝ }
+{
+    if source_at(chart, t) != s {
+        return false;
+    }
+    trigger_at(chart, t) == event
+}
+
+// The states of a span are gone: no later span may meet them.
+fn mark_gone(span: Span, gone: &mut [bool; STATES])
+    requires { ⌜ (span .first < span .end) × (span .end ≤ states) × (length (now gone) ≡ states) ⌝ }
+    ensures { λ r. ⌜ Goes span (now (gone .entry)) (now (gone .exit)) ⌝ }
+{
+    let mut x = span.first;
+    while x < span.end {
+        gone[x] = true;
+        x += 1;
+    }
+}
+
+// "the enabled, by falling source then rising transition number, less any whose span meets that of one already chosen": their
+// numbers stand in picks.
 pub fn choose(
     chart: &[i32],
     event: usize,
     active: &[bool; STATES],
     vars: &[i32; VARIABLES],
-) -> Chosen
-    requires { ⌜ Ruled (now chart) ⌝ }
-    ensures { λ r. ⌜ Chose (chart-of (now (chart .entry))) event (now (active .entry)) (now (vars .entry)) r ⌝ }
+    picks: &mut [usize; TRANSITIONS],
+) -> usize
+    requires { ⌜ Ruled (now chart) × (length (now picks) ≡ transitions) ⌝ }
+    ensures { λ r. ⌜ Chose (chart-of (now (chart .entry))) event (now (active .entry)) (now (vars .entry)) r (now (picks .exit)) ⌝ }
 {
-    let none = Pick {
-        transition: 0,
-        span: Span { first: 0, end: 0 },
-    };
-    let mut out = Chosen {
-        count: 0,
-        picks: [none; TRANSITIONS],
-    };
+    let n = transition_count(chart);
+    let sources = sources_of(chart, event, active);
+    let mut gone = [false; STATES];
+    let mut count: usize = 0;
     let mut s = state_count(chart);
-    while 0 < s {
+    'sources: while 0 < s {
         s -= 1;
-        out = choose_at(chart, event, s, active, vars, out);
+        if !sources[s] {
+            continue;
+        }
+        'transitions: for t in 0..n {
+            if !row_meant(chart, t, s, event) {
+                continue;
+            }
+            let row = trans_row(chart, t);
+            if !enabled(row, event, active, vars) {
+                continue;
+            }
+            let target = row.target;
+            let span = span_of(chart, s, target);
+            for x in span.first..span.end {
+                if gone[x] {
+                    continue 'transitions;
+                }
+            }
+            mark_gone(span, &mut gone);
+            picks[count] = t;
+            count += 1;
+        }
     }
-    out
+    count
 }

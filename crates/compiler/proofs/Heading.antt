@@ -19,6 +19,7 @@ use Rattle.acts.proofs.Acting.{events-most}
 use Rattle.choice.specs.Choice.{Reads}
 use Rattle.choice.specs.Span.{Spans, Aims}
 use Rattle.choice.specs.declared.Span.{Span}
+use Rattle.choice.proofs.Inside.{span-ends}
 use Rattle.meaning.specs.Chart.{Chart, no-var}
 use Rattle.meaning.specs.declared.chart.Guard.{Guard}
 use Rattle.meaning.specs.declared.chart.Guard.the-variants.{Always as always, Compares as compares}
@@ -49,21 +50,6 @@ unfolding last-of from
 last-from a zero = omega arith
 last-from a (suc n) = omega (arith, last-from (suc a) n)
 
-last-in : (m a n : ℕ) → Each (λ x. x < m) (from a (suc n)) → a + n < m
-unfolding from
-last-in m a zero (one-more p ps) = omega arith
-last-in m a (suc n) (one-more p ps) = omega (arith, last-in m (suc a) n ps)
-
-below-in : (c : Chart) (s : ℕ) → Each (λ x. x < length (c .states)) (descendants c s)
-unfolding descendants all-states
-below-in c s = each-kept _ (λ d. has s (ancestors c d)) (from 0 (length (c .states))) (each-range 0 (length (c .states)) (length (c .states)) (omega arith))
-
-span-in : (c : Chart) (s : ℕ) → s < length (c .states) → (t : Target) → Each (λ x. x < length (c .states)) (span-of c s t)
-unfolding span-of
-span-in c s l (to d) = below-in c (scope c s d)
-span-in c s l (history b) = below-in c (scope c s b)
-span-in c s l in-place = one-more {x = s} l (below-in c s)
-
 module _ (v : List ℤ) (r : Ruled v) (t : ℕ) (l : t < length (chart-of v .transitions)) (row : TransRow) (e : row ≡ trans-row (chart-of v) t) where
   pub row-facts : Transition-facts (chart-of v) row
   row-facts = subst (Transition-facts (chart-of v)) (sym e) (sound v r .transitions t l)
@@ -93,11 +79,7 @@ module _ (v : List ℤ) (r : Ruled v) (t : ℕ) (l : t < length (chart-of v .tra
         y ∙ sym (ap last-of (the-span ∙ ap (from (x .first)) z) ∙ last-from (x .first) ((x .end - 1) - x .first))
 
     pub span-small : x .end ≤ STATES
-    span-small =
-        let z : x .end - x .first ≡ suc ((x .end - 1) - x .first) = omega (arith, w .some) in
-        let y = last-in (length (chart-of v .states)) (x .first) ((x .end - 1) - x .first)
-        (subst (Each (λ n. n < length (chart-of v .states))) (w .is ∙ ap (from (x .first)) z) (span-in (chart-of v) (row .source) (row-facts .source) (row .target))) in
-        omega (arith, w .some, states-most v)
+    span-small = omega (arith, span-ends (chart-of v) (row .source) (row-facts .source) (row .target) x w, states-most v)
 
 -- a head, from its three parts
 pub head-put : (c : Chart) (t start len : ℕ) (row : TransRow) → row ≡ trans-row c t → (first last : ℕ) → first ≡ first-of (span c t) → last ≡ last-of (span c t)

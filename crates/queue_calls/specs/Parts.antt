@@ -1,10 +1,12 @@
 -- Parts of the test for answer 6 (01, "Answer numbers") as the functions compute them, and an answer without entries. Assumes nothing.
-use Prim.Native.Nat.{ℕ}
+use mathlib.Core.Path.{_≡_}
+use Prim.Native.Nat.{ℕ, _<_}
 use mathlib.Core.Bool.{Bool, false, cond}
 use mathlib.Core.List.{List, []}
 use lib.ListN.{length, getD}
 use lib.IntN.{ℤ, pos}
 use lib.Dec.{ltb}
+use Rattle.sizes.specs.Sizes.{STATES}
 use Rattle.numbers.specs.Equal.{eqZ}
 use Rattle.meaning.specs.declared.chart.VarRow.{VarRow}
 use Rattle.meaning.specs.Lists.{keep}
@@ -18,6 +20,12 @@ use Rattle.queue_calls.specs.declared.own.Tally.{Tally}
 -- how many children a state has, and how many of them are marked
 unfoldable pub tally-of : Chart → List Bool → ℕ → Tally
 tally-of c marks s = record { all = length (children c s); on = length (keep (λ d. getD marks d false) (children c s)) }
+
+-- the same of every state
+pub record Tallied (c : Chart) (marks : List Bool) (all on : List ℕ) : Type 0 where
+  pub all-long : length all ≡ STATES
+  pub on-long : length on ≡ STATES
+  pub told : (s : ℕ) → s < STATES → record { all = getD all s 0; on = getD on s 0 } ≡ tally-of c marks s
 
 -- "value out of range", or an unused variable that is not 0
 unfoldable pub value-fits : List VarRow → ℕ → ℤ → Bool

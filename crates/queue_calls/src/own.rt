@@ -1,6 +1,7 @@
 // The test for answer 6 in full (01, "Answer numbers"): whether a started state is its chart's own. Each clause is a function
 // that equals its definition on every chart value and every state; none of them asks that the chart passes the rules.
 use chart_rows::kind_of;
+use chart_rows::parent_of;
 use chart_rows::state_count;
 use chart_rows::tree::is_child;
 use chart_rows::tree::is_o;
@@ -28,41 +29,52 @@ ghost use Rattle.meaning.specs.Tree.{kind-of, children};
 ghost use Rattle.meaning.specs.Value.{chart-of};
 ghost use Rattle.meaning.specs.Widget.{is-filled, slot};
 ghost use Rattle.meaning.specs.Foreign.{legal-at, legal, values-fit, leads-on, slot-fits, slots-fit, own as owns};
-ghost use Rattle.queue_calls.specs.Parts.{tally-of, value-fits};
+ghost use Rattle.queue_calls.specs.Parts.{tally-of, Tallied, value-fits};
 
 // How many children a state has, and how many of them are active.
 pub struct Tally {
-    pub all: usize,
-    pub on: usize,
+    pub all: u8,
+    pub on: u8,
 }
 
-fn count_children(chart: &[i32], active: &[bool; STATES], s: usize) -> Tally
-    ensures { λ r. ⌜ r ≡ tally-of (chart-of (now (chart .entry))) (now (active .entry)) s ⌝ }
+// The same of every state.
+struct Tallies {
+    all: [u8; STATES],
+    on: [u8; STATES],
+}
+
+// One pass over the states: each is counted at its parent.
+fn count_children(chart: &[i32], active: &[bool; STATES]) -> Tallies
+    ensures { λ r. ⌜ Tallied (chart-of (now (chart .entry))) (now (active .entry)) (r .all) (r .on) ⌝ }
 {
     let n = state_count(chart);
-    let mut all: usize = 0;
-    let mut on: usize = 0;
-    let mut d: usize = 0;
-    while d < n {
-        let at = d;
-        d += 1;
-        if !is_child(chart, s, at) {
+    let mut all = [0u8; STATES];
+    let mut on = [0u8; STATES];
+    let mut next: usize = 0;
+    while next < n {
+        let d = next;
+        next += 1;
+        if d == 0 {
             continue;
         }
-        all += 1;
-        if active[at] {
-            on += 1;
+        let p = parent_of(chart, d);
+        if STATES <= p {
+            continue;
         }
+        all[p] = all[p] + 1;
+        if !active[d] {
+            continue;
+        }
+        on[p] = on[p] + 1;
     }
-    Tally { all: all, on: on }
+    Tallies { all, on }
 }
 
 // 01: one child of each o state in it and all children of each a state in it; below a state that is not in it nothing is.
-fn legal_at(chart: &[i32], active: &[bool; STATES], s: usize) -> bool
-    requires { ⌜ s < states ⌝ }
+fn legal_at(chart: &[i32], active: &[bool; STATES], s: usize, t: Tally) -> bool
+    requires { ⌜ (s < states) × (t ≡ tally-of (chart-of (now chart)) (now active) s) ⌝ }
     ensures { λ r. ⌜ ((u : Widget) → u .active ≡ now (active .entry) → r ≡ legal-at (chart-of (now (chart .entry))) u s) ⌝ }
 {
-    let t = count_children(chart, active, s);
     if !active[s] {
         return t.on == 0;
     }
@@ -81,9 +93,16 @@ fn legal(chart: &[i32], active: &[bool; STATES]) -> bool
         return false;
     }
     let n = state_count(chart);
+    let counted = count_children(chart, active);
+    let all = counted.all;
+    let on = counted.on;
     let mut s: usize = 0;
     while s < n {
-        if !legal_at(chart, active, s) {
+        let t = Tally {
+            all: all[s],
+            on: on[s],
+        };
+        if !legal_at(chart, active, s, t) {
             return false;
         }
         s += 1;

@@ -3,7 +3,7 @@ use mathlib.Core.Path.{_≡_, refl, sym, ap, _∙_, subst}
 use Prim.Native.Nat.{ℕ, _+_, _≤_, _<_}
 use native.Mathlib.Omega.{arith}
 use mathlib.Core.List.{List}
-use lib.ListN.{length, getD, drop, take, length-map}
+use lib.ListN.{length, getD, drop, take}
 use lib.Seq.{length-take-le, getD-take}
 use lib.IntN.{ℤ}
 use Rattle.meaning.specs.Steps.{_then_, each}
@@ -11,36 +11,26 @@ use Rattle.meaning.specs.Chart.{Chart}
 use Rattle.meaning.specs.Reaction.{fire}
 use Rattle.meaning.specs.Value.{chart-of}
 use Rattle.laws.proofs.Lists.{each-at}
-use Rattle.laws.proofs.Value.{getD-map}
 use Rattle.tree_walks.proofs.Passing.{sound}
 use Rattle.widget.specs.View.{Lent, ctx, Did, Owes}
 use Rattle.widget.specs.declared.Went.{Went}
 use Rattle.widget.proofs.Going as going
 use Rattle.invariants.proofs.GoodReaction.{fire-good}
-use Rattle.choice.specs.Choice.{picked, no-pick}
-use Rattle.choice.specs.declared.Chosen.{Chosen}
+use Rattle.choice.specs.Choice.{picked}
 use Rattle.reaction.specs.Ready.{Ready, Fires}
 use Rattle.reaction.proofs.Going.{sized, ready-next}
 
 -- how many fire, and which is the j-th
-module _ (c : Chart) (r : Chosen) (f : Fires c r) where
-  pub fires-long : length (picked r) ≡ r .count
-  fires-long = length-map (take (r .count) (r .picks)) (λ p. p .transition)
-      ∙ length-take-le (r .count) (r .picks) (omega (arith, f .few, f .size))
+module _ (c : Chart) (count : ℕ) (picks : List ℕ) (f : Fires c count picks) where
+  pub fires-long : length (picked count picks) ≡ count
+  fires-long = length-take-le count picks (omega (arith, f .few, f .size))
 
-  pub fires-at : (j : ℕ) → j < r .count → getD (picked r) j 0 ≡ getD (r .picks) j no-pick .transition
-  fires-at j l =
-      let q : j < length (take (r .count) (r .picks)) = omega (
-        arith,
-        length-take-le (r .count) (r .picks) (omega
-            (arith, f .few, f .size)),
-      ) in
-      getD-map (λ p. p .transition) (take (r .count) (r .picks)) j 0 no-pick q
-      ∙ ap (λ p. p .transition) (getD-take (r .count) (r .picks) j no-pick l)
+  pub fires-at : (j : ℕ) → j < count → getD (picked count picks) j 0 ≡ getD picks j 0
+  fires-at j l = getD-take count picks j 0 l
 
-  pub fires-named : (j : ℕ) → j < r .count → getD (r .picks) j no-pick .transition < length (c .transitions)
+  pub fires-named : (j : ℕ) → j < count → getD picks j 0 < length (c .transitions)
   fires-named j l = subst (λ t. t < length (c .transitions)) (fires-at j l) (each-at
-      (λ t. t < length (c .transitions)) (picked r) (f .named) j (omega (arith, fires-long)) 0)
+      (λ t. t < length (c .transitions)) (picked count picks) (f .named) j (omega (arith, fires-long)) 0)
 
 pub record Firing (v : List ℤ) (arg : ℤ) (ps : List ℕ) (k : Lent) (at : ℕ) (j : ℕ) (k₁ : Lent) (at₁ : ℕ) : Type 0 where
   pub ready : Ready v k₁ at₁

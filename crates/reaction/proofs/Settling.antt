@@ -22,7 +22,6 @@ use Rattle.invariants.proofs.Good.{Good}
 use Rattle.invariants.proofs.GoodReaction.{fire-good}
 use Rattle.invariants.proofs.Choosing.{chosen-enabled}
 use Rattle.choice.specs.Choice.{seen, picked, Chose}
-use Rattle.choice.specs.declared.Chosen.{Chosen}
 use Rattle.choice.proofs.Seen.{chosen-seen}
 use Rattle.reaction.specs.Ready.{Ready, Fires}
 use Rattle.reaction.proofs.Going.{sized, ready-next}
@@ -30,20 +29,20 @@ use Rattle.reaction.proofs.Firing.{fires-long}
 
 -- ---- the chosen of a widget
 
-pub chose-fires : {c : Chart} {e : ℕ} {a : List Bool} {vs : List ℤ} {r : Chosen} → Chose c e a vs r → Fires c r
+pub chose-fires : {c : Chart} {e : ℕ} {a : List Bool} {vs : List ℤ} {count : ℕ} {picks : List ℕ} → Chose c e a vs count picks → Fires c count picks
 chose-fires {c} {e} {a} {vs} h = record {
-  few = h .stands .few;
-  size = h .stands .size;
+  few = h .few;
+  size = h .size;
   named = subst (Each (λ t. t < length (c .transitions))) (sym (h .is)) (each-weaker _ _ _ (λ t q. q .0) (chosen-enabled c e (seen a vs)));
 }
 
-module _ {c : Chart} {e : ℕ} (k : Lent) {r : Chosen} (h : Chose c e (k .active) (k .vars) r) where
-  pub chose-here : (at : ℕ) → chosen c e (ctx k at .state) ≡ picked r
+module _ {c : Chart} {e : ℕ} (k : Lent) {count : ℕ} {picks : List ℕ} (h : Chose c e (k .active) (k .vars) count picks) where
+  pub chose-here : (at : ℕ) → chosen c e (ctx k at .state) ≡ picked count picks
   unfolding ctx tracing
   chose-here at = chosen-seen c e _ ∙ sym (h .is)
 
   -- one step fires them all
-  pub step-here : (arg : ℤ) {at : ℕ} {w : Went} {k₁ : Lent} → Did (each (fire c arg) (picked r)) k at w k₁ → Did (step c e arg) k at w k₁
+  pub step-here : (arg : ℤ) {at : ℕ} {w : Went} {k₁ : Lent} → Did (each (fire c arg) (picked count picks)) k at w k₁ → Did (step c e arg) k at w k₁
   unfolding step look
   step-here arg {at} d = going.same-step (step c e arg) (ap (λ ts. each (fire c arg) ts (ctx k at)) (sym (chose-here at))) d
 
@@ -87,38 +86,38 @@ module _ {v : List ℤ} {k : Lent} {at : ℕ} where
   settling-begin h = record { ready = h; few = omega arith; kept = refl; owes = going.owes-all (h .fits) }
 
   module _ {turns : ℕ} {k₁ : Lent} {at₁ : ℕ} (h : Settling v k at turns k₁ at₁)
-      {r : Chosen} (g : Chose (chart-of v) 0 (k₁ .active) (k₁ .vars) r) where
-    long : length (picked r) ≡ r .count
-    long = fires-long (chart-of v) r (chose-fires g)
+      {count : ℕ} {picks : List ℕ} (g : Chose (chart-of v) 0 (k₁ .active) (k₁ .vars) count picks) where
+    long : length (picked count picks) ≡ count
+    long = fires-long (chart-of v) count picks (chose-fires g)
 
-    here : chosen (chart-of v) 0 (ctx k₁ at₁ .state) ≡ picked r
+    here : chosen (chart-of v) 0 (ctx k₁ at₁ .state) ≡ picked count picks
     here = chose-here k₁ g at₁
 
-    pub settling-end : r .count ≡ 0 → Did (settle (chart-of v)) k at (record { number = 0; at = at₁ }) k₁
-    settling-end z = going.owes-none (h .owes) (settled (chart-of v) (ctx k₁ at₁) (picked r) here (NULL-STEPS - turns) (long ∙ z))
+    pub settling-end : count ≡ 0 → Did (settle (chart-of v)) k at (record { number = 0; at = at₁ }) k₁
+    settling-end z = going.owes-none (h .owes) (settled (chart-of v) (ctx k₁ at₁) (picked count picks) here (NULL-STEPS - turns) (long ∙ z))
 
-    module _ (z : r .count ≡ 0 → ⊥) where
+    module _ (z : count ≡ 0 → ⊥) where
       pub settling-full : turns ≡ NULL-STEPS → Did (settle (chart-of v)) k at (record { number = 12; at = at₁ }) k₁
       unfolding went said
       settling-full e =
           let n : NULL-STEPS - turns ≡ 0 = omega arith in
           record {
             does = λ l. sym (ap (λ m. settle-in (chart-of v) m (ctx k₁ at₁)) n
-                ∙ too-many (chart-of v) (ctx k₁ at₁) (picked r) here (λ y. z (sym long ∙ y))) ∙ h .owes .gives l;
+                ∙ too-many (chart-of v) (ctx k₁ at₁) (picked count picks) here (λ y. z (sym long ∙ y))) ∙ h .owes .gives l;
             fits = h .ready .fits;
             kept = h .kept;
             whole = h .owes .whole;
           }
 
       module _ (m : turns ≡ NULL-STEPS → ⊥) {w : Went} {k₂ : Lent}
-          (d : Did (each (fire (chart-of v) (pos 0)) (picked r)) k₁ at₁ w k₂) where
-        due : Owes (settle (chart-of v)) k at (each (fire (chart-of v) (pos 0)) (picked r) then settle-in (chart-of v) (NULL-STEPS -
+          (d : Did (each (fire (chart-of v) (pos 0)) (picked count picks)) k₁ at₁ w k₂) where
+        due : Owes (settle (chart-of v)) k at (each (fire (chart-of v) (pos 0)) (picked count picks) then settle-in (chart-of v) (NULL-STEPS -
             (turns + 1))) k₁ at₁
         due =
             let l = h .few in
             let n : NULL-STEPS - turns ≡ suc (NULL-STEPS - (turns + 1)) = omega arith in
             going.owes-as _ (h .owes) (sym (ap (λ x. settle-in (chart-of v) x (ctx k₁ at₁)) n
-            ∙ one-more (chart-of v) (ctx k₁ at₁) (picked r) here (λ y. z (sym long ∙ y)) (NULL-STEPS - (turns + 1))))
+            ∙ one-more (chart-of v) (ctx k₁ at₁) (picked count picks) here (λ y. z (sym long ∙ y)) (NULL-STEPS - (turns + 1))))
 
         pub settling-stop : (w .number ≡ 0 → ⊥) → Did (settle (chart-of v)) k at w k₂
         settling-stop y = going.owes-stop (settle-in (chart-of v) (NULL-STEPS - (turns + 1))) due d y
@@ -129,7 +128,7 @@ module _ {v : List ℤ} {k : Lent} {at : ℕ} where
             record {
               ready = ready-next v (each-stays (Good (chart-of v)) (fire (chart-of v) (pos 0))
                   (λ x. x < length (chart-of v .transitions)) (fire-good (chart-of v) (sound v (h .ready .ruled)) (sized v
-                  (h .ready .ruled)) (pos 0)) (picked r) (chose-fires g .named)) d y (h .ready);
+                  (h .ready .ruled)) (pos 0)) (picked count picks) (chose-fires g .named)) d y (h .ready);
               few = omega arith;
               kept = d .kept ∙ h .kept;
               owes = going.owes-on (settle-in (chart-of v) (NULL-STEPS - (turns + 1))) due d y;

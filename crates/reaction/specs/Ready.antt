@@ -13,7 +13,6 @@ use Rattle.widget.specs.View.{Lent, Whole, ctx}
 use Rattle.laws.proofs.Lists.{Each}
 use Rattle.invariants.proofs.Good.{Good}
 use Rattle.choice.specs.Choice.{picked}
-use Rattle.choice.specs.declared.Chosen.{Chosen}
 
 pub record Ready (v : List ℤ) (k : Lent) (at : ℕ) : Type 0 where
   pub ruled : Ruled v
@@ -22,7 +21,7 @@ pub record Ready (v : List ℤ) (k : Lent) (at : ℕ) : Type 0 where
   pub fits : at ≤ length (k .trace)
 
 -- chosen transitions are transitions of the chart
-pub record Fires (c : Chart) (r : Chosen) : Type 0 where
-  pub few : r .count ≤ TRANSITIONS
-  pub size : length (r .picks) ≡ TRANSITIONS
-  pub named : Each (λ t. t < length (c .transitions)) (picked r)
+pub record Fires (c : Chart) (count : ℕ) (picks : List ℕ) : Type 0 where
+  pub few : count ≤ TRANSITIONS
+  pub size : length picks ≡ TRANSITIONS
+  pub named : Each (λ t. t < length (c .transitions)) (picked count picks)

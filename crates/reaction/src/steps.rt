@@ -1,11 +1,11 @@
 // Steps (01, "One reaction"): all chosen transitions fire, in their order; null steps follow until none is enabled.
-use choice::Chosen;
 use choice::choose;
 use firing::fire;
 use meaning::answers::UNSETTLED;
 use queue::lent::QUEUE_NUMBERS;
 use sizes::NULL_STEPS;
 use sizes::STATES;
+use sizes::TRANSITIONS;
 use sizes::VARIABLES;
 use widget::Went;
 ghost use Rattle.meaning.specs.Steps.{each};
@@ -19,7 +19,8 @@ ghost use Rattle.reaction.specs.Ready.{Ready, Fires};
 fn fire_all(
     chart: &[i32],
     arg: i32,
-    chosen: Chosen,
+    count: usize,
+    picks: &[usize; TRANSITIONS],
     active: &mut [bool; STATES],
     slots: &mut [i32; STATES],
     vars: &mut [i32; VARIABLES],
@@ -27,15 +28,13 @@ fn fire_all(
     trace: &mut [i32],
     at: usize,
 ) -> Went
-    requires { ⌜ Ready (now chart) (all-lent (now active) (now slots) (now vars) (now queue) (now trace)) at × Fires (chart-of (now chart)) chosen ⌝ }
-    ensures { λ r. ⌜ Did (each (fires (chart-of (now (chart .entry))) arg) (picked chosen)) (all-lent (now (active .entry)) (now (slots .entry)) (now (vars .entry)) (now (queue .entry)) (now (trace .entry))) at r (all-lent (now (active .exit)) (now (slots .exit)) (now (vars .exit)) (now (queue .exit)) (now (trace .exit))) ⌝ }
+    requires { ⌜ Ready (now chart) (all-lent (now active) (now slots) (now vars) (now queue) (now trace)) at × Fires (chart-of (now chart)) count (now picks) ⌝ }
+    ensures { λ r. ⌜ Did (each (fires (chart-of (now (chart .entry))) arg) (picked count (now (picks .entry)))) (all-lent (now (active .entry)) (now (slots .entry)) (now (vars .entry)) (now (queue .entry)) (now (trace .entry))) at r (all-lent (now (active .exit)) (now (slots .exit)) (now (vars .exit)) (now (queue .exit)) (now (trace .exit))) ⌝ }
 {
     let mut next = at;
-    let n = chosen.count;
     let mut j: usize = 0;
-    while j < n {
-        let pick = chosen.picks[j];
-        let t = pick.transition;
+    while j < count {
+        let t = picks[j];
         let went = fire(chart, arg, t, active, slots, vars, queue, trace, next);
         if went.number != 0 {
             return went;
@@ -64,8 +63,20 @@ pub fn step(
     requires { ⌜ Ready (now chart) (all-lent (now active) (now slots) (now vars) (now queue) (now trace)) at ⌝ }
     ensures { λ r. ⌜ Did (one-step (chart-of (now (chart .entry))) event arg) (all-lent (now (active .entry)) (now (slots .entry)) (now (vars .entry)) (now (queue .entry)) (now (trace .entry))) at r (all-lent (now (active .exit)) (now (slots .exit)) (now (vars .exit)) (now (queue .exit)) (now (trace .exit))) ⌝ }
 {
-    let chosen = choose(chart, event, active, vars);
-    fire_all(chart, arg, chosen, active, slots, vars, queue, trace, at)
+    let mut picks = [0; TRANSITIONS];
+    let count = choose(chart, event, active, vars, &mut picks);
+    fire_all(
+        chart,
+        arg,
+        count,
+        &picks,
+        active,
+        slots,
+        vars,
+        queue,
+        trace,
+        at,
+    )
 }
 
 // "null steps follow: trigger 0, argument 0, all chosen fire, until none is enabled"; 12 where a 33rd is needed.
@@ -83,9 +94,10 @@ pub fn settle(
 {
     let mut next = at;
     let mut turns: usize = 0;
+    let mut picks = [0; TRANSITIONS];
     let out = loop {
-        let chosen = choose(chart, 0, active, vars);
-        if chosen.count == 0 {
+        let count = choose(chart, 0, active, vars, &mut picks);
+        if count == 0 {
             break Went {
                 number: 0,
                 at: next,
@@ -97,7 +109,18 @@ pub fn settle(
                 at: next,
             };
         }
-        let went = fire_all(chart, 0, chosen, active, slots, vars, queue, trace, next);
+        let went = fire_all(
+            chart,
+            0,
+            count,
+            &picks,
+            active,
+            slots,
+            vars,
+            queue,
+            trace,
+            next,
+        );
         if went.number != 0 {
             break went;
         }

@@ -4,3 +4,4 @@ pub mod Children
 pub mod Letters
 pub mod Verdicts
 pub mod Kept
+pub mod Fields

@@ -2,23 +2,33 @@
 // definition of the same name in the crate meaning, on every input.
 use super::states::is_state;
 use chart_rows::action_count;
-use chart_rows::action_row;
+use chart_rows::decode::act_by;
+use chart_rows::decode::guard_by;
+use chart_rows::decode::owner_by;
+use chart_rows::decode::target_by;
 use chart_rows::event_count;
 use chart_rows::kind_of;
-use chart_rows::trans_row;
+use chart_rows::layout::ACT_ROW;
+use chart_rows::layout::ACTIONS_AT;
+use chart_rows::layout::TRANS_ROW;
+use chart_rows::layout::TRANSITIONS_AT;
+use chart_rows::number_at;
 use chart_rows::transition_count;
 use chart_rows::tree::is_o;
 use chart_rows::var_count;
 use chart_rows::var_row;
 use meaning::chart::Act;
-use meaning::chart::ActRow;
 use meaning::chart::Guard;
 use meaning::chart::Owner;
 use meaning::chart::Target;
-use meaning::chart::TransRow;
 use meaning::chart::VarRow;
 use numbers::between;
+use numbers::reference;
 ghost use mathlib.Core.Path.{_≡_};
+ghost use Prim.Native.Nat.{_<_};
+ghost use lib.ListN.{length, getD};
+ghost use Rattle.meaning.specs.Chart.{no-action};
+ghost use Rattle.meaning.specs.Tree.{trans-row};
 ghost use Rattle.meaning.specs.Rules.{is-var, row-fits, guard-fits, target-fits, transition-fits, owner-fits, within-row, act-fits, action-fits};
 ghost use Rattle.meaning.specs.Rules.{rule-5, rule-6, rule-7};
 ghost use Rattle.meaning.specs.Value.{chart-of};
@@ -92,22 +102,34 @@ fn target_fits(chart: &[i32], s: usize, target: Target) -> bool
     }
 }
 
-// R6 of one transition.
-fn transition_fits(chart: &[i32], row: TransRow) -> bool
-    ensures { λ r. ⌜ r ≡ transition-fits (chart-of (now (chart .entry))) row ⌝ }
+// R6 of one transition, whose numbers are read where they stand.
+fn transition_fits(chart: &[i32], i: usize) -> bool
+    requires { ⌜ i < length (chart-of (now chart) .transitions) ⌝ }
+    ensures { λ r. ⌜ r ≡ transition-fits (chart-of (now (chart .entry))) (trans-row (chart-of (now (chart .entry))) i) ⌝ }
 {
-    let guard = row.guard;
-    let target = row.target;
-    if !is_state(chart, row.source) {
+    let at = TRANSITIONS_AT + i * TRANS_ROW;
+    let source = reference(number_at(chart, at));
+    if !is_state(chart, source) {
         return false;
     }
-    if event_count(chart) < row.trigger {
+    if event_count(chart) < reference(number_at(chart, at + 1)) {
         return false;
     }
-    if !guard_fits(chart, guard) {
+    if !guard_fits(
+        chart,
+        guard_by(
+            number_at(chart, at + 2),
+            number_at(chart, at + 3),
+            number_at(chart, at + 4),
+        ),
+    ) {
         return false;
     }
-    target_fits(chart, row.source, target)
+    target_fits(
+        chart,
+        source,
+        target_by(number_at(chart, at + 5), number_at(chart, at + 6)),
+    )
 }
 
 pub fn rule_6(chart: &[i32]) -> bool
@@ -116,7 +138,7 @@ pub fn rule_6(chart: &[i32]) -> bool
     let n = transition_count(chart);
     let mut i = 0;
     while i < n {
-        if !transition_fits(chart, trans_row(chart, i)) {
+        if !transition_fits(chart, i) {
             return false;
         }
         i += 1;
@@ -171,16 +193,26 @@ fn act_fits(chart: &[i32], act: Act) -> bool
     }
 }
 
-// R7 of one action.
-fn action_fits(chart: &[i32], row: ActRow) -> bool
-    ensures { λ r. ⌜ r ≡ action-fits (chart-of (now (chart .entry))) row ⌝ }
+// R7 of one action, whose numbers are read where they stand.
+fn action_fits(chart: &[i32], i: usize) -> bool
+    requires { ⌜ i < length (chart-of (now chart) .actions) ⌝ }
+    ensures { λ r. ⌜ r ≡ action-fits (chart-of (now (chart .entry))) (getD (chart-of (now (chart .entry)) .actions) i no-action) ⌝ }
 {
-    let owner = row.owner;
-    let act = row.act;
-    if !owner_fits(chart, owner) {
+    let at = ACTIONS_AT + i * ACT_ROW;
+    if !owner_fits(
+        chart,
+        owner_by(number_at(chart, at), number_at(chart, at + 1)),
+    ) {
         return false;
     }
-    act_fits(chart, act)
+    act_fits(
+        chart,
+        act_by(
+            number_at(chart, at + 2),
+            number_at(chart, at + 3),
+            number_at(chart, at + 4),
+        ),
+    )
 }
 
 pub fn rule_7(chart: &[i32]) -> bool
@@ -189,7 +221,7 @@ pub fn rule_7(chart: &[i32]) -> bool
     let n = action_count(chart);
     let mut i = 0;
     while i < n {
-        if !action_fits(chart, action_row(chart, i)) {
+        if !action_fits(chart, i) {
             return false;
         }
         i += 1;

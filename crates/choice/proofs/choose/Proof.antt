@@ -1,70 +1,275 @@
--- `choose` keeps that the chosen so far with what the lower sources add are the chosen of all. Assumes nothing.
+-- `choose` keeps, turn by turn, that the picks with what is still to come are the chosen of all. Assumes nothing.
 use mathlib.Core.Path.{_≡_, refl, sym, ap, _∙_}
-use Prim.Native.Nat.{suc, _-_, _≤_, _<_}
+use Prim.Native.Nat.{ℕ, _+_, _-_, _≤_, _<_}
+use mathlib.Core.Bool.{true, false}
 use native.Mathlib.Omega.{arith}
-use mathlib.Core.List.{[]}
-use lib.ListN.{length-replicate}
+use lib.ListN.{length, getD, take}
+use borrow.Author.Tests.{not-true, not-false}
 use borrow.Author.Needs.{needs}
+use Rattle.sizes.specs.Sizes.{STATES}
 use Rattle.meaning.specs.Value.{chart-of}
 use Rattle.meaning.specs.Reaction.{chosen}
-use Rattle.laws.proofs.Value.{sized-chart}
-use Rattle.tree_walks.proofs.Passing.{rules-passed}
-use Rattle.choice.specs.Choice.{seen, no-pick, picked, Stands}
-use Rattle.choice.proofs.All.{with-sources, chosen-all, none-left, source-room, source-added}
+use Rattle.chart_rows.proofs.Rows.{states-most, transitions-most}
+use Rattle.choice.specs.Choice.{seen}
+use Rattle.choice.proofs.Loop.{row-fits, row-enabled, up-to, Held, held-none}
+use Rattle.choice.proofs.All.{with-sources, chosen-all, none-left, source-off, source-begins, source-ends}
+use Rattle.choice.proofs.Turns.{Choosing, meant-aims, turn-of, choosing-passed, choosing-off}
+use Rattle.choice.proofs.Turns.{choosing-clash, choosing-room, choosing-take}
 use Rattle.choice.proofs.choose.Statement.{statement}
 use Rattle.choice.proofs.choose.Tie as tie
 
 abbrev Inv-loop : tie.InvT-loop
-Inv-loop chart event active vars out₀ s₀ out s =
-    (with-sources (chart-of chart) event (seen active vars) s (picked out) ≡ chosen (chart-of chart) event (seen active vars)) × Stands (chart-of chart) out
+Inv-loop chart event active vars picks n sources gone count s t₀ span x₀ x-end t x =
+    (t ≡ t₀) × (span .first ≤ x) × ((y : ℕ) → y < x → span .first ≤ y → getD gone y false ≡ false)
 
 abbrev μ-loop : tie.MeasureT-loop
-μ-loop chart event active vars out₀ s₀ out s = s
+μ-loop chart event active vars picks n sources gone count s t₀ span x₀ x-end t x = x-end - x
 
-state-count-requires : tie.Need-state-count-requires Inv-loop μ-loop
-state-count-requires c κs = search needs
+abbrev Inv-transitions : tie.InvT-transitions
+Inv-transitions chart event active vars picks₀ n sources gone₀ count₀ s t₀ picks gone count t =
+    Choosing (chart-of chart) event (seen active vars) s t n picks count gone
 
-loop-holds : tie.Need-loop-holds Inv-loop μ-loop
-loop-holds c =
-    (rw (c .state-count .ensures) (chosen-all _ _ _), record { kept = λ j l. absurd (omega arith); few = omega arith; size = length-replicate _ no-pick })
+abbrev μ-transitions : tie.MeasureT-transitions
+μ-transitions chart event active vars picks₀ n sources gone₀ count₀ s t₀ picks gone count t = n - t
 
-sub-s : tie.Need-sub-s Inv-loop μ-loop
-sub-s c = omega arith
+abbrev Inv-sources : tie.InvT-sources
+Inv-sources chart event active vars picks₀ n sources gone₀ count₀ s₀ picks gone count s =
+    (with-sources (chart-of chart) event (seen active vars) s (take count picks) ≡ chosen (chart-of chart) event (seen active vars))
+    × Held (chart-of chart) picks count gone × (s ≤ STATES)
 
-choose-at-requires : tie.Need-choose-at-requires Inv-loop μ-loop
-choose-at-requires c κs =
-    let h = c .before .before .before .pre in
-    let w = c .before .loop in (
-      h,
-      record {
-        room = source-room _ _ _ (w .s) _ _ (omega arith) (w .inv .0) (sized-chart _ (rules-passed _ h .0) .transitions);
-        stands = w .inv .1;
-      },
+abbrev μ-sources : tie.MeasureT-sources
+μ-sources chart event active vars picks₀ n sources gone₀ count₀ s₀ picks gone count s = s
+
+abbrev trans-row-from-span-of : tie.After-span-of Inv-loop μ-loop Inv-transitions μ-transitions Inv-sources μ-sources
+    → tie.After-trans-row Inv-loop μ-loop Inv-transitions μ-transitions Inv-sources μ-sources
+trans-row-from-span-of c = c .before .before .before
+
+abbrev row-meant-from-span-of : tie.After-span-of Inv-loop μ-loop Inv-transitions μ-transitions Inv-sources μ-sources
+    → tie.After-row-meant Inv-loop μ-loop Inv-transitions μ-transitions Inv-sources μ-sources
+row-meant-from-span-of c = trans-row-from-span-of c .before .before
+
+abbrev at-transitions-from-span-of : tie.After-span-of Inv-loop μ-loop Inv-transitions μ-transitions Inv-sources μ-sources
+    → tie.At-transitions Inv-loop μ-loop Inv-transitions μ-transitions Inv-sources μ-sources
+at-transitions-from-span-of c = row-meant-from-span-of c .before .before
+
+abbrev transition-count-from-span-of : tie.After-span-of Inv-loop μ-loop Inv-transitions μ-transitions Inv-sources μ-sources
+    → tie.After-transition-count Inv-loop μ-loop Inv-transitions μ-transitions Inv-sources μ-sources
+transition-count-from-span-of c = at-transitions-from-span-of c .before .before .before .before .before .before
+
+abbrev start-from-span-of : tie.After-span-of Inv-loop μ-loop Inv-transitions μ-transitions Inv-sources μ-sources
+    → tie.Start Inv-loop μ-loop Inv-transitions μ-transitions Inv-sources μ-sources
+start-from-span-of c = transition-count-from-span-of c .before
+
+sources-holds : tie.Need-sources-holds Inv-loop μ-loop Inv-transitions μ-transitions Inv-sources μ-sources
+sources-holds c = (
+  rw (c .state-count .ensures) (chosen-all _ _ _),
+  held-none _ _ (c .before .before .before .pre .1),
+  omega (arith, c .state-count .ensures, states-most (c .before .before .before .args .chart .now)),
+)
+
+array-read-if1 : tie.Need-array-read-if1 Inv-loop μ-loop Inv-transitions μ-transitions Inv-sources μ-sources
+array-read-if1 c = omega (arith, c .before .sources .inv .2)
+
+sources-again : tie.Need-sources-again Inv-loop μ-loop Inv-transitions μ-transitions Inv-sources μ-sources
+sources-again c =
+    let w = c .before .before .sources in (
+      source-off _ _ _ (w .s) _ (c .before .before .before .before .sources-of .result) _
+          (c .before .before .before .before .sources-of .ensures) (not-true _ (c .if1 .taken)) (omega arith) (w .inv .0),
+      w .inv .1,
+      omega
+          (arith, w .inv .2),
     )
 
-loop-less : tie.Need-loop-less Inv-loop μ-loop
-loop-less c = omega arith
+transitions-holds : tie.Need-transitions-holds Inv-loop μ-loop Inv-transitions μ-transitions Inv-sources μ-sources
+transitions-holds c =
+    let w = c .before .before .sources in
+    record {
+      owes = source-begins _ _ _ (w .s) _ _ _ (omega arith) (c .before .before .before .before .before .transition-count .ensures)
+          (w .inv .0);
+      held = w .inv .1;
+    }
 
-loop-again : tie.Need-loop-again Inv-loop μ-loop
+sources-again-2 : tie.Need-sources-again-2 Inv-loop μ-loop Inv-transitions μ-transitions Inv-sources μ-sources
+sources-again-2 c =
+    let w = c .before .transitions .inv in (
+      source-ends _ _ _ _ _ _ _ (c .transitions-test .left) (w .owes),
+      w .held,
+      omega
+          (arith, c .before .before .before .before .sources .inv .2),
+    )
+
+row-meant-requires : tie.Need-row-meant-requires Inv-loop μ-loop Inv-transitions μ-transitions Inv-sources μ-sources
+row-meant-requires c κs = omega (
+  arith,
+  c .transitions-test .taken,
+  c .before .before .before .before .before .before .before .transition-count .ensures,
+)
+
+transitions-again : tie.Need-transitions-again Inv-loop μ-loop Inv-transitions μ-transitions Inv-sources μ-sources
+transitions-again c =
+    choosing-passed (c .before .before .before .transitions .inv) (c .before .before .transitions-test .taken)
+    (c .before .row-meant .ensures) (not-true _ (c .if2 .taken))
+
+enabled-requires : tie.Need-enabled-requires Inv-loop μ-loop Inv-transitions μ-transitions Inv-sources μ-sources
+enabled-requires c κs =
+    row-fits _ (c .before .before .before .before .before .before .before .before .before .before .before .pre .0) _ _
+    (c .trans-row .ensures)
+    (omega (
+      arith,
+      c .before .before .before .transitions-test .taken,
+      c .before .before .before .before .before .before .before .before .before .before .transition-count .ensures,
+    ))
+
+transitions-again-2 : tie.Need-transitions-again-2 Inv-loop μ-loop Inv-transitions μ-transitions Inv-sources μ-sources
+transitions-again-2 c =
+    let l : c .before .before .before .before .before .before .transitions .t < length
+    (chart-of (c .before .before .before .before .before .before .before .before .before .before .before .before .before .args .chart .now) .transitions) =
+    omega (
+      arith,
+      c .before .before .before .before .before .transitions-test .taken,
+      c .before .before .before .before .before .before .before .before .before .before .before .before .transition-count .ensures,
+    ) in
+    choosing-off (c .before .before .before .before .before .before .transitions .inv)
+    (c .before .before .before .before .before .transitions-test .taken)
+    (row-enabled _ (c .before .before .before .before .before .before .before .before .before .before .before .before .before .pre .0) _ _
+    (c .before .before .trans-row .ensures) l _ _ _ (c .before .enabled .ensures) ∙ not-true _ (c .if3 .taken))
+
+span-of-requires : tie.Need-span-of-requires Inv-loop μ-loop Inv-transitions μ-transitions Inv-sources μ-sources
+span-of-requires c κs = (
+  c .before .before .before .before .before .before .before .before .before .before .before .before .before .pre .0,
+  meant-aims _ (c .before .before .before .before .before .before .before .before .before .before .before .before .before .pre .0) _
+      (c .before .before .trans-row .ensures)
+      (omega (
+        arith,
+        c .before .before .before .before .before .transitions-test .taken,
+        c .before .before .before .before .before .before .before .before .before .before .before .before .transition-count .ensures,
+      )) _ _ (c .before .before .before .before .row-meant .ensures) (not-false _ (c .before .before .before .if2 .left)),
+)
+
+loop-holds : tie.Need-loop-holds Inv-loop μ-loop Inv-transitions μ-transitions Inv-sources μ-sources
+loop-holds c = (refl, omega arith, λ y p q. absurd (omega arith))
+
+array-read-if4 : tie.Need-array-read-if4 Inv-loop μ-loop Inv-transitions μ-transitions Inv-sources μ-sources
+array-read-if4 c =
+    let h = start-from-span-of (c .before .before) .pre .0 in
+    let l : at-transitions-from-span-of (c .before .before) .transitions .t < length
+    (chart-of (start-from-span-of (c .before .before) .args .chart .now) .transitions) =
+    omega (
+      arith,
+      row-meant-from-span-of (c .before .before) .before .transitions-test .taken,
+      transition-count-from-span-of
+          (c .before .before) .transition-count .ensures,
+    ) in
+    let g = turn-of _ h _ (trans-row-from-span-of (c .before .before) .trans-row .ensures) l _ _
+    (row-meant-from-span-of (c .before .before) .row-meant .ensures)
+    (not-false _ (trans-row-from-span-of (c .before .before) .before .if2 .left))
+    (c .before .before .before .before .enabled .ensures) (not-false _ (c .before .before .before .if3 .left))
+    (c .before .before .span-of .ensures) in
+    omega (arith, g .ends, c .loop-test .taken)
+
+transitions-again-3 : tie.Need-transitions-again-3 Inv-loop μ-loop Inv-transitions μ-transitions Inv-sources μ-sources
+transitions-again-3 c =
+    let h = start-from-span-of (c .before .before .before) .pre .0 in
+    let l : at-transitions-from-span-of (c .before .before .before) .transitions .t < length
+    (chart-of (start-from-span-of (c .before .before .before) .args .chart .now) .transitions) =
+    omega (
+      arith,
+      row-meant-from-span-of (c .before .before .before) .before .transitions-test .taken,
+      transition-count-from-span-of
+          (c .before .before .before) .transition-count .ensures,
+    ) in
+    let g = turn-of _ h _ (trans-row-from-span-of (c .before .before .before) .trans-row .ensures) l _ _
+    (row-meant-from-span-of (c .before .before .before) .row-meant .ensures)
+    (not-false _ (trans-row-from-span-of (c .before .before .before) .before .if2 .left))
+    (c .before .before .before .before .before .enabled .ensures) (not-false _ (c .before .before .before .before .if3 .left))
+    (c .before .before .before .span-of .ensures) in
+    let w = c .before .before .loop .inv in
+    rw (w .0) (choosing-clash (at-transitions-from-span-of (c .before .before .before) .transitions .inv)
+    (row-meant-from-span-of (c .before .before .before) .before .transitions-test .taken) g _ (w .1) (c .before .loop-test .taken)
+    (c .if4 .taken))
+
+loop-again : tie.Need-loop-again Inv-loop μ-loop Inv-transitions μ-transitions Inv-sources μ-sources
 loop-again c =
-    let w = c .before .before .loop in
-    (source-added _ _ _ (w .s) _ (w .out) _ (omega arith) (w .inv .0) (c .choose-at .ensures), c .choose-at .ensures .stands)
+    let w = c .before .before .loop .inv in
+    (w .0, omega arith, up-to _ _ (w .2) (λ p. c .if4 .left))
 
-returns : tie.Need-returns Inv-loop μ-loop
+mark-gone-requires : tie.Need-mark-gone-requires Inv-loop μ-loop Inv-transitions μ-transitions Inv-sources μ-sources
+mark-gone-requires c κs =
+    let h = start-from-span-of (c .before .before .before) .pre .0 in
+    let l : at-transitions-from-span-of (c .before .before .before) .transitions .t < length
+    (chart-of (start-from-span-of (c .before .before .before) .args .chart .now) .transitions) =
+    omega (
+      arith,
+      row-meant-from-span-of (c .before .before .before) .before .transitions-test .taken,
+      transition-count-from-span-of
+          (c .before .before .before) .transition-count .ensures,
+    ) in
+    let g = turn-of _ h _ (trans-row-from-span-of (c .before .before .before) .trans-row .ensures) l _ _
+    (row-meant-from-span-of (c .before .before .before) .row-meant .ensures)
+    (not-false _ (trans-row-from-span-of (c .before .before .before) .before .if2 .left))
+    (c .before .before .before .before .before .enabled .ensures) (not-false _ (c .before .before .before .before .if3 .left))
+    (c .before .before .before .span-of .ensures) in
+    (g .spans .some, g .ends, at-transitions-from-span-of (c .before .before .before) .transitions .inv .held .long)
+
+mul-picks : tie.Need-mul-picks Inv-loop μ-loop Inv-transitions μ-transitions Inv-sources μ-sources
+mul-picks c = omega (arith, at-transitions-from-span-of (c .before .before .before .before) .transitions .inv .held .few)
+
+element-write-picks : tie.Need-element-write-picks Inv-loop μ-loop Inv-transitions μ-transitions Inv-sources μ-sources
+element-write-picks c =
+    let h = start-from-span-of (c .before .before .before .before) .pre .0 in
+    let l : at-transitions-from-span-of (c .before .before .before .before) .transitions .t < length
+    (chart-of (start-from-span-of (c .before .before .before .before) .args .chart .now) .transitions) =
+    omega (
+      arith,
+      row-meant-from-span-of (c .before .before .before .before) .before .transitions-test .taken,
+      transition-count-from-span-of (c .before .before .before .before) .transition-count .ensures,
+    ) in
+    let g = turn-of _ h _ (trans-row-from-span-of (c .before .before .before .before) .trans-row .ensures) l _ _
+    (row-meant-from-span-of (c .before .before .before .before) .row-meant .ensures)
+    (not-false _ (trans-row-from-span-of (c .before .before .before .before) .before .if2 .left))
+    (c .before .before .before .before .before .before .enabled .ensures)
+    (not-false _ (c .before .before .before .before .before .if3 .left)) (c .before .before .before .before .span-of .ensures) in
+    choosing-room (at-transitions-from-span-of (c .before .before .before .before) .transitions .inv)
+    (row-meant-from-span-of (c .before .before .before .before) .before .transitions-test .taken) g
+    (λ y p q. c .before .before .before .loop .inv .2 y (omega (arith, q, c .before .before .loop-test .left)) p)
+    (transitions-most (start-from-span-of (c .before .before .before .before) .args .chart .now))
+
+add-count : tie.Need-add-count Inv-loop μ-loop Inv-transitions μ-transitions Inv-sources μ-sources
+add-count c = omega (arith, at-transitions-from-span-of (c .before .before .before .before) .transitions .inv .held .few)
+
+transitions-again-4 : tie.Need-transitions-again-4 Inv-loop μ-loop Inv-transitions μ-transitions Inv-sources μ-sources
+transitions-again-4 c =
+    let h = start-from-span-of (c .before .before .before .before) .pre .0 in
+    let l : at-transitions-from-span-of (c .before .before .before .before) .transitions .t < length
+    (chart-of (start-from-span-of (c .before .before .before .before) .args .chart .now) .transitions) =
+    omega (
+      arith,
+      row-meant-from-span-of (c .before .before .before .before) .before .transitions-test .taken,
+      transition-count-from-span-of (c .before .before .before .before) .transition-count .ensures,
+    ) in
+    let g = turn-of _ h _ (trans-row-from-span-of (c .before .before .before .before) .trans-row .ensures) l _ _
+    (row-meant-from-span-of (c .before .before .before .before) .row-meant .ensures)
+    (not-false _ (trans-row-from-span-of (c .before .before .before .before) .before .if2 .left))
+    (c .before .before .before .before .before .before .enabled .ensures)
+    (not-false _ (c .before .before .before .before .before .if3 .left)) (c .before .before .before .before .span-of .ensures) in
+    let w = c .before .before .before .loop .inv in
+    rw (w .0) (choosing-take (at-transitions-from-span-of (c .before .before .before .before) .transitions .inv)
+    (row-meant-from-span-of (c .before .before .before .before) .before .transitions-test .taken) g
+    (λ y p q. w .2 y (omega (arith, q, c .before .before .loop-test .left)) p)
+    (transitions-most (start-from-span-of (c .before .before .before .before) .args .chart .now)) (c .mark-gone .ensures))
+
+returns : tie.Need-returns Inv-loop μ-loop Inv-transitions μ-transitions Inv-sources μ-sources
 returns c =
-    let w = c .before .loop in
-    record { is = sym (none-left _ _ _ _ (w .s) (omega arith)) ∙ w .inv .0; stands = w .inv .1 }
+    let w = c .before .sources in
+    record { is = sym (none-left _ _ _ _ (w .s) (omega arith)) ∙ w .inv .0; few = w .inv .1 .few; size = w .inv .1 .size }
 
 pub choose-spec : {M : Type 1} → statement M
 choose-spec =
-    tie.close
-    (tie.spec
-    Inv-loop
-    μ-loop
-    state-count-requires
-    loop-holds
-    sub-s
-    choose-at-requires
-    loop-less
-    loop-again
-    returns)
+    tie.close (tie.spec Inv-loop μ-loop Inv-transitions μ-transitions Inv-sources μ-sources
+    (λ c κs. search needs) (λ c κs. c .before .pre .0) (λ c κs. search needs) sources-holds (λ c. omega arith) array-read-if1
+    (λ c. omega arith) sources-again
+    transitions-holds (λ c. omega arith) sources-again-2 row-meant-requires (λ c. omega arith) (λ c. omega arith) transitions-again
+    (λ c κs. search needs) enabled-requires (λ c. omega arith)
+    (λ c. omega arith) transitions-again-2 span-of-requires loop-holds array-read-if4
+    (λ c. omega arith) (λ c. omega arith) transitions-again-3 (λ c. omega arith) (λ c. omega arith) loop-again mark-gone-requires mul-picks
+    element-write-picks add-count (λ c. omega arith) (λ c. omega arith) transitions-again-4 returns)

@@ -4,11 +4,12 @@ use native.Mathlib.Omega.{arith}
 use borrow.Author.Needs.{needs}
 use borrow.Author.Tests.{not-true, not-false}
 use Rattle.meaning.specs.Value.{chart-of}
-use Prim.Native.Nat.{_-_, _≤_}
+use Prim.Native.Nat.{_-_, _≤_, _<_}
 use lib.ListN.{length, drop}
 use Rattle.meaning.specs.declared.State.{State}
 use Rattle.meaning.specs.Lists.{every, from}
 use Rattle.meaning.specs.Foreign.{legal-at}
+use Rattle.sizes.specs.Sizes.{STATES}
 use Rattle.chart_rows.proofs.Rows.{states-most}
 use Rattle.widget.proofs.Every.{upto-more, upto-no, upto-done}
 use Rattle.queue_calls.proofs.Legal.{legal-rootless, legal-rooted}
@@ -16,56 +17,74 @@ use Rattle.queue_calls.proofs.own.legal.Statement.{statement}
 use Rattle.queue_calls.proofs.own.legal.Tie as tie
 
 abbrev Inv-loop : tie.InvT-loop
-Inv-loop chart active n s₀ s =
-    (n ≡ length (chart-of chart .states)) × (s ≤ n)
-    × ((u : State) → u .active ≡ active → every (legal-at (chart-of chart) u) (drop s (from 0 n)) ≡ every (legal-at (chart-of chart) u) (from 0 n))
+Inv-loop chart active n all on s₀ s =
+    (s ≤ n)
+    × ((u : State) → u .active ≡ active → every (legal-at (chart-of chart) u) (drop s (from 0 n)) ≡ every (legal-at (chart-of chart) u)
+    (from 0 n))
 
 abbrev μ-loop : tie.MeasureT-loop
-μ-loop chart active n s₀ s = n - s
-
-element-copy-out-if1 : tie.Need-element-copy-out-if1 Inv-loop μ-loop
-element-copy-out-if1 c = search needs
+μ-loop chart active n all on s₀ s = n - s
 
 returns : tie.Need-returns Inv-loop μ-loop
 returns c u e = legal-rootless (chart-of (c .before .before .args .chart .now)) u e (not-true _ (c .if1 .taken))
 
-state-count-requires : tie.Need-state-count-requires Inv-loop μ-loop
-state-count-requires c κs = search needs
-
 loop-holds : tie.Need-loop-holds Inv-loop μ-loop
-loop-holds c = (c .state-count .ensures, search needs, λ u e. refl)
+loop-holds c = (omega arith, λ u e. refl)
+
+array-read-t16 : tie.Need-array-read-t16 Inv-loop μ-loop
+array-read-t16 c = omega (
+  arith,
+  c .before .before .before .before .before .state-count .ensures,
+  states-most
+      (c .before .before .before .before .before .before .before .before .args .chart .now),
+)
+
+array-read-t19 : tie.Need-array-read-t19 Inv-loop μ-loop
+array-read-t19 c = omega (
+  arith,
+  c .before .before .before .before .before .state-count .ensures,
+  states-most
+      (c .before .before .before .before .before .before .before .before .args .chart .now),
+)
 
 legal-at-requires : tie.Need-legal-at-requires Inv-loop μ-loop
-legal-at-requires c κs = omega (arith, states-most (c .before .before .before .before .before .args .chart .now))
+legal-at-requires c κs =
+    let l : c .before .loop .s < STATES = omega (
+      arith,
+      c .loop-test .taken,
+      c .before .before .before .before .before .state-count .ensures,
+      states-most
+          (c .before .before .before .before .before .before .before .before .args .chart .now),
+    ) in
+    (l, c .before .before .before .before .count-children .ensures .told _ l)
 
 returns-2 : tie.Need-returns-2 Inv-loop μ-loop
-returns-2 c u e = legal-rooted (chart-of (c .before .before .before .before .before .before .before .args .chart .now)) u e (c .before .before .before .before .state-count .ensures) (not-false _ (c .before .before .before .before .before .if1 .left)) (upto-no (legal-at (chart-of (c .before .before .before .before .before .before .before .args .chart .now)) u) (c .before .before .before .before .state-count .result) (c .before .before .before .loop .s) (c .before .before .before .loop .inv .2 u e) (c .before .before .loop-test .taken) (sym (c .before .legal-at .ensures u e) ∙ not-true _ (c .if2 .taken)))
-
-add-s : tie.Need-add-s Inv-loop μ-loop
-add-s c = search needs
-
-loop-less : tie.Need-loop-less Inv-loop μ-loop
-loop-less c = search needs
+returns-2 c u e =
+    let k = chart-of (c .before .before .before .before .before .before .before .before .before .before .args .chart .now) in
+    let w = c .before .before .before .loop in
+    legal-rooted k u e (c .before .before .before .before .before .before .before .state-count .ensures)
+    (not-false _ (c .before .before .before .before .before .before .before .before .if1 .left))
+    (upto-no (legal-at k u) (c .before .before .before .before .before .before .before .state-count .result) (w .s) (w .inv .1 u e)
+    (c .before .before .loop-test .taken)
+    (sym (c .before .legal-at .ensures u e) ∙ not-true _ (c .if2 .taken)))
 
 loop-again : tie.Need-loop-again Inv-loop μ-loop
-loop-again c = (c .before .before .before .loop .inv .0, omega arith, λ u e. upto-more (legal-at (chart-of (c .before .before .before .before .before .before .before .args .chart .now)) u) (c .before .before .before .before .state-count .result) (c .before .before .before .loop .s) (c .before .before .before .loop .inv .2 u e) (c .before .before .loop-test .taken) (sym (c .before .legal-at .ensures u e) ∙ not-false _ (c .if2 .left)))
+loop-again c =
+    let w = c .before .before .before .loop in (
+      omega arith,
+      λ u e. upto-more (legal-at (chart-of (c .before .before .before .before .before .before .before .before .before .before .args .chart .now)) u) (c .before .before .before .before .before .before .before .state-count .result) (w .s) (w .inv .1 u e)
+          (c .before .before .loop-test .taken) (sym (c .before .legal-at .ensures u e) ∙ not-false _ (c .if2 .left)),
+    )
 
 returns-3 : tie.Need-returns-3 Inv-loop μ-loop
-returns-3 c u e = legal-rooted (chart-of (c .before .before .before .before .before .args .chart .now)) u e (c .before .before .state-count .ensures) (not-false _ (c .before .before .before .if1 .left)) (upto-done (legal-at (chart-of (c .before .before .before .before .before .args .chart .now)) u) (c .before .before .state-count .result) (c .before .loop .s) (c .before .loop .inv .2 u e) (omega arith))
+returns-3 c u e =
+    let k = chart-of (c .before .before .before .before .before .before .before .before .args .chart .now) in
+    let w = c .before .loop in
+    legal-rooted k u e (c .before .before .before .before .before .state-count .ensures)
+    (not-false _ (c .before .before .before .before .before .before .if1 .left))
+    (upto-done (legal-at k u) (c .before .before .before .before .before .state-count .result) (w .s) (w .inv .1 u e) (omega arith))
 
 pub legal-spec : {M : Type 1} → statement M
 legal-spec =
-    tie.close
-    (tie.spec
-    Inv-loop
-    μ-loop
-    element-copy-out-if1
-    returns
-    state-count-requires
-    loop-holds
-    legal-at-requires
-    returns-2
-    add-s
-    loop-less
-    loop-again
-    returns-3)
+    tie.close (tie.spec Inv-loop μ-loop (λ c. search needs) returns (λ c κs. search needs) (λ c κs. search needs) loop-holds
+    array-read-t16 array-read-t19 legal-at-requires returns-2 (λ c. omega arith) (λ c. omega arith) loop-again returns-3)

@@ -13,13 +13,13 @@ use Rattle.reaction.proofs.steps.fire_all.Statement.{statement}
 use Rattle.reaction.proofs.steps.fire_all.Tie as tie
 
 abbrev Inv-loop : tie.InvT-loop
-Inv-loop chart arg active₀ slots₀ vars₀ queue₀ trace₀ at chosen next₀ n j₀ active slots vars queue trace next j =
-    Firing chart (toZ w32 arg) (picked chosen) (all-lent active₀ slots₀ vars₀ queue₀ trace₀) next₀ j
-    (all-lent active slots vars queue trace) next × (j ≤ n)
+Inv-loop chart arg count picks active₀ slots₀ vars₀ queue₀ trace₀ at next₀ j₀ active slots vars queue trace next j =
+    Firing chart (toZ w32 arg) (picked count picks) (all-lent active₀ slots₀ vars₀ queue₀ trace₀) next₀ j
+    (all-lent active slots vars queue trace) next × (j ≤ count)
 
 abbrev μ-loop : tie.MeasureT-loop
-μ-loop chart arg active₀ slots₀ vars₀ queue₀ trace₀ at chosen next₀ n j₀ active slots vars queue trace next j =
-    n - j
+μ-loop chart arg count picks active₀ slots₀ vars₀ queue₀ trace₀ at next₀ j₀ active slots vars queue trace next j =
+    count - j
 
 abbrev in-loop-from-fire-arg5 : tie.After-fire-arg5 Inv-loop μ-loop → tie.In-loop Inv-loop μ-loop
 in-loop-from-fire-arg5 c = c .before .before .before .before .before .before
@@ -36,17 +36,17 @@ start-from-then1 c = in-loop-from-then1 c .before .before
 loop-holds : tie.Need-loop-holds Inv-loop μ-loop
 loop-holds c = (firing-begin (c .pre .0), omega arith)
 
-mul-pick : tie.Need-mul-pick Inv-loop μ-loop
-mul-pick c = omega (arith, c .before .before .pre .1 .few)
+mul-t : tie.Need-mul-t Inv-loop μ-loop
+mul-t c = omega (arith, c .before .before .pre .1 .few)
 
-element-copy-out-pick : tie.Need-element-copy-out-pick Inv-loop μ-loop
-element-copy-out-pick c = omega (arith, c .before .before .pre .1 .few)
+element-copy-out-t : tie.Need-element-copy-out-t Inv-loop μ-loop
+element-copy-out-t c = omega (arith, c .before .before .pre .1 .few)
 
 fire-requires : tie.Need-fire-requires Inv-loop μ-loop
 fire-requires c κs =
     let w = in-loop-from-fire-arg5 c .before .loop .inv .0 .ready in (
       w .ruled,
-      fires-named _ _ (in-loop-from-fire-arg5 c .before .before .pre .1) _
+      fires-named _ _ _ (in-loop-from-fire-arg5 c .before .before .pre .1) _
           (in-loop-from-fire-arg5 c .loop-test .taken),
       ready-led w,
       w .whole,
@@ -58,15 +58,15 @@ returns c =
     let f = start-from-then1 c .pre .1 in
     let l = in-loop-from-then1 c .loop-test .taken in
     rw (toZ-ofZ (start-from-then1 c .fits .arg)) at
-    (firing-stop (in-loop-from-then1 c .before .loop .inv .0) _ (omega (arith, fires-long _ _ f, l))
-    (fires-at _ _ f _ l) (c .before .before .before .fire .ensures) (c .if1 .taken))
+    (firing-stop (in-loop-from-then1 c .before .loop .inv .0) _ (omega (arith, fires-long _ _ _ f, l))
+    (fires-at _ _ _ f _ l) (c .before .before .before .fire .ensures) (c .if1 .taken))
 
 loop-again : tie.Need-loop-again Inv-loop μ-loop
 loop-again c =
     let f = in-loop-from-else1 c .before .before .pre .1 in
     let l = in-loop-from-else1 c .loop-test .taken in (
-      firing-on (in-loop-from-else1 c .before .loop .inv .0) _ (omega (arith, fires-long _ _ f, l))
-          (fires-at _ _ f _ l) (c .before .before .before .fire .ensures) (fires-named _ _ f _ l)
+      firing-on (in-loop-from-else1 c .before .loop .inv .0) _ (omega (arith, fires-long _ _ _ f, l))
+          (fires-at _ _ _ f _ l) (c .before .before .before .fire .ensures) (fires-named _ _ _ f _ l)
           (c .if1 .left),
       omega arith,
     )
@@ -75,9 +75,9 @@ returns-2 : tie.Need-returns-2 Inv-loop μ-loop
 returns-2 c =
     rw (toZ-ofZ (c .before .before .fits .arg)) at
     (firing-end (c .before .loop .inv .0)
-    (omega (arith, fires-long _ _ (c .before .before .pre .1), c .loop-test .left)))
+    (omega (arith, fires-long _ _ _ (c .before .before .pre .1), c .loop-test .left)))
 
 pub fire-all-spec : {M : Type 1} → statement M
 fire-all-spec =
-    tie.close (tie.spec Inv-loop μ-loop loop-holds mul-pick element-copy-out-pick fire-requires
+    tie.close (tie.spec Inv-loop μ-loop loop-holds mul-t element-copy-out-t fire-requires
     (λ c. search needs) returns (λ c. omega arith) (λ c. omega arith) loop-again (λ c. search needs) returns-2)

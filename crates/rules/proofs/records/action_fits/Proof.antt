@@ -1,23 +1,59 @@
 -- `action_fits` tests the owner, then the act. Assumes nothing.
-use Rattle.rules.proofs.Tests.{refuted, held, on}
-use Rattle.meaning.specs.Rules.{action-fits}
+use mathlib.Core.Path.{_≡_, _∙_}
+use native.Mathlib.Omega.{arith}
 use borrow.Author.Needs.{needs}
+use Rattle.meaning.specs.Value.{chart-of, owner-by, act-by}
+use Rattle.chart_rows.proofs.Said.{said-of2, said-of3}
+use Rattle.chart_rows.proofs.Rows.{actions-most}
+use Rattle.rules.proofs.Fields.{owner-said, act-said, no-owner, by-act}
 use Rattle.rules.proofs.records.action_fits.Statement.{statement}
 use Rattle.rules.proofs.records.action_fits.Tie as tie
 
-owner-fits-requires : tie.Need-owner-fits-requires
-owner-fits-requires c κs = search needs
+mul-at : tie.Need-mul-at
+mul-at c = omega (arith, actions-most (c .args .chart .now))
+
+add-at : tie.Need-add-at
+add-at c = omega (arith, actions-most (c .args .chart .now))
+
+add-number-at : tie.Need-add-number-at
+add-number-at c = omega (arith, actions-most (c .before .args .chart .now))
+
+add-number-at-2 : tie.Need-add-number-at-2
+add-number-at-2 c = omega (arith, actions-most (c .before .before .before .before .before .args .chart .now))
+
+add-number-at-3 : tie.Need-add-number-at-3
+add-number-at-3 c = omega (arith, actions-most (c .before .before .before .before .before .before .args .chart .now))
+
+add-number-at-4 : tie.Need-add-number-at-4
+add-number-at-4 c = omega (arith, actions-most (c .before .before .before .before .before .before .before .args .chart .now))
 
 returns : tie.Need-returns
-unfolding action-fits
-returns c = rw (refuted (c .before .owner-fits .ensures) (c .if1 .taken))
-
-act-fits-requires : tie.Need-act-fits-requires
-act-fits-requires c κs = search needs
+returns c =
+    let k = c .before .before .before .before .before in
+    let m = c .before .before .before .before .number-at in
+    let n = c .before .before .before .number-at2 in
+    no-owner (chart-of (k .args .chart .now)) _ (said-of2 owner-by (m .ok) (m .ensures) (n .ok) (n .ensures)
+    (c .before .before .owner-by .ensures)
+    ∙ owner-said (k .args .chart .now) (k .args .i) (k .pre)) (c .before .owner-fits .ensures) (c .if1 .taken)
 
 returns-2 : tie.Need-returns-2
-unfolding action-fits
-returns-2 c = on (held (c .before .before .owner-fits .ensures) (c .before .if1 .left)) (c .act-fits .ensures)
+returns-2 c =
+    let k = c .before .before .before .before .before .before .before .before .before .before in
+    let m = c .before .before .before .before .before .before .before .before .before .number-at in
+    let n = c .before .before .before .before .before .before .before .before .number-at2 in
+    let x = c .before .before .before .before .number-at3 in
+    let y = c .before .before .before .number-at4 in
+    let z = c .before .before .number-at5 in
+    by-act (chart-of (k .args .chart .now)) _ (said-of2 owner-by (m .ok) (m .ensures) (n .ok) (n .ensures)
+    (c .before .before .before .before .before .before .before .owner-by .ensures)
+    ∙ owner-said (k .args .chart .now) (k .args .i) (k .pre)) (c .before .before .before .before .before .before .owner-fits .ensures)
+    (c .before .before .before .before .before .if1 .left)
+    (said-of3 act-by (x .ok) (x .ensures) (y .ok) (y .ensures) (z .ok) (z .ensures) (c .before .act-by .ensures)
+    ∙ act-said (k .args .chart .now) (k .args .i) (k .pre)) (c .act-fits .ensures)
 
 pub action-fits-spec : {M : Type 1} → statement M
-action-fits-spec = tie.close (tie.spec owner-fits-requires returns act-fits-requires returns-2)
+action-fits-spec =
+    tie.close (tie.spec mul-at add-at (λ c κs. search needs) add-number-at (λ c κs. search needs) (λ c κs. search needs)
+    (λ c κs. search needs) returns
+    add-number-at-2 (λ c κs. search needs) add-number-at-3 (λ c κs. search needs) add-number-at-4 (λ c κs. search needs)
+    (λ c κs. search needs) (λ c κs. search needs) returns-2)

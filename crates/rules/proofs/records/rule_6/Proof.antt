@@ -27,18 +27,15 @@ loop-holds : tie.Need-loop-holds Inv-loop μ-loop
 unfolding rule-6
 loop-holds c = refl
 
-trans-row-requires : tie.Need-trans-row-requires Inv-loop μ-loop
-trans-row-requires c κs = search needs
-
 transition-fits-requires : tie.Need-transition-fits-requires Inv-loop μ-loop
-transition-fits-requires c κs = search needs
+transition-fits-requires c κs = omega (arith, c .loop-test .taken, c .before .before .transition-count .ensures)
 
 returns : tie.Need-returns Inv-loop μ-loop
 unfolding trans-row
 returns c =
-    let w = c .before .before .before .before .loop in
-    let k = chart-of (c .before .before .before .before .before .before .args .chart .now) in
-    every-stop (transition-fits k) (k .transitions) no-trans (w .i) (omega arith) (refuted (c .before .transition-fits .ensures ∙ ap (transition-fits k) (c .before .before .trans-row .ensures)) (c .if1 .taken)) (w .inv)
+    let w = c .before .before .before .loop in
+    let k = chart-of (c .before .before .before .before .before .args .chart .now) in
+    every-stop (transition-fits k) (k .transitions) no-trans (w .i) (omega arith) (refuted (c .before .transition-fits .ensures) (c .if1 .taken)) (w .inv)
 
 add-i : tie.Need-add-i Inv-loop μ-loop
 add-i c = omega arith
@@ -49,9 +46,9 @@ loop-less c = omega arith
 loop-again : tie.Need-loop-again Inv-loop μ-loop
 unfolding trans-row
 loop-again c =
-    let w = c .before .before .before .before .loop in
-    let k = chart-of (c .before .before .before .before .before .before .args .chart .now) in
-    every-next (transition-fits k) (k .transitions) no-trans (w .i) (omega arith) (held (c .before .transition-fits .ensures ∙ ap (transition-fits k) (c .before .before .trans-row .ensures)) (c .if1 .left)) (w .inv)
+    let w = c .before .before .before .loop in
+    let k = chart-of (c .before .before .before .before .before .args .chart .now) in
+    every-next (transition-fits k) (k .transitions) no-trans (w .i) (omega arith) (held (c .before .transition-fits .ensures) (c .if1 .left)) (w .inv)
 
 returns-2 : tie.Need-returns-2 Inv-loop μ-loop
 returns-2 c =
@@ -67,7 +64,6 @@ rule-6-spec =
     μ-loop
     transition-count-requires
     loop-holds
-    trans-row-requires
     transition-fits-requires
     returns
     add-i

@@ -26,17 +26,14 @@ loop-holds : tie.Need-loop-holds Inv-loop μ-loop
 unfolding rule-7
 loop-holds c = refl
 
-action-row-requires : tie.Need-action-row-requires Inv-loop μ-loop
-action-row-requires c κs = search needs
-
 action-fits-requires : tie.Need-action-fits-requires Inv-loop μ-loop
-action-fits-requires c κs = search needs
+action-fits-requires c κs = omega (arith, c .loop-test .taken, c .before .before .action-count .ensures)
 
 returns : tie.Need-returns Inv-loop μ-loop
 returns c =
-    let w = c .before .before .before .before .loop in
-    let k = chart-of (c .before .before .before .before .before .before .args .chart .now) in
-    every-stop (action-fits k) (k .actions) no-action (w .i) (omega arith) (refuted (c .before .action-fits .ensures ∙ ap (action-fits k) (c .before .before .action-row .ensures)) (c .if1 .taken)) (w .inv)
+    let w = c .before .before .before .loop in
+    let k = chart-of (c .before .before .before .before .before .args .chart .now) in
+    every-stop (action-fits k) (k .actions) no-action (w .i) (omega arith) (refuted (c .before .action-fits .ensures) (c .if1 .taken)) (w .inv)
 
 add-i : tie.Need-add-i Inv-loop μ-loop
 add-i c = omega arith
@@ -46,9 +43,9 @@ loop-less c = omega arith
 
 loop-again : tie.Need-loop-again Inv-loop μ-loop
 loop-again c =
-    let w = c .before .before .before .before .loop in
-    let k = chart-of (c .before .before .before .before .before .before .args .chart .now) in
-    every-next (action-fits k) (k .actions) no-action (w .i) (omega arith) (held (c .before .action-fits .ensures ∙ ap (action-fits k) (c .before .before .action-row .ensures)) (c .if1 .left)) (w .inv)
+    let w = c .before .before .before .loop in
+    let k = chart-of (c .before .before .before .before .before .args .chart .now) in
+    every-next (action-fits k) (k .actions) no-action (w .i) (omega arith) (held (c .before .action-fits .ensures) (c .if1 .left)) (w .inv)
 
 returns-2 : tie.Need-returns-2 Inv-loop μ-loop
 returns-2 c =
@@ -64,7 +61,6 @@ rule-7-spec =
     μ-loop
     action-count-requires
     loop-holds
-    action-row-requires
     action-fits-requires
     returns
     add-i

@@ -4,6 +4,7 @@ use Prim.Native.Nat.{_-_, _≤_}
 use native.Mathlib.Omega.{arith}
 use lib.ListN.{length}
 use Rattle.meaning.specs.Value.{chart-of}
+use Rattle.chart_rows.proofs.Rows.{states-most}
 use Rattle.rules.specs.Family.{Family}
 use Rattle.rules.proofs.Children.{family-none, family-root, family-far, family-more, young-length}
 use borrow.Author.Needs.{needs}
@@ -49,11 +50,11 @@ loop-less-2 c = omega arith
 loop-again-2 : tie.Need-loop-again-2 Inv-loop μ-loop
 loop-again-2 c =
     let k = chart-of (c .before .before .before .before .before .before .before .before .args .chart .now) in
-    let w = c .before .before .before .before .before .before .loop in
-    (omega arith, family-far k (w .next) (w .counts) (w .plain) (w .inv .1) (c .before .if1 .left) (rw (c .before .before .before .before .parent-of .ensures) at (c .if2 .taken)))
-
-mul-counts : tie.Need-mul-counts Inv-loop μ-loop
-mul-counts c = omega arith
+    let w = c .before .before .before .before .before .before .loop in (
+      omega arith,
+      family-far k (w .next) (w .counts) (w .plain) (w .inv .1) (c .before .if1 .left)
+          (rw (c .before .before .before .before .parent-of .ensures) at (c .if2 .taken)),
+    )
 
 array-read-counts : tie.Need-array-read-counts Inv-loop μ-loop
 array-read-counts c = omega arith
@@ -63,10 +64,16 @@ add-counts c =
     let k = chart-of (c .before .before .before .before .before .before .before .before .args .chart .now) in
     let w = c .before .before .before .before .before .before .loop in
     let p = c .before .before .before .before .parent-of .result in
-    omega (arith, w .inv .1 .counted p (c .if2 .left), young-length k (w .next) p)
-
-mul-counts-2 : tie.Need-mul-counts-2 Inv-loop μ-loop
-mul-counts-2 c = omega arith
+    omega (
+      arith,
+      w .inv .0,
+      w .inv .1 .counted p (c .if2 .left),
+      young-length k
+          (w .next) p,
+      c .before .before .before .before .before .before .before .state-count .ensures,
+      states-most
+          (c .before .before .before .before .before .before .before .before .args .chart .now),
+    )
 
 array-write-counts : tie.Need-array-write-counts Inv-loop μ-loop
 array-write-counts c = omega arith
@@ -88,7 +95,9 @@ loop-again-3 c =
     let k = chart-of (c .before .before .before .before .before .before .before .before .before .args .chart .now) in
     let w = c .before .before .before .before .before .before .before .loop in (
       omega arith,
-      family-more k (w .next) (w .counts) (w .plain) (w .inv .1) (c .before .before .before .before .before .parent-of .result) (c .both .result) (c .before .before .if1 .left) (c .before .before .before .before .before .parent-of .ensures) (c .before .if2 .left)
+      family-more k (w .next) (w .counts) (w .plain) (w .inv .1) (c .before .before .before .before .before .parent-of .result)
+          (c .both .result) (c .before .before .if1 .left) (c .before .before .before .before .before .parent-of .ensures)
+          (c .before .if2 .left)
           (c .both .ensures ∙ rw (c .before .before .before .is-o .ensures, c .before .before .before .before .kind-of .ensures)),
     )
 
@@ -115,10 +124,8 @@ count-children-spec =
     loop-again
     loop-less-2
     loop-again-2
-    mul-counts
     array-read-counts
     add-counts
-    mul-counts-2
     array-write-counts
     array-read-both
     both-requires
