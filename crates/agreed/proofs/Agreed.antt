@@ -18,11 +18,11 @@ use Rattle.engine.proofs.start.Reads as start-reads
 use Rattle.engine.proofs.run.Reads as run-reads
 use Rattle.engine.proofs.post.Reads as post-reads
 use Rattle.engine.proofs.discard.Reads as discard-reads
-use Rattle.engine.proofs.plans.compile.Reads as compile-reads
-use Rattle.engine.proofs.planned.start.Reads as plan-start-reads
-use Rattle.engine.proofs.planned.run.Reads as plan-run-reads
-use Rattle.engine.proofs.planned.post.Reads as plan-post-reads
-use Rattle.engine.proofs.planned.discard.Reads as plan-discard-reads
+use Rattle.plan_engine.proofs.plans.compile.Reads as compile-reads
+use Rattle.plan_engine.proofs.planned.start.Reads as plan-start-reads
+use Rattle.plan_engine.proofs.planned.run.Reads as plan-run-reads
+use Rattle.plan_engine.proofs.planned.post.Reads as plan-post-reads
+use Rattle.plan_engine.proofs.planned.discard.Reads as plan-discard-reads
 
 -- the arguments are the same: compiling was done; one chart, the plan as compile left it, one widget, which is not yet started or the
 -- chart's own

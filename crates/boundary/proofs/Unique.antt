@@ -9,7 +9,7 @@ use denote.Ref.{now}
 use Rattle.meaning.specs.declared.Answer.{Answer}
 use Rattle.meaning.specs.declared.Called.{Called}
 use Rattle.meaning.specs.Calls.{Outcome}
-use Rattle.engine.proofs.Unique.{Settles, one, nothing}
+use Rattle.promises.proofs.Settles.{Settles, one, nothing}
 use Rattle.promises.specs.Host.{Told, Ends, Traces, HostChecked, HostRead, HostWrote, HostCompiled, HostExamined, HostUnstarted}
 use Rattle.promises.specs.Host.{HostStarted, HostRan, HostPosted, HostDiscarded}
 use Rattle.promises.specs.Host.{HostPlanStarted, HostPlanRan, HostPlanPosted, HostPlanDiscarded, HostReplayed}

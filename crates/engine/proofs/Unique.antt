@@ -1,10 +1,11 @@
 -- "Every public function's stated result determines answer, state and every lent number on every input, refusals too; that two results it
 -- allows are equal is proved" (01, "Promises"). The theorems are about what each function's own contract asks of a caller (`Asked`) and
 -- tells it (`Learnt`), as they are read from the source: a contract that says less, or asks for more, is refused here.
--- In the order: what is shown of a contract; the functions that require nothing; those on a checked chart. Assumes nothing.
-use mathlib.Core.Path.{_≡_, refl, sym, _∙_}
+-- In the order: the functions that require nothing; those on a checked chart. Assumes nothing.
+use mathlib.Core.Path.{refl}
 use contract.Lifetimes.{Lfts}
 use denote.Ref.{now}
+use Rattle.promises.proofs.Settles.{Settles, nothing, one}
 use Rattle.promises.specs.Promises.{Checked, Accepted, Read, Wrote, Unstarted, Started, Ran, Posted, Discarded}
 use Rattle.engine.proofs.check.Reads as check-reads
 use Rattle.engine.proofs.read.Reads as read-reads
@@ -18,22 +19,6 @@ use Rattle.engine.proofs.checked.start_checked.Reads as start-checked-r
 use Rattle.engine.proofs.checked.run_checked.Reads as run-checked-reads
 use Rattle.engine.proofs.checked.post_checked.Reads as post-checked-reads
 use Rattle.engine.proofs.checked.discard_checked.Reads as discard-checked-reads
-
--- ---- what is shown of a contract, over its arguments A, its result R, its arguments at exit E, and what it wrote where it was lent, L
-
-pub record Settles {A R E L : Type 0} (given asked : A → Type 0) (learnt promise : A → R → E → Type 0) (lent : E → L) : Type 0 where
-  -- it may be called on every input of which this is given
-  pub asks : (a : A) → given a → asked a
-  -- it says its promise
-  pub promised : (a : A) (r : R) (x : E) → learnt a r x → promise a r x
-  -- two results that it allows are equal, and so is what it wrote
-  pub unique : (a : A) (r s : R) (x y : E) → learnt a r x → learnt a s y → (r ≡ s) × (lent x ≡ lent y)
-
-pub one : {A : Type 0} {d x y : A} → x ≡ d → y ≡ d → x ≡ y
-one p q = p ∙ sym q
-
-abbrev pub nothing : {A : Type 0} → A → Type 0
-nothing a = Unit {0}
 
 -- ---- the functions that require nothing
 

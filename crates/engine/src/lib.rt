@@ -2,9 +2,6 @@
 // value in lent numbers, and no function here asks anything of what it is lent. A caller that has checked a chart once finds in checked
 // the same calls without the check. Plans are made and examined in plans, and run in planned; examined is for a plan that was examined once.
 pub mod checked;
-pub mod examined;
-pub mod planned;
-pub mod plans;
 
 pub use chart_rows::layout::VALUE;
 use checked::discard_checked;
@@ -18,6 +15,9 @@ pub use meaning::State;
 pub use meaning::Written;
 use meaning::answers::RULE_FAILS;
 pub use meaning::plan::Compiled;
+pub use plan_engine::examined;
+pub use plan_engine::planned;
+pub use plan_engine::plans;
 pub use promises::Replayed;
 use queue::Queue;
 use queue_calls::answers::refused;

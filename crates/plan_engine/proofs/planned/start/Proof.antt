@@ -1,7 +1,7 @@
 -- `start` says by name what the machine says. Assumes nothing.
 use borrow.Author.Needs.{needs}
-use Rattle.engine.proofs.planned.start.Statement.{statement}
-use Rattle.engine.proofs.planned.start.Tie as tie
+use Rattle.plan_engine.proofs.planned.start.Statement.{statement}
+use Rattle.plan_engine.proofs.planned.start.Tie as tie
 
 returns : tie.Need-returns
 returns c = record { result = c .before .start .ensures .0; lent = c .before .start .ensures .1 }

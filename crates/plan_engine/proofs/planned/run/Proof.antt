@@ -1,7 +1,7 @@
 -- `run` says by name what the machine says. Assumes nothing.
 use borrow.Author.Needs.{needs}
-use Rattle.engine.proofs.planned.run.Statement.{statement}
-use Rattle.engine.proofs.planned.run.Tie as tie
+use Rattle.plan_engine.proofs.planned.run.Statement.{statement}
+use Rattle.plan_engine.proofs.planned.run.Tie as tie
 
 returns : tie.Need-returns
 returns c = record { result = c .before .run .ensures .0; lent = c .before .run .ensures .1 }

@@ -3,9 +3,9 @@ use mathlib.Core.Path.{refl}
 use contract.Lifetimes.{Lfts}
 use denote.Ref.{now}
 use Rattle.promises.specs.Promises.{Compiles, Examined}
-use Rattle.engine.proofs.Unique.{Settles, nothing, one}
-use Rattle.engine.proofs.plans.compile.Reads as compile-reads
-use Rattle.engine.proofs.plans.examine.Reads as examine-reads
+use Rattle.promises.proofs.Settles.{Settles, nothing, one}
+use Rattle.plan_engine.proofs.plans.compile.Reads as compile-reads
+use Rattle.plan_engine.proofs.plans.examine.Reads as examine-reads
 
 pub compile-settles : (κs : Lfts 2) → Settles nothing (compile-reads.Asked κs) (compile-reads.Learnt κs)
     (λ a r x. Compiles (now (a .0)) (now (a .1 .0)) r (now (x .1 .0))) (λ x. now (x .1 .0))

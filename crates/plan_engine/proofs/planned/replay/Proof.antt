@@ -1,7 +1,7 @@
 -- `replay` says by name what the replay says. Assumes nothing.
 use borrow.Author.Needs.{needs}
-use Rattle.engine.proofs.planned.replay.Statement.{statement}
-use Rattle.engine.proofs.planned.replay.Tie as tie
+use Rattle.plan_engine.proofs.planned.replay.Statement.{statement}
+use Rattle.plan_engine.proofs.planned.replay.Tie as tie
 
 returns : tie.Need-returns
 returns c = record { result = c .before .replay .ensures .result; lent = c .before .replay .ensures .lent }

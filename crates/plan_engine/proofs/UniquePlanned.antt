@@ -4,12 +4,12 @@ use mathlib.Core.Path.{refl}
 use contract.Lifetimes.{Lfts}
 use denote.Ref.{now}
 use Rattle.promises.specs.Promises.{PlanStarted, PlanRan, PlanPosted, PlanDiscarded, PlanReplayed}
-use Rattle.engine.proofs.Unique.{Settles, nothing, one}
-use Rattle.engine.proofs.planned.start.Reads as start-reads
-use Rattle.engine.proofs.planned.run.Reads as run-reads
-use Rattle.engine.proofs.planned.post.Reads as post-reads
-use Rattle.engine.proofs.planned.discard.Reads as discard-reads
-use Rattle.engine.proofs.planned.replay.Reads as replay-reads
+use Rattle.promises.proofs.Settles.{Settles, nothing, one}
+use Rattle.plan_engine.proofs.planned.start.Reads as start-reads
+use Rattle.plan_engine.proofs.planned.run.Reads as run-reads
+use Rattle.plan_engine.proofs.planned.post.Reads as post-reads
+use Rattle.plan_engine.proofs.planned.discard.Reads as discard-reads
+use Rattle.plan_engine.proofs.planned.replay.Reads as replay-reads
 
 pub plan-start-settles : (κs : Lfts 2) → Settles nothing (start-reads.Asked κs) (start-reads.Learnt κs)
     (λ a r x. PlanStarted (now (a .0)) (a .1 .0) (now (a .1 .1 .0)) r (now (x .1 .1 .0))) (λ x. now (x .1 .1 .0))

@@ -1,7 +1,7 @@
 -- `compile` says by name what the compiler says. Assumes nothing.
 use borrow.Author.Needs.{needs}
-use Rattle.engine.proofs.plans.compile.Statement.{statement}
-use Rattle.engine.proofs.plans.compile.Tie as tie
+use Rattle.plan_engine.proofs.plans.compile.Statement.{statement}
+use Rattle.plan_engine.proofs.plans.compile.Tie as tie
 
 returns : tie.Need-returns
 returns c = record { result = c .before .compile .ensures .0; lent = c .before .compile .ensures .1 }

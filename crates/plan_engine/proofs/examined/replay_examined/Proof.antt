@@ -1,7 +1,7 @@
 -- `replay_examined` says by name what the replay says. Assumes nothing.
 use borrow.Author.Needs.{needs}
-use Rattle.engine.proofs.examined.replay_examined.Statement.{statement}
-use Rattle.engine.proofs.examined.replay_examined.Tie as tie
+use Rattle.plan_engine.proofs.examined.replay_examined.Statement.{statement}
+use Rattle.plan_engine.proofs.examined.replay_examined.Tie as tie
 
 returns : tie.Need-returns
 returns c = record { result = c .before .replay-planned .ensures .result; lent = c .before .replay-planned .ensures .lent }

@@ -1,7 +1,7 @@
 -- `discard` says by name what the machine says. Assumes nothing.
 use borrow.Author.Needs.{needs}
-use Rattle.engine.proofs.planned.discard.Statement.{statement}
-use Rattle.engine.proofs.planned.discard.Tie as tie
+use Rattle.plan_engine.proofs.planned.discard.Statement.{statement}
+use Rattle.plan_engine.proofs.planned.discard.Tie as tie
 
 returns : tie.Need-returns
 returns c = record { result = c .discard .ensures }

@@ -1,0 +1,3 @@
+pub mod Examining
+pub mod UniquePlans
+pub mod UniquePlanned
