@@ -7,7 +7,7 @@ use mathlib.Core.Bool.{Bool, true, false, false≢true, true≢false}
 use mathlib.Core.List.{List, [], _∷_, _++_}
 use lib.ListN.{length, getD, take, drop, take-append-drop, length-drop}
 use lib.Seq.{drop-cons, take-all, take-suc}
-use Rattle.sizes.specs.Sizes.{QUEUE}
+use Rattle.sizes.specs.Sizes.{QUEUE, STATES}
 use Rattle.queue.specs.Numbers.{QUEUE-NUMBERS, queue-by}
 use Rattle.queue.specs.Queue.{none}
 use Rattle.queue.specs.declared.Item.{Item}
@@ -70,7 +70,7 @@ module _ {p : Plan} (w : Well p) {xs : List Item} {u : State} {n d : ℕ} {k : L
   pub coursing-free : Free (k .queue)
   coursing-free = fits-free (p .events) (queue-by (k .queue)) (c .fit .queue)
 
-  pub coursing-slots : length (k .slots) ≡ 64
+  pub coursing-slots : length (k .slots) ≡ STATES
   coursing-slots = c .fit .sized .slots
 
   pub coursing-end : (k₀ : Lent) → u ≡ widget k₀ → n ≡ length (k₀ .trace) → length xs ≤ d

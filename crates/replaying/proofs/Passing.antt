@@ -45,7 +45,8 @@ all-free (x ∷ xs) h =
 
 module _ (q : Queue) (e a : ℤ) (h : q .len < QUEUE) where
   pub taken-from : removed (appended q e a .queue) ≡ removed (record { len = q .len + 1; items = appended q e a .queue .items })
-  taken-from = ap (λ n. removed (record { len = n; items = appended q e a .queue .items })) (ap (λ x. x .queue .len) (appended-room q e a h))
+  taken-from = ap (λ n. removed (record { len = n; items = appended q e a .queue .items }))
+      (ap (λ x. x .queue .len) (appended-room q e a h))
 
   pub is-taken : removed (appended q e a .queue) .done ≡ true
   is-taken = ap (λ x. x .done) (taken-from
@@ -132,7 +133,8 @@ module _ (ns : List ℤ) (w : length ns ≡ QUEUE-NUMBERS) (n : ℕ) (l : n ≡ 
 pub put-more : (ns ms qs : List ℤ) (i : ℕ) (x : ℤ) → length ns ≡ QUEUE-NUMBERS → length ms ≡ QUEUE-NUMBERS → i < QUEUE-NUMBERS
     → qs ≡ copied ns ms i → x ≡ getD ms i (pos 0) → set qs i x ≡ copied ns ms (i + 1)
 put-more ns ms qs i x l m h e f =
-    ap (λ y. set qs i y) f ∙ ap (λ y. set y i (getD ms i (pos 0))) e ∙ copied-suc ns ms i (pos 0) (omega (arith, l, h)) (omega (arith, m, h))
+    ap (λ y. set qs i y) f ∙ ap (λ y. set y i (getD ms i (pos 0))) e
+    ∙ copied-suc ns ms i (pos 0) (omega (arith, l, h)) (omega (arith, m, h))
 
 pub put-all : (ns ms qs : List ℤ) (i : ℕ) → length ns ≡ QUEUE-NUMBERS → length ms ≡ QUEUE-NUMBERS → QUEUE-NUMBERS ≤ i → i ≤ QUEUE-NUMBERS
     → qs ≡ copied ns ms i → qs ≡ ms

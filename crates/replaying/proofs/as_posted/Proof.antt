@@ -47,7 +47,8 @@ returns c =
     let s = start-from-trace t in
     broken-told (s .pre .1) (sized-of s) (t .before .before .before .before .before .before .before .lend .ensures) (s .args .trace .now)
     (s .pre .2) (t .before .go-through .ensures)
-    (event-here (s .args .events .now) (s .args .done) _ _ (s .pre .2 .within) (back32 _ (v .before .event .given)) (back32 _ (v .arg .given)))
+    (event-here (s .args .events .now) (s .args .done) _ _ (s .pre .2 .within) (back32 _ (v .before .event .given))
+    (back32 _ (v .arg .given)))
     _ (c .before .before .before .append .ensures .2 (t .before .go-through .ensures .whole)) (c .before .told .ensures)
 
 pub as-posted-spec : {M : Type 1} → statement M

@@ -72,15 +72,16 @@ as-posted-requires c κs =
     let s = start-from-else2 e in (
       s .pre,
       ready e,
-      broken-here (ready e) (sized-of s) (g .before .before .before .before .before .before .lend .ensures) (s .args .trace .now) (all-there s)
-          (g .go-through .ensures) (c .before .if3 .taken),
+      broken-here (ready e) (sized-of s) (g .before .before .before .before .before .before .lend .ensures) (s .args .trace .now)
+          (all-there s) (g .go-through .ensures) (c .before .if3 .taken),
     )
 
 returns-3 : tie.Need-returns-3
 returns-3 c =
     let g = c .before .before .before .before .before in
     let s = start-from-else2 (else2-from-call (g .before)) in
-    told-as (ap (replay-examined (plan-by (s .args .plan .now)) (s .args .state) (items-of (s .args .events .now))) (sym (g .go-through .ensures .kept)))
+    told-as (ap (replay-examined (plan-by (s .args .plan .now)) (s .args .state) (items-of (s .args .events .now)))
+    (sym (g .go-through .ensures .kept)))
     (sym (g .go-through .ensures .kept)) (c .before .as-posted .ensures)
 
 returns-4 : tie.Need-returns-4

@@ -34,8 +34,8 @@ returns-2 c =
     let e = c .before .before .before .before in
     let s = e .before in
     let a = s .args in
-    told-as (replay-is (a .plan .now) (a .state) (length (a .trace .now)) (sized-of s) (a .events .now) (omega (arith, e .if1 .left)) (s .pre))
-    refl (c .before .replay-examined .ensures)
+    told-as (replay-is (a .plan .now) (a .state) (length (a .trace .now)) (sized-of s) (a .events .now) (omega (arith, e .if1 .left))
+    (s .pre)) refl (c .before .replay-examined .ensures)
 
 pub replay-planned-spec : {M : Type 1} → statement M
 replay-planned-spec =

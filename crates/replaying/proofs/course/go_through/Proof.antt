@@ -44,14 +44,16 @@ call-from-else1 c = c .before .before .before
 -- the event that is posted and run is the next one
 next-there : (c : tie.After-post-and-run Inv-loop μ-loop)
     → in-loop-from-call (c .before) .before .loop .done < length
-    (take (in-loop-from-call (c .before) .before .before .args .count) (items-of (in-loop-from-call (c .before) .before .before .args .events .now)))
+    (take (in-loop-from-call (c .before) .before .before .args .count)
+    (items-of (in-loop-from-call (c .before) .before .before .args .events .now)))
 next-there c =
     let s = in-loop-from-call (c .before) .before .before in
     let n = so-many (s .args .events .now) (s .args .count) (s .pre .1) in
     omega (arith, n, in-loop-from-call (c .before) .loop-test .taken)
 
 next-is : (c : tie.After-post-and-run Inv-loop μ-loop)
-    → getD (take (in-loop-from-call (c .before) .before .before .args .count) (items-of (in-loop-from-call (c .before) .before .before .args .events .now)))
+    → getD (take (in-loop-from-call (c .before) .before .before .args .count)
+    (items-of (in-loop-from-call (c .before) .before .before .args .events .now)))
     (in-loop-from-call (c .before) .before .loop .done) none
     ≡ item (toZ w32 (ofZ w32 (getD (in-loop-from-call (c .before) .before .before .args .events .now)
     (2 * in-loop-from-call (c .before) .before .loop .done) (pos 0))))
@@ -96,7 +98,8 @@ returns-2 c =
     let a = s .args in
     let n = so-many (a .events .now) (a .count) (s .pre .1) in
     coursing-end (well (a .plan .now) (s .pre .0 .formed)) (c .before .loop .inv .0)
-    (all-lent (a .active .now) (a .slots .now) (a .vars .now) (a .queue .now) (a .trace .now)) refl refl (omega (arith, n, c .loop-test .left))
+    (all-lent (a .active .now) (a .slots .now) (a .vars .now) (a .queue .now) (a .trace .now)) refl refl
+    (omega (arith, n, c .loop-test .left))
 
 pub go-through-spec : {M : Type 1} → statement M
 go-through-spec =

@@ -81,7 +81,8 @@ returns-4 c =
           (sym (rw (toZ-ofZ (s .fits .event), toZ-ofZ (s .fits .arg)) at (q .before .before .before .event-fits .ensures))
           ∙ not-false _ (q .before .before .if2 .left))
           (rw (toZ-ofZ (s .fits .event), toZ-ofZ (s .fits .arg)) at (q .pass .ensures)) (not-false _ (o .if3 .left)) (s .pre .3)
-          (c .before .before .before .before .before .before .before .before .before .reference .ensures ∙ ap ref (toZ-ofZ (event-fits-32 q)))
+          (c .before .before .before .before .before .before .before .before .before .reference .ensures
+          ∙ ap ref (toZ-ofZ (event-fits-32 q)))
           (toZ-ofZ (arg-fits-32 q)) (c .before .react .ensures .0),
       c .before .react .ensures .1,
     )
