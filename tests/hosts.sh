@@ -59,7 +59,7 @@ list_lacking() {
 }
 
 need() { # COMMAND PACKAGE
-    command -v "$1" >/dev/null 2>&1 && return
+    "$1" --version >/dev/null 2>&1 && return
     lacking+=("the command $1")
     packages+=("$2")
 }
@@ -96,6 +96,8 @@ install_lacking() { # INSTALL
 rust() { # SUBCOMMAND WORDS...
     local subcommand=$1
     shift
+    # cargo wants a folder of its own that it can write to
+    [ -w "${CARGO_HOME:-${HOME:-/}/.cargo}" ] || export CARGO_HOME=$here/rust/target/cargo-home
     if [ "$machine" = x86_64 ]; then
         (cd "$here/rust" && cargo "$subcommand" --offline --release --quiet "$@")
     else

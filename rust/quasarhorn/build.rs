@@ -18,6 +18,7 @@ fn main() {
             std::process::exit(1);
         }
     };
+    println!("cargo:rustc-env=QUASARHORN_LINKED={}", archive.display());
     println!("cargo:rustc-link-search=native={}", folder.display());
     println!("cargo:rustc-link-lib=static=boundary");
     // An archive made before the call `qh_plan_replay` was there can still be linked, and then nothing asks for it.

@@ -1,13 +1,17 @@
 //! The C header and this crate say the same sizes, places and answers.
 
 use quasarhorn::{numbers, Answer, Widget};
-use std::collections::HashMap;
+use std::collections::{BTreeSet, HashMap};
 use std::path::Path;
+
+fn text() -> String {
+    let path = Path::new(env!("CARGO_MANIFEST_DIR")).join("../../include/quasarhorn.h");
+    std::fs::read_to_string(path).unwrap()
+}
 
 /// What the header gives a name: `#define NAME NUMBER` and `NAME = NUMBER`.
 fn header() -> HashMap<String, i64> {
-    let path = Path::new(env!("CARGO_MANIFEST_DIR")).join("../../include/quasarhorn.h");
-    let text = std::fs::read_to_string(path).unwrap();
+    let text = text();
     let mut found = HashMap::new();
     for line in text.lines() {
         let words: Vec<&str> = line.split_whitespace().collect();
@@ -21,6 +25,30 @@ fn header() -> HashMap<String, i64> {
         }
     }
     found
+}
+
+/// The names that begin with qh_ and end as said, in some bytes.
+fn names(bytes: &[u8], end: u8) -> BTreeSet<String> {
+    let is_part = |b: &u8| b.is_ascii_lowercase() || *b == b'_';
+    let mut found = BTreeSet::new();
+    for i in 0..bytes.len() {
+        let rest = &bytes[i..];
+        let length = rest.iter().take_while(|b| is_part(b)).count();
+        if rest.starts_with(b"qh_") && (i == 0 || !is_part(&bytes[i - 1])) && rest.get(length) == Some(&end) {
+            found.insert(String::from_utf8_lossy(&rest[..length]).into_owned());
+        }
+    }
+    found
+}
+
+#[test]
+fn every_call_of_the_archive_is_declared() {
+    let mut linked = names(&std::fs::read(env!("QUASARHORN_LINKED")).unwrap(), 0);
+    if !numbers::HAS_REPLAY {
+        linked.insert("qh_plan_replay".to_string());
+    }
+    assert_eq!(names(text().as_bytes(), b'('), linked);
+    assert_eq!(linked.len(), 15);
 }
 
 #[test]
