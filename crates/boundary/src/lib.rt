@@ -105,7 +105,8 @@ pub extern "C" fn qh_start(
     trace: &mut [i32],
     report: &mut [i32; 2],
 ) -> i32
-    ensures { λ r. ⌜ HostStarted (now (chart .entry)) (now (widget .entry)) (now (trace .entry)) r (now (report .exit)) (now (widget .exit)) (now (trace .exit)) ⌝ }
+    ensures { λ r. ⌜ HostStarted (now (chart .entry)) (now (widget .entry)) (now (trace .entry)) r (now (report .exit))
+        (now (widget .exit)) (now (trace .exit)) ⌝ }
 {
     if widget.len() < STATE_NUMBERS {
         let verdict = engine::check(chart);
@@ -126,7 +127,8 @@ pub extern "C" fn qh_run(
     trace: &mut [i32],
     report: &mut [i32; 2],
 ) -> i32
-    ensures { λ r. ⌜ HostRan (now (chart .entry)) (now (widget .entry)) (now (trace .entry)) r (now (report .exit)) (now (widget .exit)) (now (trace .exit)) ⌝ }
+    ensures { λ r. ⌜ HostRan (now (chart .entry)) (now (widget .entry)) (now (trace .entry)) r (now (report .exit))
+        (now (widget .exit)) (now (trace .exit)) ⌝ }
 {
     let state = load(widget);
     let called = engine::run(chart, state, trace);
@@ -169,7 +171,8 @@ pub extern "C" fn qh_plan_start(
     trace: &mut [i32],
     report: &mut [i32; 2],
 ) -> i32
-    ensures { λ r. ⌜ HostPlanStarted (now (plan .entry)) (now (widget .entry)) (now (trace .entry)) r (now (report .exit)) (now (widget .exit)) (now (trace .exit)) ⌝ }
+    ensures { λ r. ⌜ HostPlanStarted (now (plan .entry)) (now (widget .entry)) (now (trace .entry)) r (now (report .exit))
+        (now (widget .exit)) (now (trace .exit)) ⌝ }
 {
     if widget.len() < STATE_NUMBERS {
         let verdict = engine::plans::examine(plan);
@@ -190,7 +193,8 @@ pub extern "C" fn qh_plan_run(
     trace: &mut [i32],
     report: &mut [i32; 2],
 ) -> i32
-    ensures { λ r. ⌜ HostPlanRan (now (plan .entry)) (now (widget .entry)) (now (trace .entry)) r (now (report .exit)) (now (widget .exit)) (now (trace .exit)) ⌝ }
+    ensures { λ r. ⌜ HostPlanRan (now (plan .entry)) (now (widget .entry)) (now (trace .entry)) r (now (report .exit))
+        (now (widget .exit)) (now (trace .exit)) ⌝ }
 {
     let state = load(widget);
     let called = engine::planned::run(plan, state, trace);
