@@ -16,6 +16,7 @@ pub use meaning::State;
 pub use meaning::Written;
 use meaning::answers::RULE_FAILS;
 pub use meaning::plan::Compiled;
+pub use promises::Replayed;
 use queue::Queue;
 use queue_calls::answers::refused;
 use reaction::ends::refuse;

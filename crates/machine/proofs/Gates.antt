@@ -31,11 +31,11 @@ module _ (ns : List ℤ) {a : Answer} (e : a ≡ examined ns) where
   answer-no true f z = absurd (z (ap (λ (x : Answer). x .number) f))
   answer-no false f z = refl
 
-  passed : a .number ≡ 0 → well-formed ns ≡ true
+  pub passed : a .number ≡ 0 → well-formed ns ≡ true
   unfolding examined
   passed z = answer-by (well-formed ns) e z
 
-  failed : (a .number ≡ 0 → ⊥) → well-formed ns ≡ false
+  pub failed : (a .number ≡ 0 → ⊥) → well-formed ns ≡ false
   unfolding examined
   failed z = answer-no (well-formed ns) e z
 

@@ -29,7 +29,7 @@ ghost use Rattle.plan_choice.specs.Heads.{Examined};
 ghost use Rattle.plan_code.specs.Code.{Slotted, Ran};
 
 // One step with the event, then null steps.
-fn react(
+pub fn react(
     plan: &[i32],
     k: Counts,
     event: usize,
@@ -42,7 +42,7 @@ fn react(
     trace: &mut [i32],
 ) -> Went
     requires { ⌜ Examined (now plan) k × (length (now picks) ≡ transitions) × Slotted (now slots) ⌝ }
-    ensures { λ r. ⌜ Ran (plan-step (plan-by (now (plan .entry))) event arg then plan-settle (plan-by (now (plan .entry)))) (all-lent (now (active .entry)) (now (slots .entry)) (now (vars .entry)) (now (queue .entry)) (now (trace .entry))) 0 r (all-lent (now (active .exit)) (now (slots .exit)) (now (vars .exit)) (now (queue .exit)) (now (trace .exit))) ⌝ }
+    ensures { λ r. ⌜ Ran (plan-step (plan-by (now (plan .entry))) event arg then plan-settle (plan-by (now (plan .entry)))) (all-lent (now (active .entry)) (now (slots .entry)) (now (vars .entry)) (now (queue .entry)) (now (trace .entry))) 0 r (all-lent (now (active .exit)) (now (slots .exit)) (now (vars .exit)) (now (queue .exit)) (now (trace .exit))) × (length (now (picks .exit)) ≡ transitions) ⌝ }
 {
     let went = step(
         plan,

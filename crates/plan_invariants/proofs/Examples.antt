@@ -14,8 +14,8 @@ use Rattle.meaning.specs.Machine.{machine-start}
 use Rattle.meaning.specs.Open.{all-open}
 use Rattle.meaning.specs.WellFormed.{plan-by, well-formed}
 use Rattle.meaning.specs.Widget.{numbers}
-use Rattle.plan_invariants.specs.Replay.{Replayed, replay, replay-open, replayed}
 use Rattle.plan_invariants.specs.Root.{begins-in-root, enters-root, leaves-root, never-leaves-root, starts-in-root}
+use Rattle.promises.specs.Replay.{Course, course, replay, replay-open}
 use Rattle.queue.specs.Queue.{item}
 use Rattle.queue.specs.declared.Item.{Item}
 
@@ -23,11 +23,11 @@ abbrev with-0 : ℕ → Item
 with-0 e = item (pos e) (pos 0)
 
 -- the states and entries are those of the starred cases
-pub replay-K : replay plan-K state-started (with-0 1 ∷ with-0 2 ∷ with-0 1 ∷ []) 3000 ≡ replayed 3 0 state-3 (concat-map numbers entries-3)
+pub replay-K : replay plan-K state-started (with-0 1 ∷ with-0 2 ∷ with-0 1 ∷ []) 3000 ≡ course 3 0 state-3 (concat-map numbers entries-3)
 unfolding all-open replay-open
 replay-K = refl
 
-abbrev stopped-K : Replayed
+abbrev stopped-K : Course
 stopped-K = replay plan-K state-started (with-0 1 ∷ with-0 3 ∷ with-0 1 ∷ []) 3000
 
 pub replay-K-stopped : (stopped-K .done ≡ 1) × (stopped-K .number ≡ 10) × (stopped-K .trace ≡ concat-map numbers entries-1)
@@ -47,7 +47,7 @@ plan-leaving =
     ∷ pos 2 ∷ pos 0 ∷ negsuc 0 ∷ pos 0
     ∷ []
 
-abbrev left-root : Replayed
+abbrev left-root : Course
 left-root = replay plan-leaving (machine-start plan-leaving unstarted 3 .after) (with-0 1 ∷ with-0 1 ∷ []) 6
 
 pub replay-leaving : (well-formed plan-leaving ≡ true) × (left-root .done ≡ 1) × (left-root .number ≡ 6)

@@ -21,21 +21,21 @@ use Rattle.plan_invariants.proofs.Calls.{fit-own, own-fit, plan-post-fa
 use Rattle.plan_invariants.proofs.Good.{Fit}
 use Rattle.plan_invariants.proofs.Root.{root-after-post}
 use Rattle.plan_invariants.proofs.Well.{Well, well}
-use Rattle.plan_invariants.specs.Replay.{Replayed, or-stop, post-on, replay, replay-by, replay-examined, replay-once, replayed}
-use Rattle.plan_invariants.specs.Replay.{run-on}
+use Rattle.plan_invariants.specs.Replay.{post-on, replay-examined, replay-once, run-on}
+use Rattle.promises.specs.Replay.{Course, course, or-stop, replay, replay-by}
 use Rattle.queue.specs.Queue.{removed}
 use Rattle.queue.specs.declared.Item.{Item}
 
 -- ---- the fold: equal ways on where a call is done
 
-or-stop-same : (d : ℕ) (t : List ℤ) (o : Outcome) (f g : State → Replayed) → (o .number ≡ 0 → f (o .after) ≡ g (o .after))
+or-stop-same : (d : ℕ) (t : List ℤ) (o : Outcome) (f g : State → Course) → (o .number ≡ 0 → f (o .after) ≡ g (o .after))
     → or-stop d t o f ≡ or-stop d t o g
 unfolding or-stop
 or-stop-same d t o f g h = go (eqb (o .number) 0) refl
   where
     go : (b : Bool) → eqb (o .number) 0 ≡ b
-        → _≡_ {A = Replayed} (elim b [ true ↦ f (o .after) | false ↦ replayed d (o .number) (o .after) t ])
-        (elim b [ true ↦ g (o .after) | false ↦ replayed d (o .number) (o .after) t ])
+        → _≡_ {A = Course} (elim b [ true ↦ f (o .after) | false ↦ course d (o .number) (o .after) t ])
+        (elim b [ true ↦ g (o .after) | false ↦ course d (o .number) (o .after) t ])
     go true k = h (eqb-true (o .number) 0 k)
     go false k = refl
 
@@ -68,7 +68,7 @@ abbrev calls-run : Plan → ℕ → State → Outcome
 calls-run p n v = plan-run p v n
 
 -- a run, and then the events that are left
-abbrev run-and : (Item → State → Outcome) → (State → Outcome) → ℕ → List Item → Outcome → Replayed
+abbrev run-and : (Item → State → Outcome) → (State → Outcome) → ℕ → List Item → Outcome → Course
 run-and post run d xs o = or-stop d (o .trace) o (λ z. replay-by post run (suc d) z (o .trace) xs)
 
 module _ (p : Plan) (w : Well p) (n : ℕ) where
@@ -103,7 +103,7 @@ module _ (p : Plan) (u : State) where
       (require 10 (event-fits (p .events) (x .event) (x .arg)) then enqueue (x .event) (x .arg)) (begin u 0) m e)
 
   module _ (w : Well p) (n : ℕ) (x : Item) (xs : List Item) where
-    abbrev by-calls : Replayed
+    abbrev by-calls : Course
     by-calls = replay-by (calls-post p) (calls-run p n) 0 u [] (x ∷ xs)
 
     refused-same : (m : ℕ) → eqb m 0 ≡ false → plan-tests p u (begin u 0) ≡ refuse m → by-calls ≡ replay-examined p u (x ∷ xs) n
@@ -114,8 +114,8 @@ module _ (p : Plan) (u : State) where
         ∙ sym (ap (λ r. or-stop 0 [] (outcome u r) (λ v. replay-by (post-on p) (run-on p n) 0 v [] (x ∷ xs))) e
         ∙ stops (λ v. replay-by (post-on p) (run-on p n) 0 v [] (x ∷ xs)))
       where
-        stops : (f : State → Replayed) → or-stop 0 [] (refused m 0 u) f ≡ replayed 0 m u []
-        stops f = ap (λ b. elim b [ true ↦ f u | false ↦ replayed 0 m u [] ]) z
+        stops : (f : State → Course) → or-stop 0 [] (refused m 0 u) f ≡ course 0 m u []
+        stops f = ap (λ b. elim b [ true ↦ f u | false ↦ course 0 m u [] ]) z
 
     passed-same : Fit p u → plan-tests p u (begin u 0) ≡ ok (begin u 0) → by-calls ≡ replay-examined p u (x ∷ xs) n
     unfolding replay-examined or-stop outcome begin
@@ -144,12 +144,12 @@ unfolding replay replay-once machine-post machine-run replay-by or-stop refused
 replay-tests-once ns u z [] n = refl
 replay-tests-once ns u z (x ∷ xs) n = go (well-formed ns) refl
   where
-    by : Bool → Replayed
+    by : Bool → Course
     by b = replay-by (λ y v. elim b [ true ↦ plan-post (plan-by ns) v (y .event) (y .arg) | false ↦ refused 5 0 v ])
         (λ v. elim b [ true ↦ plan-run (plan-by ns) v n | false ↦ refused 5 0 v ]) 0 u [] (x ∷ xs)
 
-    once : Bool → Replayed
-    once b = elim b [ true ↦ replay-examined (plan-by ns) u (x ∷ xs) n | false ↦ replayed 0 5 u [] ]
+    once : Bool → Course
+    once b = elim b [ true ↦ replay-examined (plan-by ns) u (x ∷ xs) n | false ↦ course 0 5 u [] ]
 
     cases : (b : Bool) → well-formed ns ≡ b → by b ≡ once b
     cases true e = replay-examined-same (plan-by ns) u (well ns e) n x xs z

@@ -31,7 +31,7 @@ use Rattle.plan_invariants.proofs.Walk.{Ends, Refusal, Runs}
 use Rattle.plan_invariants.specs.Answers.{REPLAY-ANSWERS}
 use Rattle.invariants.specs.Named.{Names, all-named}
 use Rattle.plan_invariants.specs.Names.{of-plan}
-use Rattle.plan_invariants.specs.Replay.{Replayed, or-stop, replay, replay-by, replayed}
+use Rattle.promises.specs.Replay.{Course, course, or-stop, replay, replay-by}
 use Rattle.queue.proofs.Waiting.{appended-full, appended-room, removed-front}
 use Rattle.queue.specs.Queue.{appended, removed}
 use Rattle.queue.specs.declared.Item.{Item}
@@ -104,17 +104,17 @@ module _ (p : Plan) (u : State) where
 -- ---- the fold, by its four cases
 
 -- Q of the events that are left, of what is done and at hand before them, and of what the replay gives
-module _ (post : Item → State → Outcome) (run : State → Outcome) (Q : List Item → ℕ → State → List ℤ → Replayed → Type 0) where
+module _ (post : Item → State → Outcome) (run : State → Outcome) (Q : List Item → ℕ → State → List ℤ → Course → Type 0) where
   abbrev ran-on : Item → State → Outcome
   ran-on x u = run (post x u .after)
 
   pub record Cases : Type 0 where
-    pub no-more : (d : ℕ) (u : State) (t : List ℤ) → Q [] d u t (replayed d 0 u t)
+    pub no-more : (d : ℕ) (u : State) (t : List ℤ) → Q [] d u t (course d 0 u t)
     pub post-stops : (x : Item) (xs : List Item) (d : ℕ) (u : State) (t : List ℤ) → (post x u .number ≡ 0 → ⊥)
-        → Q (x ∷ xs) d u t (replayed d (post x u .number) (post x u .after) t)
+        → Q (x ∷ xs) d u t (course d (post x u .number) (post x u .after) t)
     pub run-stops : (x : Item) (xs : List Item) (d : ℕ) (u : State) (t : List ℤ) → post x u .number ≡ 0 → (ran-on x u .number ≡ 0 → ⊥)
-        → Q (x ∷ xs) d u t (replayed d (ran-on x u .number) (ran-on x u .after) (ran-on x u .trace))
-    pub goes-on : (x : Item) (xs : List Item) (d : ℕ) (u : State) (t : List ℤ) (r : Replayed) → post x u .number ≡ 0
+        → Q (x ∷ xs) d u t (course d (ran-on x u .number) (ran-on x u .after) (ran-on x u .trace))
+    pub goes-on : (x : Item) (xs : List Item) (d : ℕ) (u : State) (t : List ℤ) (r : Course) → post x u .number ≡ 0
         → ran-on x u .number ≡ 0 → Q xs (suc d) (ran-on x u .after) (ran-on x u .trace) r → Q (x ∷ xs) d u t r
 
   pub replay-cases : Cases → (xs : List Item) (d : ℕ) (u : State) (t : List ℤ) → Q xs d u t (replay-by post run d u t xs)
@@ -122,11 +122,11 @@ module _ (post : Item → State → Outcome) (run : State → Outcome) (Q : List
   replay-cases c [] d u t = c .no-more d u t
   replay-cases c (x ∷ xs) d u t = posts (eqb (post x u .number) 0) refl (replay-cases c xs (suc d) (ran-on x u .after) (ran-on x u .trace))
     where
-      rest : Replayed
+      rest : Course
       rest = replay-by post run (suc d) (ran-on x u .after) (ran-on x u .trace) xs
 
-      stop : Replayed
-      stop = replayed d (ran-on x u .number) (ran-on x u .after) (ran-on x u .trace)
+      stop : Course
+      stop = course d (ran-on x u .number) (ran-on x u .after) (ran-on x u .trace)
 
       runs : post x u .number ≡ 0 → (b : Bool) → eqb (ran-on x u .number) 0 ≡ b → Q xs (suc d) (ran-on x u .after) (ran-on x u .trace) rest
           → Q (x ∷ xs) d u t (elim b [ true ↦ rest | false ↦ stop ])
@@ -136,7 +136,7 @@ module _ (post : Item → State → Outcome) (run : State → Outcome) (Q : List
       posts : (b : Bool) → eqb (post x u .number) 0 ≡ b → Q xs (suc d) (ran-on x u .after) (ran-on x u .trace) rest
           → Q (x ∷ xs) d u t (elim b [
             | true ↦ or-stop d (ran-on x u .trace) (ran-on x u) (λ y. replay-by post run (suc d) y (ran-on x u .trace) xs)
-            | false ↦ replayed d (post x u .number) (post x u .after) t
+            | false ↦ course d (post x u .number) (post x u .after) t
           ])
       posts true e h = runs (eqb-true (post x u .number) 0 e) (eqb (ran-on x u .number) 0) refl h
       posts false e h = c .post-stops x xs d u t (eqb-false (post x u .number) 0 e)

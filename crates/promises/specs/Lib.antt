@@ -1,3 +1,4 @@
+pub mod Replay
 pub mod Promises
 pub mod Saved
 pub mod Host

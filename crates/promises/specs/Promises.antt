@@ -1,23 +1,26 @@
 -- What each public function promises (01, "Promises"): one definition for each says its result and every lent number on every input,
 -- refusals too. In the order: the rules' check; chart text read and written; the calls on a widget over its chart; plans compiled and
--- examined; the calls on a widget over a plan. Assumes nothing.
+-- examined; the calls on a widget over a plan, and replay. Assumes nothing.
 use mathlib.Core.Path.{_≡_}
 use mathlib.Core.Bool.{Bool, true, false}
 use mathlib.Core.List.{List}
 use mathlib.Core.Option.{none}
 use Prim.Native.Nat.{ℕ}
 use lib.ListN.{length}
-use lib.IntN.{ℤ}
+use lib.IntN.{ℤ, pos}
 use Rattle.meaning.specs.declared.Answer.{Answer}
 use Rattle.meaning.specs.declared.Called.{Called}
 use Rattle.meaning.specs.declared.State.{State}
 use Rattle.meaning.specs.declared.Written.{Written}
 use Rattle.meaning.specs.declared.plan.Compiled.{Compiled}
+use Rattle.meaning.specs.Lists.{padded}
 use Rattle.meaning.specs.Rules.{failing-rule-of, verdict}
 use Rattle.meaning.specs.Text.{read, write, answer-of, written, lent-numbers, lent-bytes}
 use Rattle.meaning.specs.Compile.{compile-of, compiled, plan-lent}
 use Rattle.meaning.specs.WellFormed.{well-formed}
 use Rattle.meaning.specs.Machine.{machine-start, machine-run, machine-post, machine-discard}
+use Rattle.promises.specs.Replay.{items-of, replay, replayed}
+use Rattle.promises.specs.declared.Replayed.{Replayed}
 use Rattle.meaning.specs.Calls.{called, lent as lent-trace, unstarted, start-of, run-of, post-of, discard-of}
 
 -- ---- the rules' check
@@ -96,3 +99,9 @@ pub record PlanPosted (ns : List ℤ) (u : State) (event arg : ℤ) (r : Called)
 
 pub record PlanDiscarded (ns : List ℤ) (u : State) (r : Called) : Type 0 where
   pub result : r ≡ called (machine-discard ns u)
+
+-- events replayed: the answer that stopped it or 0, the state after, how many events were done, the entries of the last run; the lent trace
+-- has that run's entries and 0 past them
+pub record PlanReplayed (ns : List ℤ) (u : State) (events trace : List ℤ) (r : Replayed) (after : List ℤ) : Type 0 where
+  pub result : r ≡ replayed (replay ns u (items-of events) (length trace))
+  pub lent : after ≡ padded (length trace) (pos 0) (replay ns u (items-of events) (length trace) .trace)

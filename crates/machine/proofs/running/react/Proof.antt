@@ -28,10 +28,12 @@ step-requires c κs = (start-from-step-arg6 c .pre .0, start-from-step-arg6 c .p
 
 returns : tie.Need-returns
 returns c =
-    let a = start-from-then1 c .args in
-    react-stop (plan-by (a .plan .now)) (a .event) (a .arg)
-    (rw (toZ-ofZ (start-from-then1 c .fits .arg)) at (c .before .before .before .step .ensures .0))
-    (c .if1 .taken)
+    let a = start-from-then1 c .args in (
+      react-stop (plan-by (a .plan .now)) (a .event) (a .arg)
+          (rw (toZ-ofZ (start-from-then1 c .fits .arg)) at (c .before .before .before .step .ensures .0))
+          (c .if1 .taken),
+      c .before .before .before .step .ensures .1,
+    )
 
 settle-requires : tie.Need-settle-requires
 settle-requires c κs =
@@ -44,11 +46,13 @@ settle-requires c κs =
 
 returns-2 : tie.Need-returns-2
 returns-2 c =
-    let a = start-from-trace2 c .args in
-    react-on (plan-by (a .plan .now)) (a .event) (a .arg)
-    (rw (toZ-ofZ (start-from-trace2 c .fits .arg)) at
-    (else1-from-settle-arg6 (c .before .before) .before .before .before .step .ensures .0))
-    (else1-from-settle-arg6 (c .before .before) .if1 .left) (c .before .settle .ensures .0)
+    let a = start-from-trace2 c .args in (
+      react-on (plan-by (a .plan .now)) (a .event) (a .arg)
+          (rw (toZ-ofZ (start-from-trace2 c .fits .arg)) at
+          (else1-from-settle-arg6 (c .before .before) .before .before .before .step .ensures .0))
+          (else1-from-settle-arg6 (c .before .before) .if1 .left) (c .before .settle .ensures .0),
+      c .before .settle .ensures .1,
+    )
 
 pub react-spec : {M : Type 1} → statement M
 react-spec =

@@ -76,7 +76,7 @@ react-requires : tie.Need-react-requires
 react-requires c κs = (start-from-struct-told2 c .pre, length-replicate {A = ℕ} TRANSITIONS 0, slots-long (start-from-struct-told2 c))
 
 finish-requires : tie.Need-finish-requires
-finish-requires c κs = c .before .before .react .ensures .did .fits
+finish-requires c κs = c .before .before .react .ensures .0 .did .fits
 
 returns-4 : tie.Need-returns-4
 returns-4 c =
@@ -91,7 +91,7 @@ returns-4 c =
     (not-false _ (reference-from-trace5 c .before .before .before .if3 .left)) _
     (lend-from-trace5 c .lend .ensures) (a .trace .now) _ _
     (reference-from-trace5 c .reference .ensures ∙ ap ref (toZ-ofZ fe)) (toZ-ofZ fa)
-    (c .before .before .before .before .react .ensures) (c .before .finish .ensures)
+    (c .before .before .before .before .react .ensures .0) (c .before .finish .ensures)
 
 pub run-examined-spec : {M : Type 1} → statement M
 run-examined-spec =
