@@ -17,8 +17,10 @@ use Rattle.meaning.specs.declared.State.{State}
 use Rattle.meaning.specs.Answers.{FOREIGN}
 use Rattle.meaning.specs.Lists.{padded}
 use Rattle.meaning.specs.Calls.{Outcome, refused, called, lent, unstarted}
-use Rattle.promises.specs.Saved.{small, widget-of, stored}
-use Rattle.promises.specs.Host.{Told, Ends, Traces, kept, too-few, unstarted-into, start-by, start-into}
+use Rattle.promises.specs.declared.Replayed.{Replayed}
+use Rattle.promises.specs.Replay.{Course, replayed}
+use Rattle.promises.specs.Saved.{small, widget-of, stored, moved-on}
+use Rattle.promises.specs.Host.{Told, Ends, Traces, Stops, kept, too-few, unstarted-into, start-by, start-into}
 
 -- ---- what is told: the result is read back from its bits
 
@@ -107,3 +109,23 @@ pub unstarted-room : {u : State} {ns : List ℤ} {r s : ℤ} {rep after : List �
     → Ends (made 0 u) ns r rep after → Ends (unstarted-into ns) ns s rep after
 unfolding unstarted-into called
 unstarted-room {ns = ns} h e i t = rw (le-ltb (length ns) STATE-NUMBERS h) (ends-by i (ap (made 0) e) t)
+
+-- ---- a replay
+
+pub replays-as : (f : State → Course) {u w : State} {p : Replayed} {ns : List ℤ} {r s : ℤ} {rep after : List ℤ}
+    → u ≡ w → p ≡ replayed (f u) → s ≡ r → Stops p ns r rep after → Stops (replayed (f w)) ns s rep after
+replays-as f {ns = ns} e g i h =
+    let q = g ∙ ap (λ x. replayed (f x)) e in
+    record {
+      answer = i ∙ h .answer ∙ ap (λ x. small (x .answer .number)) q;
+      told = h .told ∙ ap (λ x. small (x .answer .place) ∷ small (x .entries) ∷ small (x .done) ∷ []) q;
+      widget = h .widget ∙ ap (λ x. moved-on (x .state) ns) q;
+    }
+
+pub replayed-trace : (f : State → Course) (n : ℕ) {u w : State} {out : List ℤ} → u ≡ w → out ≡ padded n (pos 0) (f u .trace)
+    → out ≡ padded n (pos 0) (f w .trace)
+replayed-trace f n e l = l ∙ ap (λ x. padded n (pos 0) (f x .trace)) e
+
+-- three numbers, each as it is told
+pub three : {a b c x y z : ℤ} → a ≡ x → b ≡ y → c ≡ z → _≡_ {A = List ℤ} (a ∷ b ∷ c ∷ []) (x ∷ y ∷ z ∷ [])
+three e f g = rw (e, f, g)

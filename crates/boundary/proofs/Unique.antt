@@ -1,5 +1,5 @@
--- Each entry point for a host requires nothing, says its promise, and two results that it allows are equal: the answer, the report and every
--- lent number (01, "Promises"; what is shown of a contract is `Settles` of the engine's Unique). Assumes nothing.
+-- Each entry point for a host requires nothing, says its promise, and two results that it allows are equal: the answer, the report and
+-- every lent number (01, "Promises"; what is shown of a contract is `Settles` of the engine's Unique). Assumes nothing.
 use mathlib.Core.Path.{_≡_, refl, sym, ap, _∙_}
 use mathlib.Core.List.{List}
 use Prim.Native.Nat.{ℕ}
@@ -12,7 +12,7 @@ use Rattle.meaning.specs.Calls.{Outcome}
 use Rattle.engine.proofs.Unique.{Settles, one, nothing}
 use Rattle.promises.specs.Host.{Told, Ends, Traces, HostChecked, HostRead, HostWrote, HostCompiled, HostExamined, HostUnstarted}
 use Rattle.promises.specs.Host.{HostStarted, HostRan, HostPosted, HostDiscarded}
-use Rattle.promises.specs.Host.{HostPlanStarted, HostPlanRan, HostPlanPosted, HostPlanDiscarded}
+use Rattle.promises.specs.Host.{HostPlanStarted, HostPlanRan, HostPlanPosted, HostPlanDiscarded, HostReplayed}
 use Rattle.boundary.proofs.qh_check.Reads as check-reads
 use Rattle.boundary.proofs.qh_read.Reads as read-reads
 use Rattle.boundary.proofs.qh_write.Reads as write-reads
@@ -27,6 +27,7 @@ use Rattle.boundary.proofs.qh_plan_start.Reads as plan-start-reads
 use Rattle.boundary.proofs.qh_plan_run.Reads as plan-run-reads
 use Rattle.boundary.proofs.qh_plan_post.Reads as plan-post-reads
 use Rattle.boundary.proofs.qh_plan_discard.Reads as plan-discard-reads
+use Rattle.boundary.proofs.qh_plan_replay.Reads as plan-replay-reads
 
 -- ---- what is told is one
 
@@ -145,7 +146,8 @@ discard-settles κs = record {
 
 -- ---- the calls on a widget over a plan
 
-pub plan-start-settles : (κs : Lfts 4) → Settles {L = List ℤ × (List ℤ × List ℤ)} nothing (plan-start-reads.Asked κs) (plan-start-reads.Learnt κs)
+pub plan-start-settles : (κs : Lfts 4) → Settles {L = List ℤ × (List ℤ × List ℤ)} nothing
+    (plan-start-reads.Asked κs) (plan-start-reads.Learnt κs)
     (λ a r x. HostPlanStarted (now (a .0)) (now (a .1 .0)) (now (a .1 .1 .0)) r (now (x .1 .1 .1 .0)) (now (x .1 .0)) (now (x .1 .1 .0)))
     (λ x. (now (x .1 .1 .1 .0), (now (x .1 .0), now (x .1 .1 .0))))
 plan-start-settles κs = record {
@@ -154,7 +156,8 @@ plan-start-settles κs = record {
   unique = λ a r s x y p q. traces-one p q;
 }
 
-pub plan-run-settles : (κs : Lfts 4) → Settles {L = List ℤ × (List ℤ × List ℤ)} nothing (plan-run-reads.Asked κs) (plan-run-reads.Learnt κs)
+pub plan-run-settles : (κs : Lfts 4) → Settles {L = List ℤ × (List ℤ × List ℤ)} nothing
+    (plan-run-reads.Asked κs) (plan-run-reads.Learnt κs)
     (λ a r x. HostPlanRan (now (a .0)) (now (a .1 .0)) (now (a .1 .1 .0)) r (now (x .1 .1 .1 .0)) (now (x .1 .0)) (now (x .1 .1 .0)))
     (λ x. (now (x .1 .1 .1 .0), (now (x .1 .0), now (x .1 .1 .0))))
 plan-run-settles κs = record {
@@ -163,7 +166,8 @@ plan-run-settles κs = record {
   unique = λ a r s x y p q. traces-one p q;
 }
 
-pub plan-post-settles : (κs : Lfts 3) → Settles {L = List ℤ × List ℤ} nothing (plan-post-reads.Asked κs) (plan-post-reads.Learnt κs)
+pub plan-post-settles : (κs : Lfts 3) → Settles {L = List ℤ × List ℤ} nothing
+    (plan-post-reads.Asked κs) (plan-post-reads.Learnt κs)
     (λ a r x. HostPlanPosted (now (a .0)) (now (a .1 .0)) (a .1 .1 .0) (a .1 .1 .1 .0) r (now (x .1 .1 .1 .1 .0)) (now (x .1 .0)))
     (λ x. (now (x .1 .1 .1 .1 .0), now (x .1 .0)))
 plan-post-settles κs = record {
@@ -172,11 +176,26 @@ plan-post-settles κs = record {
   unique = λ a r s x y p q. ends-one p q;
 }
 
-pub plan-discard-settles : (κs : Lfts 3) → Settles {L = List ℤ × List ℤ} nothing (plan-discard-reads.Asked κs) (plan-discard-reads.Learnt κs)
+pub plan-discard-settles : (κs : Lfts 3) → Settles {L = List ℤ × List ℤ} nothing
+    (plan-discard-reads.Asked κs) (plan-discard-reads.Learnt κs)
     (λ a r x. HostPlanDiscarded (now (a .0)) (now (a .1 .0)) r (now (x .1 .1 .0)) (now (x .1 .0)))
     (λ x. (now (x .1 .1 .0), now (x .1 .0)))
 plan-discard-settles κs = record {
   asks = λ a g. tt;
   promised = λ a r x p. p;
   unique = λ a r s x y p q. ends-one p q;
+}
+
+pub plan-replay-settles : (κs : Lfts 5) → Settles {L = List ℤ × (List ℤ × List ℤ)} nothing
+    (plan-replay-reads.Asked κs) (plan-replay-reads.Learnt κs)
+    (λ a r x. HostReplayed (now (a .0)) (now (a .1 .0)) (now (a .1 .1 .0)) (now (a .1 .1 .1 .0)) r
+    (now (x .1 .1 .1 .1 .0)) (now (x .1 .0)) (now (x .1 .1 .1 .0)))
+    (λ x. (now (x .1 .1 .1 .1 .0), (now (x .1 .0), now (x .1 .1 .1 .0))))
+plan-replay-settles κs = record {
+  asks = λ a g. tt;
+  promised = λ a r x p. p;
+  unique = λ a r s x y p q. (
+    one (p .stops .answer) (q .stops .answer),
+    pair (one (p .stops .told) (q .stops .told)) (pair (one (p .stops .widget) (q .stops .widget)) (one (p .lent) (q .lent))),
+  );
 }

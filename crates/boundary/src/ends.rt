@@ -2,10 +2,12 @@
 use engine::Answer;
 use engine::Called;
 use meaning::answers::FOREIGN;
+use promises::Replayed;
+use saved::move_on;
 use saved::small;
 use saved::store;
 ghost use mathlib.Core.Path.{_≡_};
-ghost use Rattle.promises.specs.Host.{Told, Ends, too-few};
+ghost use Rattle.promises.specs.Host.{Told, Ends, Stops, too-few};
 
 // Writes place and count, and hands the answer back.
 pub fn tell(answer: Answer, count: usize, report: &mut [i32; 2]) -> i32
@@ -42,4 +44,18 @@ pub fn too_few(verdict: Answer) -> Answer
         number: FOREIGN,
         place: 0,
     }
+}
+
+// The end of a replay: what was done stays, also where a later event was refused.
+pub fn stop(replayed: Replayed, widget: &mut [i32], report: &mut [i32; 3]) -> i32
+    ensures { λ r. ⌜ Stops replayed (now (widget .entry)) r (now (report .exit)) (now (widget .exit)) ⌝ }
+{
+    let answer = replayed.answer;
+    let after = replayed.state;
+    move_on(after, widget);
+    let place = small(answer.place);
+    let entries = small(replayed.entries);
+    let done = small(replayed.done);
+    *report = [place, entries, done];
+    small(answer.number)
 }

@@ -4,6 +4,7 @@
 pub mod ends;
 
 use ends::end;
+use ends::stop;
 use ends::tell;
 use ends::too_few;
 use engine::Answer;
@@ -14,7 +15,7 @@ use saved::load;
 use sizes::STATE_NUMBERS;
 ghost use Rattle.promises.specs.Host.{HostChecked, HostRead, HostWrote, HostCompiled, HostExamined, HostUnstarted};
 ghost use Rattle.promises.specs.Host.{HostStarted, HostRan, HostPosted, HostDiscarded};
-ghost use Rattle.promises.specs.Host.{HostPlanStarted, HostPlanRan, HostPlanPosted, HostPlanDiscarded};
+ghost use Rattle.promises.specs.Host.{HostPlanStarted, HostPlanRan, HostPlanPosted, HostPlanDiscarded, HostReplayed};
 
 // ---- charts, texts and plans
 
@@ -108,7 +109,7 @@ pub extern "C" fn qh_start(
     ensures { λ r. ⌜ HostStarted (now (chart .entry)) (now (widget .entry)) (now (trace .entry)) r (now (report .exit))
         (now (widget .exit)) (now (trace .exit)) ⌝ }
 {
-    if widget.len() < STATE_NUMBERS {
+    if widget.len() < STATE_NUMBERS { // 3 first, then 6
         let verdict = engine::check(chart);
         let answer = too_few(verdict);
         clear(trace);
@@ -174,7 +175,7 @@ pub extern "C" fn qh_plan_start(
     ensures { λ r. ⌜ HostPlanStarted (now (plan .entry)) (now (widget .entry)) (now (trace .entry)) r (now (report .exit))
         (now (widget .exit)) (now (trace .exit)) ⌝ }
 {
-    if widget.len() < STATE_NUMBERS {
+    if widget.len() < STATE_NUMBERS { // 5 first, then 6
         let verdict = engine::plans::examine(plan);
         let answer = too_few(verdict);
         clear(trace);
@@ -225,4 +226,21 @@ pub extern "C" fn qh_plan_discard(plan: &[i32], widget: &mut [i32], report: &mut
     let state = load(widget);
     let called = engine::planned::discard(plan, state);
     end(called, widget, report)
+}
+
+// Posts and runs events, each number with its argument after it, up to the first refusal; the trace is the last run's.
+#[no_mangle]
+pub extern "C" fn qh_plan_replay(
+    plan: &[i32],
+    widget: &mut [i32],
+    events: &[i32],
+    trace: &mut [i32],
+    report: &mut [i32; 3],
+) -> i32
+    ensures { λ r. ⌜ HostReplayed (now (plan .entry)) (now (widget .entry)) (now (events .entry)) (now (trace .entry)) r
+        (now (report .exit)) (now (widget .exit)) (now (trace .exit)) ⌝ }
+{
+    let state = load(widget);
+    let replayed = engine::planned::replay(plan, state, events, trace);
+    stop(replayed, widget, report)
 }

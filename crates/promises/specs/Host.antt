@@ -1,6 +1,6 @@
--- What each entry point for a host promises (docs/HOST.md): the answer, the two numbers of the report, and every lent number on every input,
+-- What each entry point for a host promises (docs/HOST.md): the answer, the numbers of the report, and every lent number on every input,
 -- refusals too. A widget is lent as numbers (Saved); what is done to the widget that they state is what the engine's own functions do.
--- In the order: what every entry point tells; charts, texts and plans; the calls on a widget over its chart, then over a plan.
+-- In the order: what every entry point tells; charts, texts and plans; the calls on a widget over its chart, then over a plan; a replay.
 -- Assumes nothing.
 use mathlib.Core.Path.{_≡_}
 use mathlib.Core.Bool.{Bool, true, false, cond}
@@ -8,12 +8,13 @@ use mathlib.Core.List.{List, [], _∷_}
 use Prim.Native.Nat.{ℕ}
 use lib.Dec.{eqb, ltb}
 use lib.ListN.{length}
-use lib.IntN.{ℤ}
+use lib.IntN.{ℤ, pos}
 use Rattle.sizes.specs.Sizes.{STATE-NUMBERS}
 use Rattle.meaning.specs.declared.Answer.{Answer}
 use Rattle.meaning.specs.declared.Called.{Called}
 use Rattle.meaning.specs.declared.State.{State}
 use Rattle.meaning.specs.Answers.{FOREIGN}
+use Rattle.meaning.specs.Lists.{padded}
 use Rattle.meaning.specs.Rules.{failing-rule-of, verdict}
 use Rattle.meaning.specs.Text.{read, write, answer-of, written, lent-numbers, lent-bytes}
 use Rattle.meaning.specs.Compile.{compile-of, compiled, plan-lent}
@@ -21,7 +22,9 @@ use Rattle.meaning.specs.WellFormed.{well-formed}
 use Rattle.meaning.specs.Calls.{Outcome, refused, called, lent as lent-trace, unstarted, start-of, run-of, post-of, discard-of}
 use Rattle.meaning.specs.Machine.{machine-start, machine-run, machine-post, machine-discard}
 use Rattle.promises.specs.Promises.{plan-verdict}
-use Rattle.promises.specs.Saved.{small, widget-of, stored}
+use Rattle.promises.specs.Replay.{items-of, replay, replayed}
+use Rattle.promises.specs.Saved.{small, widget-of, stored, moved-on}
+use Rattle.promises.specs.declared.Replayed.{Replayed}
 
 -- ---- what every entry point tells
 
@@ -73,7 +76,8 @@ too-few a = cond (eqb (a .number) 0) (record { number = FOREIGN; place = 0 }) a
 -- a widget not yet started
 unfoldable pub unstarted-into : List ℤ → Called
 unstarted-into ns =
-    cond (ltb (length ns) STATE-NUMBERS) (called (refused FOREIGN 0 unstarted)) (called (record { number = 0; place = 0; after = unstarted; trace = [] }))
+    cond (ltb (length ns) STATE-NUMBERS) (called (refused FOREIGN 0 unstarted))
+    (called (record { number = 0; place = 0; after = unstarted; trace = [] }))
 
 abbrev pub HostUnstarted : List ℤ → ℤ → List ℤ → List ℤ → Type 0
 HostUnstarted ns r report after = Ends (unstarted-into ns) ns r report after
@@ -105,13 +109,26 @@ HostDiscarded v ns r report after = Ends (called (discard-of v (widget-of ns))) 
 
 abbrev pub HostPlanStarted : List ℤ → List ℤ → List ℤ → ℤ → List ℤ → List ℤ → List ℤ → Type 0
 HostPlanStarted plan ns trace r report after lent =
-    Traces (start-into (plan-verdict (well-formed plan)) (λ u. machine-start plan u (length trace)) ns) ns (length trace) r report after lent
+    Traces (start-into (plan-verdict (well-formed plan)) (λ u. machine-start plan u (length trace)) ns) ns (length trace) r report after
+    lent
 
 abbrev pub HostPlanRan : List ℤ → List ℤ → List ℤ → ℤ → List ℤ → List ℤ → List ℤ → Type 0
-HostPlanRan plan ns trace r report after lent = Traces (machine-run plan (widget-of ns) (length trace)) ns (length trace) r report after lent
+HostPlanRan plan ns trace r report after lent =
+    Traces (machine-run plan (widget-of ns) (length trace)) ns (length trace) r report after lent
 
 abbrev pub HostPlanPosted : List ℤ → List ℤ → ℤ → ℤ → ℤ → List ℤ → List ℤ → Type 0
 HostPlanPosted plan ns event arg r report after = Ends (called (machine-post plan (widget-of ns) event arg)) ns r report after
 
 abbrev pub HostPlanDiscarded : List ℤ → List ℤ → ℤ → List ℤ → List ℤ → Type 0
 HostPlanDiscarded plan ns r report after = Ends (called (machine-discard plan (widget-of ns))) ns r report after
+
+-- ---- a replay: the report has the place, the entries of the last run and how many events were done; what was done stays
+
+pub record Stops (p : Replayed) (ns : List ℤ) (r : ℤ) (report after : List ℤ) : Type 0 where
+  pub answer : r ≡ small (p .answer .number)
+  pub told : report ≡ small (p .answer .place) ∷ small (p .entries) ∷ small (p .done) ∷ []
+  pub widget : after ≡ moved-on (p .state) ns
+
+pub record HostReplayed (plan ns events trace : List ℤ) (r : ℤ) (report after out : List ℤ) : Type 0 where
+  pub stops : Stops (replayed (replay plan (widget-of ns) (items-of events) (length trace))) ns r report after
+  pub lent : out ≡ padded (length trace) (pos 0) (replay plan (widget-of ns) (items-of events) (length trace) .trace)

@@ -1,6 +1,6 @@
 -- A widget's state as numbers that a host can keep (docs/HOST.md): "a started mark, an active mark and a slot for each of 64 states, 16
--- variables, a queue length and 16 queue places of event and argument" (01, "One reaction"), in this order. Every state has its numbers, and
--- every list of numbers gives a state: one that no call accepts where the numbers state no widget. Assumes nothing.
+-- variables, a queue length and 16 queue places of event and argument" (01, "One reaction"), in this order. Every state has its numbers,
+-- and every list of numbers gives a state: one that no call accepts where the numbers state no widget. Assumes nothing.
 use mathlib.Core.Bool.{Bool, true, false, cond, not, _&&_}
 use mathlib.Core.List.{List, [], _∷_, _++_, map}
 use Prim.Native.Nat.{ℕ, _+_}
@@ -88,3 +88,7 @@ widget-of ns = cond (states-widget ns) (stated ns) (no-widget (not (eqZ (getD ns
 
 unfoldable pub stored : State → List ℤ → List ℤ
 stored u ns = cond (ltb (length ns) STATE-NUMBERS) ns (saved u ++ drop STATE-NUMBERS ns)
+
+-- after calls of which some may be done (a replay): the state's, where there was a widget to go on from
+unfoldable pub moved-on : State → List ℤ → List ℤ
+moved-on u ns = cond (states-widget ns) (stored u ns) ns

@@ -10,7 +10,7 @@ use borrow.Author.Tests.{lt-ltb, le-ltb, le-leb, leb-true, not-true, not-false}
 use lib.Dec.{leb}
 use lib.IntN.{ℤ, pos, negsuc}
 use lib.Signed.{ltZ}
-use lib.ListN.{length, getD, take, drop, length-append, length-map, length-drop, length-take}
+use lib.ListN.{length, getD, take, drop, take-append-drop, length-append, length-map, length-drop, length-take}
 use lib.Seq.{take-at, drop-at, getD-at, take-add, length-take-le, getD-take, getD-drop}
 use Rattle.sizes.specs.Sizes.{STATES, VARIABLES, QUEUE, STATE-NUMBERS}
 use Rattle.numbers.specs.Equal.{eqZ}
@@ -24,7 +24,7 @@ use Rattle.meaning.specs.Lists.{every}
 use Rattle.laws.proofs.Lists.{and-left, and-right}
 use Rattle.invariants.proofs.Good.{Sized}
 use Rattle.promises.specs.Saved.{MARKS, SLOTS-AT, VARS-AT, LENGTH-AT, mark, small, saved, part, is-mark, is-set}
-use Rattle.promises.specs.Saved.{states-widget, stated, widget-of}
+use Rattle.promises.specs.Saved.{states-widget, stated, widget-of, stored, moved-on}
 use Rattle.saved.proofs.Marks.{set-mark, set-marks, marks-fit, mark-fits, marks-set}
 
 -- ---- parts
@@ -114,7 +114,9 @@ module _ (u : State) (z : Sized u) where
     marks-part = rw head-first (take-at head (u .slots ++ (u .vars ++ (tail ++ rest))) MARKS head-long)
 
     length-part : getD ns LENGTH-AT (pos 0) ≡ small (u .queue .len)
-    length-part = rw vars-first (getD-at (head ++ u .slots ++ u .vars) (small (u .queue .len)) (flat (u .queue .items) ++ rest) (pos 0) LENGTH-AT vars-long)
+    length-part =
+        rw vars-first
+        (getD-at (head ++ u .slots ++ u .vars) (small (u .queue .len)) (flat (u .queue .items) ++ rest) (pos 0) LENGTH-AT vars-long)
 
     first-part : getD ns 0 (pos 0) ≡ mark (u .started)
     first-part = rw head-first refl
@@ -226,3 +228,18 @@ module _ (ns : List ℤ) (h : states-widget ns ≡ true) where
   -- numbers that state a widget are those of the state that they give
   pub saved-back : ref (getD ns LENGTH-AT (pos 0)) < NOWHERE → saved (widget-of ns) ≡ take STATE-NUMBERS ns
   saved-back f = ap saved is-stated ∙ stated-back f
+
+  -- storing what was loaded changes nothing
+  pub stored-back : ref (getD ns LENGTH-AT (pos 0)) < NOWHERE → stored (widget-of ns) ns ≡ ns
+  unfolding stored
+  stored-back f =
+      rw (le-ltb (length ns) STATE-NUMBERS enough, saved-back f) (take-append-drop STATE-NUMBERS ns)
+
+-- a replay that is refused before its first event is posted leaves every number as it was
+pub unmoved : (ns : List ℤ) → ref (getD ns LENGTH-AT (pos 0)) < NOWHERE → moved-on (widget-of ns) ns ≡ ns
+unfolding moved-on
+unmoved ns f = go (states-widget ns) refl
+  where
+    go : (t : Bool) → states-widget ns ≡ t → cond t (stored (widget-of ns) ns) ns ≡ ns
+    go true e = stored-back ns e f
+    go false e = refl

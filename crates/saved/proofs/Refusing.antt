@@ -1,5 +1,5 @@
--- Numbers that state no widget are refused by every run, post and discard on a chart that passes the rules or on a well-formed plan: 7 where
--- the first number is 0 or there is none, else 6. Assumes nothing.
+-- Numbers that state no widget are refused by every run, post and discard on a chart that passes the rules or on a well-formed plan: 7
+-- where the first number is 0 or there is none, else 6. Assumes nothing.
 use mathlib.Core.Path.{_≡_, refl, ap}
 use mathlib.Core.Bool.{Bool, true, false, not}
 use mathlib.Core.List.{List}

@@ -1,5 +1,5 @@
--- What the functions that store a state cite: the marks written one by one, the queue's numbers with its own length, the parts one after the
--- other. Assumes nothing.
+-- What the functions that store a state cite: the marks written one by one, the queue's numbers with its own length, the parts one after
+-- the other, numbers that stay. Assumes nothing.
 use mathlib.Core.Path.{_≡_, refl, sym, ap, _∙_}
 use mathlib.Core.Bool.{Bool, true, false}
 use mathlib.Core.List.{List, [], _∷_, _++_, map, append-assoc}
@@ -15,9 +15,8 @@ use Rattle.queue.specs.Numbers.{QUEUE-NUMBERS, flat, told, numbers-of}
 use Rattle.queue.proofs.Numbers.{flat-long, numbers-long}
 use Rattle.meaning.specs.declared.State.{State}
 use Rattle.invariants.proofs.Good.{Sized}
-use Rattle.promises.specs.Saved.{MARKS, SLOTS-AT, VARS-AT, LENGTH-AT, mark, small, saved, stored}
+use Rattle.promises.specs.Saved.{MARKS, SLOTS-AT, VARS-AT, LENGTH-AT, mark, small, saved, states-widget, stored, moved-on}
 use Rattle.saved.proofs.Pasted.{paste-more, on, paste-next}
-use Rattle.saved.proofs.Inverse.{saved-long}
 
 -- one more mark is written
 pub mark-more : (d now : List ℤ) (active : List Bool) (i : ℕ) (x : ℤ) → MARKS ≤ length d → length active ≡ STATES → i < STATES
@@ -42,12 +41,22 @@ length-written d now q x k l e f =
       append-assoc (take LENGTH-AT d) (take QUEUE-NUMBERS (numbers-of q)) (drop (LENGTH-AT + QUEUE-NUMBERS) d),
       append-assoc (take LENGTH-AT d) (take QUEUE-NUMBERS (small (q .len) ∷ flat (q .items))) (drop (LENGTH-AT + QUEUE-NUMBERS) d),
     )
-    (set-at (take LENGTH-AT d) (pos (told (q .len))) (take (2 * QUEUE) (flat (q .items)) ++ drop (LENGTH-AT + QUEUE-NUMBERS) d) (small (q .len)) LENGTH-AT at)
+    (set-at (take LENGTH-AT d) (pos (told (q .len))) (take (2 * QUEUE) (flat (q .items)) ++ drop (LENGTH-AT + QUEUE-NUMBERS) d)
+    (small (q .len)) LENGTH-AT at)
 
 -- too few numbers stay
 pub none-written : (u : State) (ns : List ℤ) → length ns < STATE-NUMBERS → ns ≡ stored u ns
 unfolding stored
 none-written u ns h = rw (lt-ltb (length ns) STATE-NUMBERS h)
+
+-- numbers that stated no widget stay, others are stored over
+pub stayed : (u : State) (ns : List ℤ) → states-widget ns ≡ false → ns ≡ moved-on u ns
+unfolding moved-on
+stayed u ns h = rw h
+
+pub stored-over : (u : State) (ns after : List ℤ) → states-widget ns ≡ true → after ≡ stored u ns → after ≡ moved-on u ns
+unfolding moved-on
+stored-over u ns after h e = rw h e
 
 -- the parts one after the other
 module _ (u : State) (z : Sized u) (ns : List ℤ) (l : STATE-NUMBERS ≤ length ns) where
@@ -79,7 +88,8 @@ module _ (u : State) (z : Sized u) (ns : List ℤ) (l : STATE-NUMBERS ≤ length
       let s4 = length-append (marks ++ u .slots ++ u .vars) (small (u .queue .len) ∷ flat (u .queue .items)) in
       let f1 = e1 ∙ paste-next first ns (map mark (u .active)) n0 1 STATES e0 refl (omega (arith, z .active)) in
       let f2 = e2 ∙ paste-next marks ns (u .slots) n1 SLOTS-AT STATES f1 (omega (arith, z .active)) (omega (arith, z .slots)) in
-      let f3 = e3 ∙ paste-next (marks ++ u .slots) ns (u .vars) n2 VARS-AT VARIABLES f2 (omega (arith, z .active, z .slots)) (omega (arith, z .vars)) in
+      let f3 =
+      e3 ∙ paste-next (marks ++ u .slots) ns (u .vars) n2 VARS-AT VARIABLES f2 (omega (arith, z .active, z .slots)) (omega (arith, z .vars)) in
       let f4 =
       e4 ∙ paste-next (marks ++ u .slots ++ u .vars) ns (small (u .queue .len) ∷ flat (u .queue .items)) n3 LENGTH-AT QUEUE-NUMBERS f3
       (omega (arith, z .active, z .slots, z .vars)) (omega (arith, z .items)) in

@@ -19,7 +19,7 @@ ghost use Rattle.sizes.specs.Sizes.{STATES as states, STATE-NUMBERS as all};
 ghost use Rattle.queue.specs.Numbers.{queue-by};
 ghost use Rattle.meaning.specs.Lists.{every};
 ghost use Rattle.promises.specs.Saved.{MARKS as marks, mark, small, part, is-mark, is-set};
-ghost use Rattle.promises.specs.Saved.{LENGTH-AT as length-at, states-widget, no-widget, widget-of, saved, stored};
+ghost use Rattle.promises.specs.Saved.{LENGTH-AT as length-at, states-widget, no-widget, widget-of, stored, moved-on};
 ghost use Rattle.queue.specs.Numbers.{QUEUE-NUMBERS as queue-numbers, flat};
 ghost use mathlib.Core.List.{_∷_};
 
@@ -185,7 +185,8 @@ fn store_active(active: [bool; STATES], numbers: &mut [i32])
 
 fn store_queue(queue: Queue, numbers: &mut [i32])
     requires { ⌜ all ≤ length (now numbers) ⌝ }
-    ensures { λ _. ⌜ now (numbers .exit) ≡ paste (now (numbers .entry)) length-at (small (queue .len) ∷ flat (queue .items)) queue-numbers ⌝ }
+    ensures { λ _. ⌜ now (numbers .exit)
+        ≡ paste (now (numbers .entry)) length-at (small (queue .len) ∷ flat (queue .items)) queue-numbers ⌝ }
 {
     let len = small(queue.len);
     let waiting = lend(queue);
@@ -210,4 +211,14 @@ pub fn store(state: State, numbers: &mut [i32])
     copy(&slots, 0, numbers, SLOTS_AT, STATES);
     copy(&vars, 0, numbers, VARS_AT, VARIABLES);
     store_queue(queue, numbers);
+}
+
+// Writes the numbers of the state that calls stopped at; numbers that stated no widget stay, since no call on them was done.
+pub fn move_on(state: State, numbers: &mut [i32])
+    ensures { λ _. ⌜ now (numbers .exit) ≡ moved-on state (now (numbers .entry)) ⌝ }
+{
+    if !states_widget(numbers) {
+        return;
+    }
+    store(state, numbers);
 }
