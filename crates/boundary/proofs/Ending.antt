@@ -30,6 +30,13 @@ told-as {b = b} {n = n} i e f t = record {
   told = t .told ∙ ap (λ x. small (x .place) ∷ small n ∷ []) e ∙ ap (λ k. small (b .place) ∷ small k ∷ []) f;
 }
 
+-- numbers of a report, each as it is told
+pub two : {a b x y : ℤ} → a ≡ x → b ≡ y → _≡_ {A = List ℤ} (a ∷ b ∷ []) (x ∷ y ∷ [])
+two e f = rw (e, f)
+
+pub three : {a b c x y z : ℤ} → a ≡ x → b ≡ y → c ≡ z → _≡_ {A = List ℤ} (a ∷ b ∷ c ∷ []) (x ∷ y ∷ z ∷ [])
+three e f g = rw (e, f, g)
+
 -- ---- the end of a call
 
 pub ends-done : (c : Called) {ns after : List ℤ} {r s : ℤ} {rep : List ℤ} → c .answer .number ≡ 0 → after ≡ stored (c .state) ns → s ≡ r
@@ -125,7 +132,3 @@ replays-as f {ns = ns} e g i h =
 pub replayed-trace : (f : State → Course) (n : ℕ) {u w : State} {out : List ℤ} → u ≡ w → out ≡ padded n (pos 0) (f u .trace)
     → out ≡ padded n (pos 0) (f w .trace)
 replayed-trace f n e l = l ∙ ap (λ x. padded n (pos 0) (f x .trace)) e
-
--- three numbers, each as it is told
-pub three : {a b c x y z : ℤ} → a ≡ x → b ≡ y → c ≡ z → _≡_ {A = List ℤ} (a ∷ b ∷ c ∷ []) (x ∷ y ∷ z ∷ [])
-three e f g = rw (e, f, g)
