@@ -6,7 +6,7 @@ use mathlib.Core.List.{List, [], _∷_}
 use Prim.Native.Nat.{ℕ, _<_, _≤_, _-_}
 use native.Mathlib.Nat.{sub-zero}
 use native.Mathlib.Omega.{arith}
-use borrow.Author.Tests.{lt-ltb, le-ltb, eq-eqb, ne-eqb, eqb-false}
+use borrow.Author.Tests.{lt-ltb, le-ltb, eqb-false}
 use lib.Dec.{eqb}
 use lib.ListN.{length, replicate}
 use lib.IntN.{ℤ, pos}
@@ -19,43 +19,17 @@ use Rattle.meaning.specs.Lists.{padded}
 use Rattle.meaning.specs.Calls.{Outcome, refused, called, lent, unstarted}
 use Rattle.promises.specs.declared.Replayed.{Replayed}
 use Rattle.promises.specs.Replay.{Course, replayed}
-use Rattle.promises.specs.Saved.{small, widget-of, stored, moved-on}
+use Rattle.promises.specs.Saved.{small, widget-of, moved-on}
 use Rattle.promises.specs.Host.{Told, Ends, Traces, Stops, kept, too-few, unstarted-into, start-by, start-into}
+use Rattle.telling.proofs.Told.{told-as, ends-refused}
 
--- ---- what is told: the result is read back from its bits
-
-pub told-as : {a b : Answer} {n m : ℕ} {r s : ℤ} {rep : List ℤ} → s ≡ r → a ≡ b → n ≡ m → Told a n r rep → Told b m s rep
-told-as {b = b} {n = n} i e f t = record {
-  answer = i ∙ t .answer ∙ ap (λ x. small (x .number)) e;
-  told = t .told ∙ ap (λ x. small (x .place) ∷ small n ∷ []) e ∙ ap (λ k. small (b .place) ∷ small k ∷ []) f;
-}
-
--- numbers of a report, each as it is told
-pub two : {a b x y : ℤ} → a ≡ x → b ≡ y → _≡_ {A = List ℤ} (a ∷ b ∷ []) (x ∷ y ∷ [])
-two e f = rw (e, f)
-
-pub three : {a b c x y z : ℤ} → a ≡ x → b ≡ y → c ≡ z → _≡_ {A = List ℤ} (a ∷ b ∷ c ∷ []) (x ∷ y ∷ z ∷ [])
-three e f g = rw (e, f, g)
-
--- ---- the end of a call
-
-pub ends-done : (c : Called) {ns after : List ℤ} {r s : ℤ} {rep : List ℤ} → c .answer .number ≡ 0 → after ≡ stored (c .state) ns → s ≡ r
-    → Told (c .answer) (c .entries) r rep → Ends c ns s rep after
-unfolding kept
-ends-done c z e i t = record { tells = told-as i refl refl t; widget = e ∙ sym (rw (eq-eqb (c .answer .number) 0 z)) }
-
-pub ends-refused : (c : Called) {ns : List ℤ} {r s : ℤ} {rep : List ℤ} → (c .answer .number ≡ 0 → ⊥) → s ≡ r
-    → Told (c .answer) (c .entries) r rep → Ends c ns s rep ns
-unfolding kept
-ends-refused c z i t = record { tells = told-as i refl refl t; widget = sym (rw (ne-eqb (c .answer .number) 0 z)) }
+-- ---- a call of the engine on the widget that the numbers state
 
 ends-by : {c d : Called} {ns : List ℤ} {r s : ℤ} {rep after : List ℤ} → s ≡ r → c ≡ d → Ends c ns r rep after → Ends d ns s rep after
 ends-by {ns = ns} i e h = record {
   tells = told-as i (ap (λ x. x .answer) e) (ap (λ x. x .entries) e) (h .tells);
   widget = h .widget ∙ ap (λ x. kept x ns) e;
 }
-
--- ---- a call of the engine on the widget that the numbers state
 
 pub ends-as : (f : State → Outcome) {u w : State} {c : Called} {ns : List ℤ} {r s : ℤ} {rep after : List ℤ}
     → u ≡ w → c ≡ called (f u) → s ≡ r → Ends c ns r rep after → Ends (called (f w)) ns s rep after
@@ -92,15 +66,6 @@ start-short f {a = a} {ns = ns} {n = n} h v e l i t =
       ends = ends-refused _ (too-few-refuses a) i (told-as refl (e ∙ ap too-few v) refl t);
       lent = l ∙ sym (ap (λ k. replicate k (pos 0)) (sub-zero n));
     })
-
--- the answer where too few numbers are lent
-pub too-few-6 : (a : Answer) → a .number ≡ 0 → _≡_ {A = Answer} (record { number = FOREIGN; place = 0 }) (too-few a)
-unfolding too-few
-too-few-6 a h = rw (eq-eqb (a .number) 0 h)
-
-pub too-few-first : (a : Answer) → (a .number ≡ 0 → ⊥) → a ≡ too-few a
-unfolding too-few
-too-few-first a h = rw (ne-eqb (a .number) 0 h)
 
 -- ---- a widget not yet started
 

@@ -2,9 +2,9 @@
 use mathlib.Core.Path.{_∙_}
 use borrow.Author.Needs.{needs}
 use Rattle.numbers.proofs.Laws.{back32}
-use Rattle.boundary.proofs.Ending.{two}
-use Rattle.boundary.proofs.ends.tell.Statement.{statement}
-use Rattle.boundary.proofs.ends.tell.Tie as tie
+use Rattle.telling.proofs.Told.{two}
+use Rattle.telling.proofs.tell.Statement.{statement}
+use Rattle.telling.proofs.tell.Tie as tie
 
 returns : tie.Need-returns
 returns c =

@@ -2,9 +2,9 @@
 use mathlib.Core.Path.{_∙_}
 use borrow.Author.Needs.{needs}
 use Rattle.numbers.proofs.Laws.{back32}
-use Rattle.boundary.proofs.Ending.{three}
-use Rattle.boundary.proofs.ends.stop.Statement.{statement}
-use Rattle.boundary.proofs.ends.stop.Tie as tie
+use Rattle.telling.proofs.Told.{three}
+use Rattle.telling.proofs.stop.Statement.{statement}
+use Rattle.telling.proofs.stop.Tie as tie
 
 returns : tie.Need-returns
 returns c =

@@ -1,9 +1,9 @@
 -- `end` stores the state after a call that is done. Assumes nothing.
 use borrow.Author.Needs.{needs}
 use Rattle.numbers.proofs.Laws.{back32}
-use Rattle.boundary.proofs.Ending.{ends-done, ends-refused}
-use Rattle.boundary.proofs.ends.end.Statement.{statement}
-use Rattle.boundary.proofs.ends.end.Tie as tie
+use Rattle.telling.proofs.Told.{ends-done, ends-refused}
+use Rattle.telling.proofs.end.Statement.{statement}
+use Rattle.telling.proofs.end.Tie as tie
 
 abbrev else1-from-tell2 : tie.After-tell2 → tie.Else1
 else1-from-tell2 c = c .before .before .before .before .before .before

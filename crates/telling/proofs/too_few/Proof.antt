@@ -1,7 +1,7 @@
 -- `too_few` hands on a refusal, else it is 6. Assumes nothing.
-use Rattle.boundary.proofs.Ending.{too-few-6, too-few-first}
-use Rattle.boundary.proofs.ends.too_few.Statement.{statement}
-use Rattle.boundary.proofs.ends.too_few.Tie as tie
+use Rattle.telling.proofs.Told.{too-few-6, too-few-first}
+use Rattle.telling.proofs.too_few.Statement.{statement}
+use Rattle.telling.proofs.too_few.Tie as tie
 
 returns : tie.Need-returns
 returns c = too-few-first _ (c .if1 .taken)

@@ -1,6 +1,6 @@
 // What every entry point does at its end: the answer told in numbers, the widget's numbers kept or written.
-use engine::Answer;
-use engine::Called;
+use meaning::Answer;
+use meaning::Called;
 use meaning::answers::FOREIGN;
 use promises::Replayed;
 use saved::move_on;
