@@ -1,6 +1,6 @@
 -- Each entry point for a host requires nothing, says its promise, and two results that it allows are equal: the answer, the report and
 -- every lent number (01, "Promises"; what is shown of a contract is `Settles` of the engine's Unique). Assumes nothing.
-use mathlib.Core.Path.{_≡_, refl, sym, ap, _∙_}
+use mathlib.Core.Path.{_≡_}
 use mathlib.Core.List.{List}
 use Prim.Native.Nat.{ℕ}
 use lib.IntN.{ℤ}

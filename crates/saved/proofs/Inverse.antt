@@ -3,20 +3,18 @@
 -- Assumes nothing.
 use mathlib.Core.Path.{_≡_, refl, sym, ap, _∙_}
 use mathlib.Core.Bool.{Bool, true, false, not, cond, _&&_}
-use mathlib.Core.List.{List, [], _∷_, _++_, append-nil, append-assoc, map}
-use Prim.Native.Nat.{ℕ, zero, suc, _+_, _*_, _<_, _≤_}
+use mathlib.Core.List.{List, [], _∷_, _++_, append-assoc, map}
+use Prim.Native.Nat.{ℕ, _*_, _<_, _≤_}
 use native.Mathlib.Omega.{arith}
-use borrow.Author.Tests.{lt-ltb, le-ltb, le-leb, leb-true, not-true, not-false}
+use borrow.Author.Tests.{lt-ltb, le-ltb, le-leb, leb-true, not-true}
 use lib.Dec.{leb}
 use lib.IntN.{ℤ, pos, negsuc}
 use lib.Signed.{ltZ}
-use lib.ListN.{length, getD, take, drop, take-append-drop, length-append, length-map, length-drop, length-take}
+use lib.ListN.{length, getD, take, drop, take-append-drop, length-append, length-map, length-drop}
 use lib.Seq.{take-at, drop-at, getD-at, take-add, length-take-le, getD-take, getD-drop}
 use Rattle.sizes.specs.Sizes.{STATES, VARIABLES, QUEUE, STATE-NUMBERS}
-use Rattle.numbers.specs.Equal.{eqZ}
 use Rattle.numbers.specs.Reference.{ref, NOWHERE}
 use Rattle.queue.specs.declared.Item.{Item}
-use Rattle.queue.specs.declared.Queue.{Queue}
 use Rattle.queue.specs.Numbers.{QUEUE-NUMBERS, places, flat, queue-by, numbers-of}
 use Rattle.queue.proofs.Numbers.{held-lent, lent-held, flat-long}
 use Rattle.meaning.specs.declared.State.{State}

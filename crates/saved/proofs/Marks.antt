@@ -1,13 +1,12 @@
 -- Marks as numbers, and back. Assumes nothing.
-use mathlib.Core.Path.{_≡_, refl, sym, ap, _∙_}
+use mathlib.Core.Path.{_≡_, refl}
 use mathlib.Core.Bool.{Bool, true, false, false≢true}
 use mathlib.Core.List.{List, [], _∷_, map}
-use Prim.Native.Nat.{ℕ, zero, suc}
+use Prim.Native.Nat.{zero, suc}
 use native.Mathlib.Omega.{arith}
 use borrow.Author.Tests.{leb-true}
 use lib.Dec.{leb}
 use lib.IntN.{ℤ, pos, negsuc}
-use lib.Signed.{leZ}
 use Rattle.numbers.specs.Range.{within}
 use Rattle.meaning.specs.Lists.{every}
 use Rattle.laws.proofs.Lists.{and-left, and-right}

@@ -11,10 +11,10 @@ use Rattle.meaning.specs.declared.State.{State}
 use Rattle.meaning.specs.Answers.{FOREIGN, NOT-STARTED}
 use Rattle.meaning.specs.Chart.{Chart}
 use Rattle.meaning.specs.Plan.{Plan}
-use Rattle.meaning.specs.Steps.{Res, ok, refuse, Step, _then_, bind, require}
+use Rattle.meaning.specs.Steps.{refuse, Step, _then_, bind, require}
 use Rattle.meaning.specs.Widget.{Ctx, is-active}
 use Rattle.meaning.specs.Foreign.{own, legal, plan-own}
-use Rattle.meaning.specs.Calls.{Outcome, outcome, refused, tests, run, post, discard}
+use Rattle.meaning.specs.Calls.{outcome, refused, tests, run, post, discard}
 use Rattle.meaning.specs.Machine.{plan-tests, plan-run, plan-post, plan-discard}
 use Rattle.promises.specs.Saved.{states-widget, no-widget, widget-of}
 

@@ -8,11 +8,11 @@ use native.Mathlib.Omega.{arith}
 use borrow.Author.Tests.{lt-ltb, le-ltb}
 use lib.IntN.{ℤ, pos}
 use lib.ListN.{length, getD, take, drop, set, length-map, length-append, List·getD-map}
-use lib.Seq.{paste, set-at, take-all, length-take-le}
+use lib.Seq.{paste, set-at, length-take-le}
 use Rattle.sizes.specs.Sizes.{STATES, VARIABLES, QUEUE, STATE-NUMBERS}
 use Rattle.queue.specs.declared.Queue.{Queue}
 use Rattle.queue.specs.Numbers.{QUEUE-NUMBERS, flat, told, numbers-of}
-use Rattle.queue.proofs.Numbers.{flat-long, numbers-long}
+use Rattle.queue.proofs.Numbers.{flat-long}
 use Rattle.meaning.specs.declared.State.{State}
 use Rattle.invariants.proofs.Good.{Sized}
 use Rattle.promises.specs.Saved.{MARKS, SLOTS-AT, VARS-AT, LENGTH-AT, mark, small, saved, states-widget, stored, moved-on}
@@ -89,7 +89,8 @@ module _ (u : State) (z : Sized u) (ns : List ℤ) (l : STATE-NUMBERS ≤ length
       let f1 = e1 ∙ paste-next first ns (map mark (u .active)) n0 1 STATES e0 refl (omega (arith, z .active)) in
       let f2 = e2 ∙ paste-next marks ns (u .slots) n1 SLOTS-AT STATES f1 (omega (arith, z .active)) (omega (arith, z .slots)) in
       let f3 =
-      e3 ∙ paste-next (marks ++ u .slots) ns (u .vars) n2 VARS-AT VARIABLES f2 (omega (arith, z .active, z .slots)) (omega (arith, z .vars)) in
+      e3 ∙ paste-next (marks ++ u .slots) ns (u .vars) n2 VARS-AT VARIABLES f2 (omega (arith, z .active, z .slots))
+      (omega (arith, z .vars)) in
       let f4 =
       e4 ∙ paste-next (marks ++ u .slots ++ u .vars) ns (small (u .queue .len) ∷ flat (u .queue .items)) n3 LENGTH-AT QUEUE-NUMBERS f3
       (omega (arith, z .active, z .slots, z .vars)) (omega (arith, z .items)) in

@@ -1,9 +1,9 @@
 -- `copy` writes number by number. Assumes nothing.
 use mathlib.Core.Path.{_≡_, sym, _∙_}
-use Prim.Native.Nat.{_≤_, _-_, _+_}
+use Prim.Native.Nat.{_≤_, _-_}
 use borrow.Author.Needs.{needs}
 use native.Mathlib.Omega.{arith}
-use lib.ListN.{length, drop, getD, length-drop}
+use lib.ListN.{length, drop, length-drop}
 use lib.Seq.{paste, paste-zero, getD-drop}
 use lib.IntN.{pos}
 use Rattle.numbers.proofs.Laws.{back32}

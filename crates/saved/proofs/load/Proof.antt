@@ -1,5 +1,5 @@
 -- `load` gives the widget that the numbers state, or one that no call accepts. Assumes nothing.
-use mathlib.Core.Path.{_≡_, refl, sym, ap, _∙_}
+use mathlib.Core.Path.{_≡_, refl, sym, _∙_}
 use mathlib.Core.Bool.{true}
 use borrow.Author.Needs.{needs}
 use native.Mathlib.Omega.{arith}

@@ -1,5 +1,4 @@
 -- `mark` says 1 for true and 0 for false. Assumes nothing.
-use mathlib.Core.Path.{refl}
 use Rattle.promises.specs.Saved.{mark}
 use Rattle.saved.proofs.mark.Statement.{statement}
 use Rattle.saved.proofs.mark.Tie as tie

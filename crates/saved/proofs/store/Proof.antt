@@ -1,8 +1,8 @@
 -- `store` writes the parts one after the other. Assumes nothing.
-use mathlib.Core.Path.{_≡_, refl, sym, ap, _∙_}
+use mathlib.Core.Path.{sym, _∙_}
 use borrow.Author.Needs.{needs}
 use native.Mathlib.Omega.{arith}
-use lib.ListN.{length, length-map, length-set}
+use lib.ListN.{length-map, length-set}
 use Rattle.numbers.proofs.Laws.{back32}
 use Rattle.invariants.proofs.Good.{Sized}
 use Rattle.saved.proofs.Storing.{none-written, first-written, all-written}

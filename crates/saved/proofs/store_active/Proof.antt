@@ -1,10 +1,10 @@
 -- `store_active` writes mark by mark. Assumes nothing.
-use mathlib.Core.Path.{_≡_, sym, _∙_}
+use mathlib.Core.Path.{_≡_, _∙_}
 use mathlib.Core.List.{map}
 use Prim.Native.Nat.{_≤_, _-_}
 use borrow.Author.Needs.{needs}
 use native.Mathlib.Omega.{arith}
-use lib.ListN.{length, length-map}
+use lib.ListN.{length}
 use lib.Seq.{paste, paste-zero}
 use Rattle.sizes.specs.Sizes.{STATES}
 use Rattle.numbers.proofs.Laws.{back32}
