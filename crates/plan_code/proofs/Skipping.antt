@@ -1,25 +1,37 @@
 -- SKIPOUTs one after the other (01, "pass over n if s is not active"), over plain variables: they act on nothing, so what is run from them on is what
 -- stands past them. Assumes nothing.
-use mathlib.Core.Path.{_≡_, refl, ap, _∙_, subst}
-use Prim.Native.Nat.{ℕ, _+_, _-_, _<_, _≤_}
+use mathlib.Core.Path.{_≡_, refl, sym, ap, _∙_, subst}
+use Prim.Native.Nat.{ℕ, _+_, _-_, _<_}
 use native.Mathlib.Omega.{arith}
 use mathlib.Core.Bool.{Bool, true, false, cond}
 use mathlib.Core.List.{List}
 use lib.ListN.{length, getD, take, drop}
-use lib.IntN.{ℤ}
-use Rattle.sizes.specs.Sizes.{INSTRUCTIONS, STATES}
+use lib.IntN.{ℤ, pos, negsuc}
+use Rattle.numbers.specs.Reference.{ref}
 use Rattle.meaning.specs.declared.chart.VarRow.{VarRow}
 use Rattle.meaning.specs.declared.plan.Instr.{Instr}
 use Rattle.meaning.specs.declared.plan.Instr.the-variants.{SkipOut as skip-out}
 use Rattle.meaning.specs.Steps.{bind}
 use Rattle.meaning.specs.Widget.{Ctx, is-active}
 use Rattle.meaning.specs.Machine.{passing, on-if, exec-now, run-block}
+use Rattle.meaning.specs.WellFormed.{INSTR-ROW, instr-of, instr-by}
+use Rattle.plan_rows.proofs.Rows.{instr-said}
 use Rattle.plan_code.proofs.Walk.{go-further, block-first, left-first, left-further}
-use Rattle.plan_code.specs.Code.{Passed, Runs}
+use Rattle.plan_code.specs.Code.{Passed}
 
--- what a SKIPOUT of a plan names is there
-pub skip-runs : (vars : ℕ) {ins : Instr} {s n : ℕ} → ins ≡ skip-out s n → Runs vars ins → (s < STATES) × (n ≤ INSTRUCTIONS)
-skip-runs vars e r = subst (Runs vars) e r
+three : (z : ℤ) → ref z ≡ 3 → z ≡ pos 3
+three (pos n) e = ap pos e
+three (negsuc n) e = absurd (omega (arith, e))
+
+-- the row of a SKIPOUT, which begins at b, says one
+pub skip-said : (ns : List ℤ) (b : ℕ) {s : ℕ} → ref (getD ns b (pos 0)) ≡ 3 → s ≡ ref (getD ns (b + 1) (pos 0))
+    → skip-out s (ref (getD ns (b + 2) (pos 0))) ≡ instr-by (take INSTR-ROW (drop b ns))
+unfolding instr-of
+skip-said ns b {s} e f =
+    let z : b + 0 ≡ b = omega arith in
+    ap (λ n. skip-out n (ref (getD ns (b + 2) (pos 0)))) f
+    ∙ instr-said ns b (sym (ap (λ k. instr-of k (getD ns (b + 1) (pos 0)) (getD ns (b + 2) (pos 0)) (getD ns (b + 3) (pos 0)))
+    (ap (λ m. getD ns m (pos 0)) z ∙ three (getD ns b (pos 0)) e)))
 
 module _ {code : List Instr} {end from : ℕ} {active : List Bool} where
   pub passed-begin : Passed code end from active from
@@ -54,5 +66,5 @@ module _ {code : List Instr} {end from : ℕ} {active : List Bool} where
     passed-active f = let z : i + 1 + 0 ≡ i + 1 = omega arith in subst (λ j. Passed code end from active j) z (passed-on true f)
 
     -- what belongs to one that is not is passed over
-    pub passed-idle : getD active s false ≡ false → Passed code end from active (i + 1 + n)
-    passed-idle f = passed-on false f
+    pub passed-idle : {d : ℕ} → d ≡ n → getD active s false ≡ false → Passed code end from active (i + 1 + d)
+    passed-idle e f = subst (λ x. Passed code end from active (i + 1 + x)) (sym e) (passed-on false f)
