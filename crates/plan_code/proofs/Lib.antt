@@ -1,3 +1,4 @@
 pub mod Walk
 pub mod Named
 pub mod Executing
+pub mod Skipping

@@ -2,8 +2,8 @@
 -- (01, "The plan"): what an instruction names, what one instruction gives over what is
 -- lent, and a block of a plan that was examined. Assumes nothing.
 use mathlib.Core.Path.{_≡_}
-use Prim.Native.Nat.{ℕ, zero, suc, _+_, _*_, _<_, _≤_}
-use mathlib.Core.Bool.{true}
+use Prim.Native.Nat.{ℕ, zero, suc, _+_, _-_, _*_, _<_, _≤_}
+use mathlib.Core.Bool.{Bool, true}
 use mathlib.Core.List.{List}
 use lib.ListN.{length, take, drop}
 use lib.IntN.{ℤ}
@@ -92,3 +92,9 @@ pub record Block (ns : List ℤ) (k : Counts) (start len : ℕ) : Type 0 where
 -- what running it is
 abbrev pub block-of : List ℤ → ℤ → ℕ → ℕ → Step Ctx
 block-of ns a start len = run-block (plan-by ns .vars) a (take len (drop start (plan-by ns .code)))
+
+-- where these states are active, what is run from one place of a block up to its end is what is run from another, further on
+pub record Passed (code : List Instr) (end from : ℕ) (active : List Bool) (to : ℕ) : Type 0 where
+  pub onward : from ≤ to
+  pub same : (vs : List VarRow) (a : ℤ) (k : Ctx) → k .state .active ≡ active
+      → run-block vs a (take (end - from) (drop from code)) k ≡ run-block vs a (take (end - to) (drop to code)) k
