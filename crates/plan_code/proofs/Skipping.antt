@@ -1,5 +1,5 @@
--- SKIPOUTs one after the other (01, "pass over n if s is not active"), over plain variables: they act on nothing, so what is run from them on is what
--- stands past them. Assumes nothing.
+-- SKIPOUTs one after the other (01, "pass over n if s is not active"), over plain variables: they act on nothing, so what is run from them on
+-- is what stands past them. Assumes nothing.
 use mathlib.Core.Path.{_≡_, refl, sym, ap, _∙_, subst}
 use Prim.Native.Nat.{ℕ, _+_, _-_, _<_}
 use native.Mathlib.Omega.{arith}
