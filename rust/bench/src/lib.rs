@@ -1,5 +1,8 @@
-//! An interpreter of charts that is written for speed, for the engine's times to be held against: `fast`; and `examine`, the test of a plan.
+//! Two interpreters of charts for the engine's times to be held against, `walker`, which walks the tree, and `fast`, which is written for
+//! speed alone; and `examine`, the test of a plan. `interpreter` is what both can do.
 
 pub mod examine;
 pub mod fast;
+pub mod interpreter;
 pub mod tables;
+pub mod walker;

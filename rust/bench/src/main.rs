@@ -1,21 +1,24 @@
-//! bench [--events N]: what an event costs, posted and run: by an interpreter written for speed, by the engine's calls over the chart and over
-//! its plan, and by one replay of the plan. All in one run on one machine, since only the ratios say something.
+//! bench [--events N]: what an event costs, posted and run: by two interpreters (one walks the tree, one is written for speed alone), by the
+//! engine's calls over the chart and over its plan, and by one replay of the plan. All in one run on one machine, since only the ratios say
+//! something.
 
 use bench::examine::well_formed;
 use bench::fast;
+use bench::interpreter::Interpreter;
+use bench::walker;
 use compare::charts::{self, Shape};
 use compare::dice::Dice;
 use oracle::chart::{Act, Chart};
 use oracle::{plan, text, value};
 use quasarhorn::numbers;
-use std::time::Instant;
 
 const K: &str = "S\t0\t-\to\t1\nS\t1\t0\tb\t-\nS\t2\t0\to\t3\nS\t3\t2\tb\t-\nS\t4\t2\tb\t-\nV\t0\t-100\t100\t0\nE\t2\n\
 T\t0\t1\t1\t-\t-\t-\th2\nT\t1\t3\t2\t-\t-\t-\t4\nT\t2\t2\t1\t-\t-\t-\t1\nA\te\t4\to\t7\t-\nA\tx\t2\ta\t0\t60\nA\td\t2\to\t9\t-\n";
 
 /// What is run, in every form.
 struct Subject {
-    chart: fast::Chart,
+    walker: walker::Chart,
+    fast: fast::Chart,
     value: Vec<i32>,
     plan: Vec<i32>,
     /// Pairs of event and argument.
@@ -32,18 +35,22 @@ const MOST_OFTEN: usize = 5;
 /// How an event is run.
 #[derive(Clone, Copy, PartialEq, Eq)]
 enum Way {
-    Plain,
-    Tested,
-    SameTests,
+    Walked,
+    WalkedTested,
+    WalkedSameTests,
+    Fast,
+    FastSameTests,
     ByChart,
     ByPlan,
     Replay,
 }
 
-const WAYS: [(Way, &str); 6] = [
-    (Way::Plain, "interpreter, no tests, nothing cleared"),
-    (Way::Tested, "interpreter, test for 6 at each call, trace cleared at each run"),
-    (Way::SameTests, "interpreter, a plan examined and test for 6 at each call, trace cleared"),
+const WAYS: [(Way, &str); 8] = [
+    (Way::Walked, "tree walker, no tests, nothing cleared"),
+    (Way::WalkedTested, "tree walker, test for 6 at each call, trace cleared"),
+    (Way::WalkedSameTests, "tree walker, a plan examined and test for 6 at each call, trace cleared"),
+    (Way::Fast, "interpreter on 64-bit sets, ways worked out once, no tests, nothing cleared"),
+    (Way::FastSameTests, "interpreter on 64-bit sets, a plan examined and test for 6 at each call, trace cleared"),
     (Way::ByChart, "chart calls: rules checked and test for 6 at each call, trace cleared"),
     (Way::ByPlan, "plan calls: plan examined and test for 6 at each call, trace cleared"),
     (Way::Replay, "replay of the plan: examined and tested once, trace cleared"),
@@ -52,46 +59,69 @@ const WAYS: [(Way, &str); 6] = [
 impl Subject {
     fn new(chart: &Chart, events: Vec<i32>, room: usize, budget: f64) -> Subject {
         let plan = plan::numbers(&plan::plan(chart)).iter().map(|&n| n as i32).collect();
-        Subject { chart: fast::Chart::new(chart), value: value::numbers(chart), plan, events, room, budget }
+        let (walker, fast) = (walker::Chart::new(chart), fast::Chart::new(chart));
+        Subject { walker, fast, value: value::numbers(chart), plan, events, room, budget }
     }
 
     /// Starts a widget and runs every event: nanoseconds an event, and the widget's numbers afterwards.
     fn time(&self, way: Way, events: &[i32]) -> (f64, Vec<i32>) {
+        match way {
+            Way::Walked => self.interpreted::<_, false, false>(&self.walker, events),
+            Way::WalkedTested => self.interpreted::<_, true, false>(&self.walker, events),
+            Way::WalkedSameTests => self.interpreted::<_, true, true>(&self.walker, events),
+            Way::Fast => self.interpreted::<_, false, false>(&self.fast, events),
+            Way::FastSameTests => self.interpreted::<_, true, true>(&self.fast, events),
+            Way::ByChart | Way::ByPlan | Way::Replay => self.by_engine(way, events),
+        }
+    }
+
+    /// By an interpreter; with all tests of a plan call, a plan's numbers are examined too.
+    fn interpreted<I: Interpreter, const TESTS: bool, const EXAMINES: bool>(&self, chart: &I, events: &[i32]) -> (f64, Vec<i32>) {
+        let mut trace = vec![0; self.room];
+        let mut widget = I::unstarted();
+        assert_eq!(chart.start::<true>(&mut widget, &mut trace).0, 0);
+        let examine = || i32::from(EXAMINES && !well_formed(&self.plan));
+        let ns = timed(events, || {
+            let mut refused = 0;
+            for e in events.chunks_exact(2) {
+                refused += examine() + chart.post::<TESTS>(&mut widget, e[0], e[1]);
+                refused += examine() + chart.run::<TESTS, TESTS>(&mut widget, &mut trace).0;
+            }
+            refused
+        });
+        (ns, I::numbers(&widget))
+    }
+
+    fn by_engine(&self, way: Way, events: &[i32]) -> (f64, Vec<i32>) {
         let mut trace = vec![0; self.room];
         let mut widget = vec![0; numbers::WIDGET];
-        let mut own = fast::Widget::unstarted();
         assert_eq!(numbers::start(&self.value, &mut widget, &mut trace).answer, 0);
-        assert_eq!(self.chart.start::<true>(&mut own, &mut trace).0, 0);
-        let begin = Instant::now();
-        let before = now(begin);
-        let mut refused = 0;
-        match way {
-            Way::Plain => events.chunks_exact(2).for_each(|e| {
-                refused += self.chart.post::<false>(&mut own, e[0], e[1]);
-                refused += self.chart.run::<false, false>(&mut own, &mut trace).0;
-            }),
-            Way::Tested => events.chunks_exact(2).for_each(|e| {
-                refused += self.chart.post::<true>(&mut own, e[0], e[1]);
-                refused += self.chart.run::<true, true>(&mut own, &mut trace).0;
-            }),
-            Way::SameTests => events.chunks_exact(2).for_each(|e| {
-                refused += i32::from(!well_formed(&self.plan)) + self.chart.post::<true>(&mut own, e[0], e[1]);
-                refused += i32::from(!well_formed(&self.plan)) + self.chart.run::<true, true>(&mut own, &mut trace).0;
-            }),
-            Way::ByChart => events.chunks_exact(2).for_each(|e| {
-                refused += numbers::post(&self.value, &mut widget, e[0], e[1]).answer;
-                refused += numbers::run(&self.value, &mut widget, &mut trace).answer;
-            }),
-            Way::ByPlan => events.chunks_exact(2).for_each(|e| {
-                refused += numbers::plan_post(&self.plan, &mut widget, e[0], e[1]).answer;
-                refused += numbers::plan_run(&self.plan, &mut widget, &mut trace).answer;
-            }),
-            Way::Replay => refused += numbers::plan_replay(&self.plan, &mut widget, events, &mut trace).0.answer,
-        }
-        let ns = (now(begin) - before) / (events.len() / 2) as f64;
-        assert_eq!(refused, 0, "an event was refused");
-        let by_interpreter = matches!(way, Way::Plain | Way::Tested | Way::SameTests);
-        (ns, if by_interpreter { own.numbers() } else { widget })
+        let ns = timed(events, || {
+            let mut refused = 0;
+            match way {
+                Way::ByChart => events.chunks_exact(2).for_each(|e| {
+                    refused += numbers::post(&self.value, &mut widget, e[0], e[1]).answer;
+                    refused += numbers::run(&self.value, &mut widget, &mut trace).answer;
+                }),
+                Way::ByPlan => events.chunks_exact(2).for_each(|e| {
+                    refused += numbers::plan_post(&self.plan, &mut widget, e[0], e[1]).answer;
+                    refused += numbers::plan_run(&self.plan, &mut widget, &mut trace).answer;
+                }),
+                _ => refused += numbers::plan_replay(&self.plan, &mut widget, events, &mut trace).0.answer,
+            }
+            refused
+        });
+        (ns, widget)
+    }
+
+    /// Nanoseconds of examining the plan once, by the engine and by the interpreters' own test.
+    fn examining(&self) -> (f64, f64) {
+        let turns = vec![0; 2 * (2_000_000 / self.plan.len()).max(20)];
+        let best = |examine: &dyn Fn() -> i32| {
+            let all = || turns.chunks_exact(2).map(|_| examine()).sum();
+            (0..5).map(|_| timed(&turns, all)).fold(f64::MAX, f64::min)
+        };
+        (best(&|| numbers::examine(&self.plan).answer), best(&|| i32::from(!well_formed(std::hint::black_box(&self.plan)))))
     }
 
     /// As many of the events as a way can do without taking too long.
@@ -106,7 +136,7 @@ impl Subject {
         println!("\n{title}; {} numbers lent for the trace", self.room);
         let ways: Vec<Way> = WAYS.iter().map(|w| w.0).filter(|w| *w != Way::Replay || numbers::HAS_REPLAY).collect();
         let events: Vec<&[i32]> = ways.iter().map(|w| self.affordable(*w)).collect();
-        let ends: Vec<Vec<i32>> = events.iter().map(|e| self.time(Way::Plain, e).1).collect();
+        let ends: Vec<Vec<i32>> = events.iter().map(|e| self.time(Way::Walked, e).1).collect();
         let mut times = vec![f64::MAX; ways.len()];
         for turn in 0..3 * MOST_OFTEN {
             for (i, way) in ways.iter().enumerate() {
@@ -129,11 +159,35 @@ impl Subject {
     }
 }
 
-/// Nanoseconds that this program has had of a processor, where the system tells, or else since it began: others on the machine count less.
-fn now(begin: Instant) -> f64 {
-    let told = std::fs::read_to_string("/proc/self/schedstat").ok();
-    let on_processor = told.and_then(|t| t.split_whitespace().next().and_then(|n| n.parse().ok()));
-    on_processor.unwrap_or_else(|| begin.elapsed().as_nanos() as f64)
+#[repr(C)]
+#[derive(Default)]
+struct Timespec {
+    seconds: i64,
+    nanoseconds: i64,
+}
+
+extern "C" {
+    fn clock_gettime(clock: i32, time: *mut Timespec) -> i32;
+}
+
+/// Linux's number for the clock of the processor time that this program has had.
+const PROCESS_TIME: i32 = 2;
+
+/// Nanoseconds that this program has had of a processor, so that others on the machine count less.
+fn now() -> f64 {
+    let mut time = Timespec::default();
+    let answer = unsafe { clock_gettime(PROCESS_TIME, &mut time) };
+    assert_eq!(answer, 0, "the system tells no processor time");
+    time.seconds as f64 * 1e9 + time.nanoseconds as f64
+}
+
+/// Runs the events and says how long one took; none may be refused.
+fn timed(events: &[i32], mut run: impl FnMut() -> i32) -> f64 {
+    let before = now();
+    let refused = run();
+    let ns = (now() - before) / (events.len() / 2) as f64;
+    assert_eq!(refused, 0, "an event was refused");
+    ns
 }
 
 fn said(goal: &str, ratio: f64, most: f64) {
@@ -141,10 +195,20 @@ fn said(goal: &str, ratio: f64, most: f64) {
     println!("  goal: {goal} at most {most}: {ratio:.2}, {met}");
 }
 
-fn goals(times: &[f64], of_replay: f64) {
-    said("plan calls, of the interpreter doing the same tests", times[4] / times[2], 1.2);
-    if let Some(replay) = times.get(5) {
-        said("replay, of the interpreter without tests", replay / times[0], of_replay);
+fn goals(subject: &Subject, times: &[f64], of_replay: f64) {
+    let took = |way: Way| WAYS.iter().position(|w| w.0 == way).and_then(|i| times.get(i).copied());
+    let ratio = |a: Way, b: Way| took(a).zip(took(b)).map_or(f64::NAN, |(a, b)| a / b);
+    let (ours, theirs) = subject.examining();
+    println!("  examining the plan once: {ours:.0} ns, the interpreters' own test {theirs:.0} ns");
+    said("plan calls, of the tree walker doing the same tests", ratio(Way::ByPlan, Way::WalkedSameTests), 1.2);
+    if ours < 1000.0 {
+        // of a large plan the examining is nearly all, and what is left after it would be noise
+        let apart = took(Way::ByPlan).unwrap_or(f64::NAN) - 2.0 * ours;
+        said("plan calls less their examining, of the tree walker with the test for 6", apart / took(Way::WalkedTested).unwrap_or(f64::NAN), 1.2);
+    }
+    if numbers::HAS_REPLAY {
+        said("replay, of the tree walker without tests", ratio(Way::Replay, Way::Walked), of_replay);
+        println!("  replay, of the interpreter on 64-bit sets: {:.2}", ratio(Way::Replay, Way::Fast));
     }
 }
 
@@ -208,7 +272,7 @@ fn main() {
     for room in [60, 3000] {
         let subject = Subject::new(&k, events.clone(), room, f64::MAX);
         let times = subject.table(&format!("K, {count} events 1, 2, 1"));
-        goals(&times, 0.5);
+        goals(&subject, &times, 0.5);
     }
     let mut seed = 0;
     for many_events in [false, false, true] {
@@ -221,6 +285,6 @@ fn main() {
             subject.plan.len()
         );
         let times = subject.table(&title);
-        goals(&times, 1.0);
+        goals(&subject, &times, 1.0);
     }
 }

@@ -13,6 +13,18 @@ pub enum Act {
     Tell(i32),
 }
 
+impl From<chart::Act> for Act {
+    fn from(act: chart::Act) -> Act {
+        match act {
+            chart::Act::Set(v, x) => Act::Set(v as usize, x as i32),
+            chart::Act::Add(v, x) => Act::Add(v as usize, x as i32),
+            chart::Act::Take(v) => Act::Take(v as usize),
+            chart::Act::Send(e, x) => Act::Send(e as i32, x as i32),
+            chart::Act::Tell(x) => Act::Tell(x as i32),
+        }
+    }
+}
+
 #[derive(Clone, Copy, Default)]
 pub struct Span {
     pub from: u16,
@@ -31,6 +43,12 @@ pub struct Guard {
     pub variable: usize,
     pub sign: Sign,
     pub constant: i32,
+}
+
+impl From<chart::Guard> for Guard {
+    fn from(g: chart::Guard) -> Guard {
+        Guard { variable: g.variable as usize, sign: g.sign, constant: g.constant as i32 }
+    }
 }
 
 #[derive(Clone, Copy)]
@@ -109,13 +127,7 @@ impl Chart {
 
     fn owned(&mut self, c: &chart::Chart, owner: Owner) -> Span {
         let from = self.acts.len() as u16;
-        self.acts.extend(c.acts(owner).into_iter().map(|a| match a {
-            chart::Act::Set(v, x) => Act::Set(v as usize, x as i32),
-            chart::Act::Add(v, x) => Act::Add(v as usize, x as i32),
-            chart::Act::Take(v) => Act::Take(v as usize),
-            chart::Act::Send(e, x) => Act::Send(e as i32, x as i32),
-            chart::Act::Tell(x) => Act::Tell(x as i32),
-        }));
+        self.acts.extend(c.acts(owner).into_iter().map(Act::from));
         Span { from, to: self.acts.len() as u16 }
     }
 
@@ -138,7 +150,7 @@ impl Chart {
         Transition {
             number: t as i32,
             source,
-            guard: row.guard.map(|g| Guard { variable: g.variable as usize, sign: g.sign, constant: g.constant as i32 }),
+            guard: row.guard.map(Guard::from),
             goal: match row.target {
                 Target::InPlace => Goal::InPlace,
                 Target::State(_) => Goal::State,
