@@ -78,14 +78,15 @@ fn slots_fit(states: usize, slots: [i32; STATES]) -> bool
 fn rest_empty(states: usize, slots: [i32; STATES]) -> bool
     ensures { λ r. ⌜ r ≡ every (eqZ (negsuc 0)) (drop states slots) ⌝ }
 {
+    let mut fits = true;
     let mut s = states;
     while s < STATES {
         if !same(-1, slots[s]) {
-            return false;
+            fits = false;
         }
         s += 1;
     }
-    true
+    fits
 }
 
 // Whether a started state is one that the plan machine runs; else answer 6.

@@ -81,14 +81,15 @@ fn marked(numbers: &[i32]) -> bool
     requires { ⌜ marks ≤ length (now numbers) ⌝ }
     ensures { λ r. ⌜ r ≡ every is-mark (take marks (now (numbers .entry))) ⌝ }
 {
+    let mut fits = true;
     let mut i: usize = 0;
     while i < MARKS {
         if !numbers::between(0, numbers[i], 1) {
-            return false;
+            fits = false;
         }
         i += 1;
     }
-    true
+    fits
 }
 
 // Whether the numbers state a widget. A queue longer than its places is stated: the calls refuse it themselves.

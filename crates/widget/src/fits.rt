@@ -62,15 +62,16 @@ fn waiting_fit(events: usize, queue: Queue) -> bool
 fn rest_free(queue: Queue) -> bool
     ensures { λ r. ⌜ r ≡ every is-none (drop (queue .len) (queue .items)) ⌝ }
 {
+    let mut fits = true;
     let mut i = queue.len;
     while i < QUEUE {
         let item = queue.items[i];
         if !is_free(item) {
-            return false;
+            fits = false;
         }
         i += 1;
     }
-    true
+    fits
 }
 
 // 01, answer 6: queue over 16 or with a wrong event or argument, or a free place that holds something.
@@ -90,12 +91,13 @@ pub fn queue_fits(events: usize, queue: Queue) -> bool
 pub fn marks_fit(states: usize, active: [bool; STATES]) -> bool
     ensures { λ r. ⌜ r ≡ every not (drop states active) ⌝ }
 {
+    let mut fits = true;
     let mut i = states;
     while i < STATES {
         if active[i] {
-            return false;
+            fits = false;
         }
         i += 1;
     }
-    true
+    fits
 }
