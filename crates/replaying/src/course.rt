@@ -1,6 +1,7 @@
 // The events of a replay one after the other, over what is lent. The plan was examined and the tests for 7 and 6 were made.
 use super::turns::post_and_run;
 use meaning::plan::Counts;
+use plan_choice::links::links_of;
 use queue::lent::QUEUE_NUMBERS;
 use sizes::STATES;
 use sizes::TRANSITIONS;
@@ -39,6 +40,7 @@ pub fn go_through(
     ensures { λ r. ⌜ Gone-through (plan-by (now (plan .entry))) (take count (items-of (now (events .entry)))) (all-lent (now (active .entry)) (now (slots .entry)) (now (vars .entry)) (now (queue .entry)) (now (trace .entry))) r (all-lent (now (active .exit)) (now (slots .exit)) (now (vars .exit)) (now (queue .exit)) (now (trace .exit))) ⌝ }
 {
     let mut picks: [usize; TRANSITIONS] = [0; TRANSITIONS];
+    let links = links_of(plan, k);
     let mut done: usize = 0;
     let mut at: usize = 0;
     while done < count {
@@ -47,6 +49,7 @@ pub fn go_through(
         let now = post_and_run(
             plan,
             k,
+            &links,
             event,
             arg,
             &mut picks,
