@@ -73,8 +73,8 @@ as-posted-requires c κs =
     let s = start-from-else2 e in (
       s .pre,
       ready e,
-      broken-here (ready e) (sized-of s) (g .before .before .before .before .before .before .before .before .lend .ensures) (s .args .trace .now)
-          (all-there s) (g .go-through .ensures) (c .before .before .if3 .taken),
+      broken-here (ready e) (sized-of s) (g .before .before .before .before .before .before .before .before .lend .ensures)
+          (s .args .trace .now) (all-there s) (g .go-through .ensures) (c .before .before .if3 .taken),
       g .before .before .before .before .before .before .before .links-of .ensures,
     )
 
@@ -91,7 +91,8 @@ returns-4 c =
     let g = c .before .before .before .before .before in
     let e = else2-from-call (g .before) in
     let s = start-from-else2 e in
-    ended-told (ready e) (sized-of s) (g .before .before .before .before .before .before .before .before .lend .ensures) (s .args .trace .now) (all-there s)
+    ended-told (ready e) (sized-of s) (g .before .before .before .before .before .before .before .before .lend .ensures) (s .args .trace .now)
+    (all-there s)
     (g .go-through .ensures) (c .before .before .before .if3 .left) (c .before .told .ensures)
 
 pub replay-examined-spec : {M : Type 1} → statement M
