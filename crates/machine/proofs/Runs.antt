@@ -42,6 +42,13 @@ module _ (p : Plan) (e : ℕ) (a : ℤ) {before : Lent} {w : Went} {after : Lent
       → Ran (plan-step p e a then plan-settle p) before 0 r after₂
   react-on z g = record { did = going.then-on (d .did) z (g .did); slotted = λ y. g .slotted y ∙ d .slotted z }
 
+  -- no head has trigger 0
+  pub react-once : w .number ≡ 0 → Ran (plan-settle p) after (w .at) (record { number = 0; at = w .at }) after
+      → Ran (plan-step p e a then plan-settle p) before 0 w after
+  react-once z g =
+      subst (λ r. Ran (plan-step p e a then plan-settle p) before 0 r after) (ap (λ n. record { number = n; at = w .at }) (sym z))
+      (react-on z g)
+
 -- ---- the tests in turn
 
 module _ (C G : Step Ctx) (d : Bool) (k : Ctx) where

@@ -8,6 +8,8 @@ use meaning::answers::NOT_STARTED;
 use meaning::answers::QUEUE_EMPTY;
 use meaning::plan::Counts;
 use numbers::reference;
+use plan_choice::links::LINKS;
+use plan_choice::links::links_of;
 use plan_own::own;
 use plan_steps::settle;
 use plan_steps::step;
@@ -26,12 +28,14 @@ ghost use Rattle.meaning.specs.Machine.{plan-step, plan-settle, plan-run};
 ghost use Rattle.meaning.specs.WellFormed.{plan-by};
 ghost use Rattle.widget.specs.View.{all-lent};
 ghost use Rattle.plan_choice.specs.Heads.{Examined};
+ghost use Rattle.plan_choice.specs.Links.{Linked};
 ghost use Rattle.plan_code.specs.Code.{Slotted, Ran};
 
 // One step with the event, then null steps.
 pub fn react(
     plan: &[i32],
     k: Counts,
+    links: &[u8; LINKS],
     event: usize,
     arg: i32,
     picks: &mut [usize; TRANSITIONS],
@@ -41,12 +45,13 @@ pub fn react(
     queue: &mut [i32; QUEUE_NUMBERS],
     trace: &mut [i32],
 ) -> Went
-    requires { ⌜ Examined (now plan) k × (length (now picks) ≡ transitions) × Slotted (now slots) ⌝ }
+    requires { ⌜ Examined (now plan) k × (length (now picks) ≡ transitions) × Slotted (now slots) × Linked (now plan) k (now links) ⌝ }
     ensures { λ r. ⌜ Ran (plan-step (plan-by (now (plan .entry))) event arg then plan-settle (plan-by (now (plan .entry)))) (all-lent (now (active .entry)) (now (slots .entry)) (now (vars .entry)) (now (queue .entry)) (now (trace .entry))) 0 r (all-lent (now (active .exit)) (now (slots .exit)) (now (vars .exit)) (now (queue .exit)) (now (trace .exit))) × (length (now (picks .exit)) ≡ transitions) ⌝ }
 {
     let went = step(
         plan,
         k,
+        links,
         event,
         arg,
         picks,
@@ -60,7 +65,22 @@ pub fn react(
     if went.number != 0 {
         return went;
     }
-    settle(plan, k, picks, active, slots, vars, queue, trace, went.at)
+    // without a head of trigger 0 there is no null step
+    if k.heads <= links[TRANSITIONS] as usize {
+        return went;
+    }
+    settle(
+        plan,
+        k,
+        links,
+        picks,
+        active,
+        slots,
+        vars,
+        queue,
+        trace,
+        went.at,
+    )
 }
 
 // "A run removes the front event and makes one step with it. Then null steps follow."
@@ -87,9 +107,11 @@ pub fn run_examined(plan: &[i32], k: Counts, state: State, trace: &mut [i32]) ->
     let left = removed.queue;
     let mut waiting = lend(left);
     let mut picks: [usize; TRANSITIONS] = [0; TRANSITIONS];
+    let links = links_of(plan, k);
     let went = react(
         plan,
         k,
+        &links,
         event,
         front.arg,
         &mut picks,

@@ -3,6 +3,8 @@ use ends::finish;
 use meaning::Called;
 use meaning::State;
 use meaning::plan::Counts;
+use plan_choice::links::LINKS;
+use plan_choice::links::links_of;
 use plan_code::run_block;
 use plan_rows::var_row;
 use plan_steps::settle;
@@ -21,6 +23,7 @@ ghost use Rattle.meaning.specs.Machine.{plan-start-steps, plan-start};
 ghost use Rattle.meaning.specs.WellFormed.{plan-by};
 ghost use Rattle.widget.specs.View.{all-lent};
 ghost use Rattle.plan_choice.specs.Heads.{Examined};
+ghost use Rattle.plan_choice.specs.Links.{Linked};
 ghost use Rattle.plan_code.specs.Code.{Slotted, Ran};
 
 // "all variables at their first value"; places not in use are 0.
@@ -44,6 +47,7 @@ fn first_values(plan: &[i32], k: Counts) -> [i32; VARIABLES]
 fn begin(
     plan: &[i32],
     k: Counts,
+    links: &[u8; LINKS],
     picks: &mut [usize; TRANSITIONS],
     active: &mut [bool; STATES],
     slots: &mut [i32; STATES],
@@ -51,7 +55,7 @@ fn begin(
     queue: &mut [i32; QUEUE_NUMBERS],
     trace: &mut [i32],
 ) -> Went
-    requires { ⌜ Examined (now plan) k × (length (now picks) ≡ transitions) × Slotted (now slots) ⌝ }
+    requires { ⌜ Examined (now plan) k × (length (now picks) ≡ transitions) × Slotted (now slots) × Linked (now plan) k (now links) ⌝ }
     ensures { λ r. ⌜ Ran (plan-start-steps (plan-by (now (plan .entry)))) (all-lent (now (active .entry)) (now (slots .entry)) (now (vars .entry)) (now (queue .entry)) (now (trace .entry))) 0 r (all-lent (now (active .exit)) (now (slots .exit)) (now (vars .exit)) (now (queue .exit)) (now (trace .exit))) ⌝ }
 {
     let started = run_block(plan, k, 0, k.start, 0, active, slots, vars, queue, trace, 0);
@@ -61,6 +65,7 @@ fn begin(
     settle(
         plan,
         k,
+        links,
         picks,
         active,
         slots,
@@ -81,9 +86,11 @@ pub fn start_examined(plan: &[i32], k: Counts, state: State, trace: &mut [i32]) 
     let mut vars = first_values(plan, k);
     let mut queue = lend(Queue::empty());
     let mut picks: [usize; TRANSITIONS] = [0; TRANSITIONS];
+    let links = links_of(plan, k);
     let went = begin(
         plan,
         k,
+        &links,
         &mut picks,
         &mut active,
         &mut slots,

@@ -9,7 +9,7 @@ use lib.ListN.{length, getD, take, drop}
 use lib.IntN.{ℤ, pos, negsuc}
 use borrow.Author.Tests.{leb-true, ltb-true}
 use lib.Dec.{leb, ltb}
-use Rattle.sizes.specs.Sizes.{STATES, VARIABLES, TRANSITIONS}
+use Rattle.sizes.specs.Sizes.{STATES, VARIABLES, EVENTS, TRANSITIONS}
 use Rattle.numbers.specs.Equal.{eqZ}
 use Rattle.numbers.specs.Range.{inRange}
 use Rattle.numbers.specs.Reference.{ref}
@@ -27,7 +27,8 @@ use Rattle.meaning.specs.WellFormed.{var-keeps, one-of, head-guard-fits, span-f
 use Rattle.meaning.specs.WellFormed.{head-fits, all-blocks-fill, code-fits, left-in-blocks, code-at}
 use Rattle.meaning.specs.WellFormed.{rows-well-formed, is-whole, well-formed}
 use Rattle.plan_rows.specs.Rows.{row, Sized}
-use Rattle.plan_rows.proofs.Rows.{sized, head-rows-length, head-rows-at, head-of-plan, head-there}
+use Rattle.plan_rows.proofs.Rows.{sized, heads-length, head-rows-length, head-rows-at, head-of-plan, head-there}
+use Rattle.plan_rows.proofs.Kept.{head-kept}
 use Rattle.choice.specs.Choice.{Reads}
 use Rattle.plan_choice.specs.Heads.{Examined, head-at, head-of}
 
@@ -67,6 +68,9 @@ module _ {ns : List ℤ} {k : Counts} (x : Examined ns k) where
 
   pub counts-sized : Sized k
   counts-sized = subst Sized (sym (x .counted)) (sized ns)
+
+  pub heads-long : length (plan-by ns .heads) ≡ k .heads
+  heads-long = subst (λ q. length (plan-by ns .heads) ≡ q .heads) (sym (x .counted)) (heads-length ns)
 
 -- ---- a head
 
@@ -117,6 +121,11 @@ module _ {ns : List ℤ} {k : Counts} (x : Examined ns k) (h : ℕ) (l : h < k .
   pub head-names : (head-of ns (heads-at k) h .source < STATES) × Reads (head-of ns (heads-at k) h .guard)
       × (head-of ns (heads-at k) h .transition < TRANSITIONS)
   head-names = head-said k (row HEAD-ROW (heads-at k) h ns) (counts-sized x .states) (counts-sized x .vars) fits
+
+  pub head-trigger : head-of ns (heads-at k) h .trigger ≤ EVENTS
+  head-trigger =
+      let t = head-kept k (row HEAD-ROW (heads-at k) h ns) (counts-sized x .states) fits .trigger in
+      omega (arith, t, counts-sized x .events)
 
   -- it is the head of this number of the plan
   pub head-is : (d : Head) → getD (plan-by ns .heads) h d ≡ head-of ns (heads-at k) h

@@ -1,4 +1,5 @@
 pub mod Facts
 pub mod Thin
 pub mod Tests
+pub mod Linking
 pub mod Loop

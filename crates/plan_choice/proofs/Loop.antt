@@ -7,19 +7,22 @@ use mathlib.Core.List.{List, [], _∷_, _++_, map}
 use lib.ListN.{length, getD, take, drop, set, length-set, length-map}
 use lib.Seq.{length-take-le, getD-take}
 use lib.IntN.{ℤ}
-use Rattle.sizes.specs.Sizes.{TRANSITIONS}
+use Rattle.sizes.specs.Sizes.{EVENTS, TRANSITIONS}
+use mathlib.Core.Logic.{⊎-elim}
+use Rattle.laws.proofs.Lists.{le-or-lt}
 use Rattle.laws.proofs.Value.{getD-map}
 use Rattle.meaning.specs.Lists.{exists}
 use Rattle.meaning.specs.declared.State.{State}
 use Rattle.meaning.specs.declared.plan.Counts.{Counts}
 use Rattle.meaning.specs.declared.plan.Head.{Head}
-use Rattle.meaning.specs.Machine.{head-enabled, spans-meet, chosen-heads}
+use Rattle.meaning.specs.Machine.{head-enabled, spans-meet, thin-heads, chosen-heads}
 use Rattle.meaning.specs.WellFormed.{HEAD-ROW, counts-of, heads-at, plan-by}
 use Rattle.plan_rows.specs.Rows.{Sized}
-use Rattle.plan_rows.proofs.Rows.{heads-length}
 use Rattle.choice.specs.Choice.{seen}
 use Rattle.plan_choice.specs.Heads.{Examined, head-of, picked, Picks, Chose}
-use Rattle.plan_choice.proofs.Facts.{counts-sized, head-is}
+use Rattle.plan_choice.specs.Links.{head-from, Linked}
+use Rattle.plan_choice.proofs.Linking.{from-on, from-most, from-own, keep-from}
+use Rattle.plan_choice.proofs.Facts.{counts-sized, heads-long, head-is, head-trigger}
 use Rattle.plan_choice.proofs.Thin.{gone-after, gone-hit, gone-none, with-rest, rest-off}
 use Rattle.plan_choice.proofs.Thin.{rest-clash, rest-take, rest-end, picked-more, named-more}
 
@@ -47,12 +50,9 @@ picked-long f picks count l = length-map (take count picks) f ∙ length-take-le
 module _ {ns : List ℤ} {k : Counts} (x : Examined ns k) {base e : ℕ}
     (b : base ≡ heads-at k) {u : State} {h : ℕ} {picks : List ℕ} {count : ℕ}
     (w : Choosing ns base (k .heads) e u h picks count) where
-  long : length (plan-by ns .heads) ≡ k .heads
-  long = subst (λ q. length (plan-by ns .heads) ≡ q .heads) (sym (x .counted)) (heads-length ns)
-
   module _ (l : h < k .heads) where
     within : h < length (plan-by ns .heads)
-    within = omega (arith, long, l)
+    within = omega (arith, heads-long x, l)
 
     is-head : getD (plan-by ns .heads) h (head-of ns base h) ≡ head-of ns base h
     is-head = subst (λ a. getD (plan-by ns .heads) h (head-of ns a h) ≡ head-of ns a h) (sym b) (head-is x h l (head-of ns
@@ -108,7 +108,91 @@ module _ {ns : List ℤ} {k : Counts} (x : Examined ns k) {base e : ℕ}
       → Chose ns k e active vars count picks
   choosing-end l g {active} {vars} v = record {
     is = subst (λ a. picked ns a count picks ≡ chosen-heads (plan-by ns) e (seen active vars)) b
-        (sym (rest-end e u (plan-by ns .heads) h (picked ns base count picks) (omega (arith, long, l))) ∙ w .owes
+        (sym (rest-end e u (plan-by ns .heads) h (picked ns base count picks) (omega (arith, heads-long x, l))) ∙ w .owes
         ∙ ap (chosen-heads (plan-by ns) e) (sym v));
     stands = record { named = w .named; few = omega (arith, w .few, g, counts-sized x .heads); size = w .size };
   }
+
+-- ---- from head to head of one trigger
+
+-- the head that comes next has the trigger, or is past the heads; those before it are done with
+pub record Walking (ns : List ℤ) (base heads e : ℕ) (u : State) (next : ℕ) (picks : List ℕ) (count : ℕ) : Type 0 where
+  pub done : Choosing ns base heads e u next picks count
+  pub within : next ≤ heads
+  pub own : next < heads → head-of ns base next .trigger ≡ e
+
+rest-from : (e : ℕ) (u : State) (all : List Head) (i : ℕ) (ps : List Head)
+    → with-rest e u (drop (head-from all e i) all) ps ≡ with-rest e u (drop i all) ps
+unfolding with-rest
+rest-from e u all i ps = ap (λ hs. ps ++ thin-heads (gone-after [] ps) hs) (keep-from e all i u)
+
+module _ {ns : List ℤ} {k : Counts} (x : Examined ns k) {base e : ℕ} (b : base ≡ heads-at k) {u : State} where
+  pub walk-on : {h : ℕ} {picks : List ℕ} {count : ℕ} → Choosing ns base (k .heads) e u h picks count → h ≤ k .heads → {next : ℕ}
+      → next ≡ head-from (plan-by ns .heads) e h → Walking ns base (k .heads) e u next picks count
+  walk-on {h} {picks} {count} w l {next} q = record {
+    done = record {
+      owes = ap (λ i. with-rest e u (drop i all) (picked ns base count picks)) q ∙ rest-from e u all h (picked ns base count picks)
+          ∙ w .owes;
+      named = w .named;
+      size = w .size;
+      few = omega (arith, w .few, q, from-on e all h);
+    };
+    within = omega (arith, q, heads-long x, from-most e all h (omega (arith, heads-long x, l)));
+    own = λ g.
+        ap (λ a. head-of ns a next .trigger) b
+        ∙ ap (λ y. y .trigger) (sym (head-is x next g (head-of ns (heads-at k) next)))
+        ∙ ap (λ i. getD all i (head-of ns (heads-at k) next) .trigger) q
+        ∙ from-own e all h (head-of ns (heads-at k) next) (omega (arith, heads-long x, q, g));
+  }
+    where
+      all : List Head
+      all = plan-by ns .heads
+
+  pub walk-begin : {links picks : List ℕ} → Linked ns k links → e ≤ EVENTS → length picks ≡ TRANSITIONS
+      → Walking ns base (k .heads) e u (getD links (TRANSITIONS + e) 0) picks 0
+  walk-begin v l n = walk-on (choosing-begin n) (omega arith) (v .first e l)
+
+  -- one head; the index has the one after it
+  module _ {next : ℕ} {picks : List ℕ} {count : ℕ} (w : Walking ns base (k .heads) e u next picks count) (l : next < k .heads)
+      {links : List ℕ} (v : Linked ns k links) where
+    follows : getD links next 0 ≡ head-from (plan-by ns .heads) e (next + 1)
+    follows = v .next next l ∙ ap (λ t. head-from (plan-by ns .heads) t (next + 1))
+        (ap (λ a. head-of ns a next .trigger) (sym b) ∙ w .own l)
+
+    pub walk-later : next < getD links next 0
+    walk-later = omega (arith, follows, from-on e (plan-by ns .heads) (next + 1))
+
+    -- the answer r of the test in a step of the head's own trigger
+    module _ {r : Bool} (a : r ≡ head-enabled (head-of ns base next .trigger) u (head-of ns base next)) where
+      its-own : head-enabled e u (head-of ns base next) ≡ r
+      its-own = ap (λ t. head-enabled t u (head-of ns base next)) (sym (w .own l)) ∙ sym a
+
+      pub walk-off : r ≡ false → Walking ns base (k .heads) e u (getD links next 0) picks count
+      walk-off q = walk-on (choosing-off x b (w .done) l (its-own ∙ q)) (omega (arith, l)) follows
+
+      module _ (q : r ≡ true) where
+        pub walk-clash : (j : ℕ) → j < count → spans-meet (head-of ns base next) (head-of ns base (getD picks j 0)) ≡ true
+            → Walking ns base (k .heads) e u (getD links next 0) picks count
+        walk-clash j g m = walk-on (choosing-clash x b (w .done) l (its-own ∙ q) j g m) (omega (arith, l)) follows
+
+        pub walk-take : ((j : ℕ) → j < count → spans-meet (head-of ns base next) (head-of ns base (getD picks j 0)) ≡ false)
+            → Walking ns base (k .heads) e u (getD links next 0) (set picks count next) (count + 1)
+        walk-take m = walk-on (choosing-take x b (w .done) l (its-own ∙ q) m) (omega (arith, l)) follows
+
+-- ---- nothing is chosen
+
+module _ {ns : List ℤ} {k : Counts} (x : Examined ns k) {e : ℕ} {picks : List ℕ} (n : length picks ≡ TRANSITIONS)
+    {active : List Bool} {vars : List ℤ} where
+  walked : Walking ns (heads-at k) (k .heads) e (seen active vars) (head-from (plan-by ns .heads) e 0) picks 0
+  walked = walk-on x refl (choosing-begin n) (omega arith) refl
+
+  -- no head has the trigger
+  pub chose-none : k .heads ≤ head-from (plan-by ns .heads) e 0 → Chose ns k e active vars 0 picks
+  chose-none l = choosing-end x refl (walked .done) l (walked .within) refl
+
+  -- no head can have it
+  pub chose-foreign : EVENTS < e → Chose ns k e active vars 0 picks
+  chose-foreign g = ⊎-elim chose-none has (le-or-lt (k .heads) (head-from (plan-by ns .heads) e 0))
+    where
+      has : head-from (plan-by ns .heads) e 0 < k .heads → Chose ns k e active vars 0 picks
+      has l = absurd (omega (arith, g, walked .own l, head-trigger x (head-from (plan-by ns .heads) e 0) l))

@@ -56,31 +56,28 @@ module _ (ns : List ℤ) (at : ℕ) where
   unfolding head-by
   guard-is = rw (num-at HEAD-ROW at ns 3 (omega arith), num-at HEAD-ROW at ns 4 (omega arith), num-at HEAD-ROW at ns 5 (omega arith))
 
--- ---- enabled: the tests in turn, of the head whose row begins at a place
+-- ---- enabled in a step of its own trigger: the tests in turn, of the head whose row begins at a place
 
-module _ (ns : List ℤ) (at e : ℕ) (u : State) where
-  pub off-trigger : {t : ℕ} → t ≡ ref (getD ns (at + 2) (pos 0)) → (t ≡ e → ⊥) → false ≡ head-enabled e u (head-at ns at)
-  unfolding head-enabled
-  off-trigger q n = rw (ne-eqb (head-at ns at .trigger) e (λ z. n (q ∙ trigger-is ns at ∙ z)))
+module _ (ns : List ℤ) (at : ℕ) (u : State) where
+  own-trigger : eqb (head-at ns at .trigger) (head-at ns at .trigger) ≡ true
+  own-trigger = eq-eqb (head-at ns at .trigger) (head-at ns at .trigger) refl
 
   pub off-source : {s : ℕ} → s ≡ ref (getD ns (at + 1) (pos 0)) → getD (u .active) s false ≡ false
-      → false ≡ head-enabled e u (head-at ns at)
+      → false ≡ head-enabled (head-at ns at .trigger) u (head-at ns at)
   unfolding head-enabled is-active
   off-source {s} q n =
       let m : getD (u .active) (head-at ns at .source) false ≡ false = subst (λ x. getD (u .active) x false ≡ false) (q
       ∙ source-is ns at) n in
-      rw m (sym (and-false (eqb (head-at ns at .trigger) e)))
+      rw (own-trigger, m)
 
-  pub on-guard : {t s : ℕ} {g : Guard} {b : Bool} (w : State) → t ≡ ref (getD ns (at + 2) (pos 0)) → t ≡ e
-      → s ≡ ref (getD ns (at + 1) (pos 0)) → getD (u .active) s false ≡ true
+  pub on-guard : {s : ℕ} {g : Guard} {b : Bool} (w : State) → s ≡ ref (getD ns (at + 1) (pos 0)) → getD (u .active) s false ≡ true
       → g ≡ head-guard-by (getD ns (at + 3) (pos 0)) (getD ns (at + 4) (pos 0)) (getD ns (at + 5) (pos 0)) → w .vars ≡ u .vars
-      → b ≡ guard-holds g w → b ≡ head-enabled e u (head-at ns at)
+      → b ≡ guard-holds g w → b ≡ head-enabled (head-at ns at .trigger) u (head-at ns at)
   unfolding head-enabled is-active
-  on-guard {t} {s} {g} w q f p a r v z =
-      let m : eqb (head-at ns at .trigger) e ≡ true = eq-eqb (head-at ns at .trigger) e (sym (q ∙ trigger-is ns at) ∙ f) in
+  on-guard {s} {g} w p a r v z =
       let n : getD (u .active) (head-at ns at .source) false ≡ true =
       subst (λ x. getD (u .active) x false ≡ true) (p ∙ source-is ns at) a in
-      z ∙ guard-seen g w u v ∙ ap (λ x. guard-holds x u) (r ∙ guard-is ns at) ∙ rw (m, n)
+      z ∙ guard-seen g w u v ∙ ap (λ x. guard-holds x u) (r ∙ guard-is ns at) ∙ rw (own-trigger, n)
 
 -- ---- spans that meet, of two heads whose rows begin at places
 

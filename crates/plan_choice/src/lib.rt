@@ -1,6 +1,10 @@
 // Which heads of a plan a step fires (01, "The machine chooses by heads alone, in their order"): the heads are read where
-// they stand in the lent numbers, and the chosen are their numbers, in the order in which they fire.
+// they stand in the lent numbers, and the chosen are their numbers, in the order in which they fire. Only those of the step's trigger
+// are looked at, which an index finds.
+pub mod links;
+
 use choice::guard_true;
+use links::LINKS;
 use meaning::plan::Counts;
 use plan_rows::guard_at;
 use plan_rows::heads_at;
@@ -8,8 +12,8 @@ use plan_rows::layout::HEAD_ROW;
 use plan_rows::layout::SOURCE;
 use plan_rows::layout::SPAN_FIRST;
 use plan_rows::layout::SPAN_LAST;
-use plan_rows::layout::TRIGGER;
 use plan_rows::named;
+use sizes::EVENTS;
 use sizes::STATES;
 use sizes::TRANSITIONS;
 use sizes::VARIABLES;
@@ -21,22 +25,14 @@ ghost use Rattle.meaning.specs.Machine.{head-enabled, spans-meet};
 ghost use Rattle.meaning.specs.WellFormed.{HEAD-ROW};
 ghost use Rattle.choice.specs.Choice.{seen, Reads};
 ghost use Rattle.plan_choice.specs.Heads.{Examined, head-at, Chose};
+ghost use Rattle.plan_choice.specs.Links.{Linked};
 
-// Trigger equal, source active, guard true of the values: of the head whose row begins at this place. What does not match
-// is passed over before anything else is read.
-fn enabled(
-    plan: &[i32],
-    at: usize,
-    event: usize,
-    active: &[bool; STATES],
-    vars: &[i32; VARIABLES],
-) -> bool
+// Source active, guard true of the values: of the head whose row begins at this place, in a step of its trigger. What does not
+// match is passed over before anything else is read.
+fn enabled(plan: &[i32], at: usize, active: &[bool; STATES], vars: &[i32; VARIABLES]) -> bool
     requires { ⌜ (at + HEAD-ROW ≤ length (now plan)) × (head-at (now plan) at .source < states) × Reads (head-at (now plan) at .guard) ⌝ }
-    ensures { λ r. ⌜ r ≡ head-enabled event (seen (now (active .entry)) (now (vars .entry))) (head-at (now (plan .entry)) at) ⌝ }
+    ensures { λ r. ⌜ r ≡ head-enabled (head-at (now (plan .entry)) at .trigger) (seen (now (active .entry)) (now (vars .entry))) (head-at (now (plan .entry)) at) ⌝ }
 {
-    if named(plan, at + TRIGGER) != event {
-        return false;
-    }
     let source = named(plan, at + SOURCE);
     if !active[source] {
         return false;
@@ -60,20 +56,27 @@ fn meet(plan: &[i32], at: usize, other: usize) -> bool
 pub fn choose(
     plan: &[i32],
     k: Counts,
+    links: &[u8; LINKS],
     event: usize,
     active: &[bool; STATES],
     vars: &[i32; VARIABLES],
     picks: &mut [usize; TRANSITIONS],
 ) -> usize
-    requires { ⌜ Examined (now plan) k × (length (now picks) ≡ transitions) ⌝ }
+    requires { ⌜ Examined (now plan) k × (length (now picks) ≡ transitions) × Linked (now plan) k (now links) ⌝ }
     ensures { λ r. ⌜ Chose (now (plan .entry)) k event (now (active .entry)) (now (vars .entry)) r (now (picks .exit)) ⌝ }
 {
+    if EVENTS < event {
+        return 0;
+    }
     let base = heads_at(k);
     let n = k.heads;
     let mut count: usize = 0;
-    'heads: for h in 0..n {
+    let mut next = links[TRANSITIONS + event] as usize;
+    'heads: while next < n {
+        let h = next;
         let at = base + h * HEAD_ROW;
-        if !enabled(plan, at, event, active, vars) {
+        next = links[h] as usize;
+        if !enabled(plan, at, active, vars) {
             continue;
         }
         for j in 0..count {

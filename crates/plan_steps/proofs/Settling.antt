@@ -4,9 +4,9 @@ use Prim.Native.Nat.{ℕ, zero, suc, _+_, _-_, _≤_, _<_}
 use native.Mathlib.Omega.{arith}
 use mathlib.Core.Bool.{Bool}
 use mathlib.Core.List.{List, [], _∷_}
-use lib.ListN.{length}
+use lib.ListN.{length, getD, replicate, length-replicate}
 use lib.IntN.{ℤ, pos}
-use Rattle.sizes.specs.Sizes.{NULL-STEPS}
+use Rattle.sizes.specs.Sizes.{NULL-STEPS, TRANSITIONS}
 use Rattle.meaning.specs.declared.State.{State}
 use Rattle.meaning.specs.declared.plan.Counts.{Counts}
 use Rattle.meaning.specs.declared.plan.Head.{Head}
@@ -23,6 +23,8 @@ use Rattle.widget.proofs.Going as going
 use Rattle.choice.specs.Choice.{seen}
 use Rattle.choice.proofs.Seen.{guard-seen}
 use Rattle.plan_choice.specs.Heads.{Examined, picked, Picks, Chose}
+use Rattle.plan_choice.specs.Links.{Linked}
+use Rattle.plan_choice.proofs.Loop.{chose-none}
 use Rattle.plan_code.specs.Code.{Ran}
 use Rattle.plan_steps.proofs.Firing.{fires-long}
 
@@ -171,3 +173,13 @@ module _ {ns : List ℤ} {k : Counts} {before : Lent} {at turns : ℕ} {a : List
             few = omega arith;
             slotted = d .slotted y ∙ w .slotted;
           }
+
+-- no head has trigger 0: there is no null step
+pub settles-none : {ns : List ℤ} {k : Counts} {links : List ℕ} → Examined ns k → Linked ns k links
+    → k .heads ≤ getD links TRANSITIONS 0 → {a : List Bool} {sl vs q t : List ℤ} {at : ℕ} → at ≤ length t
+    → Ran (plan-settle (plan-by ns)) (record { active = a; slots = sl; vars = vs; queue = q; trace = t }) at
+    (record { number = 0; at = at }) (record { active = a; slots = sl; vars = vs; queue = q; trace = t })
+settles-none x v l g =
+    settling-end (settling-begin g) {count = 0} {picks = replicate TRANSITIONS 0}
+    (chose-none x {picks = replicate TRANSITIONS 0} (length-replicate {A = ℕ} TRANSITIONS 0)
+    (omega (arith, v .first 0 (omega arith), l))) refl

@@ -3,6 +3,7 @@
 use meaning::answers::UNSETTLED;
 use meaning::plan::Counts;
 use plan_choice::choose;
+use plan_choice::links::LINKS;
 use plan_code::run_block;
 use plan_rows::heads_at;
 use plan_rows::layout::BLOCK_LENGTH;
@@ -26,6 +27,7 @@ ghost use Rattle.meaning.specs.Machine.{fire-head, plan-step, plan-settle};
 ghost use Rattle.meaning.specs.WellFormed.{heads-at, plan-by};
 ghost use Rattle.widget.specs.View.{all-lent};
 ghost use Rattle.plan_choice.specs.Heads.{Examined, head-of, picked, Picks};
+ghost use Rattle.plan_choice.specs.Links.{Linked};
 ghost use Rattle.plan_code.specs.Code.{Slotted, Ran};
 
 // "Firing": its transition is taken, then its block is run.
@@ -105,6 +107,7 @@ fn fire_all(
 pub fn step(
     plan: &[i32],
     k: Counts,
+    links: &[u8; LINKS],
     event: usize,
     arg: i32,
     picks: &mut [usize; TRANSITIONS],
@@ -115,10 +118,10 @@ pub fn step(
     trace: &mut [i32],
     at: usize,
 ) -> Went
-    requires { ⌜ Examined (now plan) k × (length (now picks) ≡ transitions) × Slotted (now slots) × (at ≤ length (now trace)) ⌝ }
+    requires { ⌜ Examined (now plan) k × (length (now picks) ≡ transitions) × Slotted (now slots) × (at ≤ length (now trace)) × Linked (now plan) k (now links) ⌝ }
     ensures { λ r. ⌜ Ran (plan-step (plan-by (now (plan .entry))) event arg) (all-lent (now (active .entry)) (now (slots .entry)) (now (vars .entry)) (now (queue .entry)) (now (trace .entry))) at r (all-lent (now (active .exit)) (now (slots .exit)) (now (vars .exit)) (now (queue .exit)) (now (trace .exit))) × (length (now (picks .exit)) ≡ transitions) ⌝ }
 {
-    let count = choose(plan, k, event, active, vars, picks);
+    let count = choose(plan, k, links, event, active, vars, picks);
     fire_all(
         plan,
         k,
@@ -138,6 +141,7 @@ pub fn step(
 pub fn settle(
     plan: &[i32],
     k: Counts,
+    links: &[u8; LINKS],
     picks: &mut [usize; TRANSITIONS],
     active: &mut [bool; STATES],
     slots: &mut [i32; STATES],
@@ -146,13 +150,13 @@ pub fn settle(
     trace: &mut [i32],
     at: usize,
 ) -> Went
-    requires { ⌜ Examined (now plan) k × (length (now picks) ≡ transitions) × Slotted (now slots) × (at ≤ length (now trace)) ⌝ }
+    requires { ⌜ Examined (now plan) k × (length (now picks) ≡ transitions) × Slotted (now slots) × (at ≤ length (now trace)) × Linked (now plan) k (now links) ⌝ }
     ensures { λ r. ⌜ Ran (plan-settle (plan-by (now (plan .entry)))) (all-lent (now (active .entry)) (now (slots .entry)) (now (vars .entry)) (now (queue .entry)) (now (trace .entry))) at r (all-lent (now (active .exit)) (now (slots .exit)) (now (vars .exit)) (now (queue .exit)) (now (trace .exit))) × (length (now (picks .exit)) ≡ transitions) ⌝ }
 {
     let mut next = at;
     let mut turns: usize = 0;
     let out = loop {
-        let count = choose(plan, k, 0, active, vars, picks);
+        let count = choose(plan, k, links, 0, active, vars, picks);
         if count == 0 {
             break Went {
                 number: 0,

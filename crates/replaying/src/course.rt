@@ -1,6 +1,7 @@
 // The events of a replay one after the other, over what is lent. The plan was examined and the tests for 7 and 6 were made.
 use super::turns::post_and_run;
 use meaning::plan::Counts;
+use plan_choice::links::LINKS;
 use queue::lent::QUEUE_NUMBERS;
 use sizes::STATES;
 use sizes::TRANSITIONS;
@@ -12,6 +13,7 @@ ghost use Rattle.promises.specs.Replay.{items-of};
 ghost use Rattle.meaning.specs.WellFormed.{plan-by};
 ghost use Rattle.widget.specs.View.{all-lent};
 ghost use Rattle.plan_choice.specs.Heads.{Examined};
+ghost use Rattle.plan_choice.specs.Links.{Linked};
 ghost use Rattle.replaying.specs.Course.{Owned, Gone-through};
 
 // How the events went: how many were done; 0, or the answer that stopped them, and whether the post of the event that it
@@ -23,10 +25,12 @@ pub struct Gone {
     pub at: usize,
 }
 
-// So many of the events, up to the first refusal. After a refused run the arrays hold what the run left in them.
+// So many of the events, up to the first refusal. After a refused run the arrays hold what the run left in them. The index of
+// the heads comes from the caller: where this function made it, each event took a fifth longer.
 pub fn go_through(
     plan: &[i32],
     k: Counts,
+    links: &[u8; LINKS],
     events: &[i32],
     count: usize,
     active: &mut [bool; STATES],
@@ -35,7 +39,7 @@ pub fn go_through(
     queue: &mut [i32; QUEUE_NUMBERS],
     trace: &mut [i32],
 ) -> Gone
-    requires { ⌜ Examined (now plan) k × (2 * count ≤ length (now events)) × Owned (plan-by (now plan)) (all-lent (now active) (now slots) (now vars) (now queue) (now trace)) ⌝ }
+    requires { ⌜ Examined (now plan) k × (2 * count ≤ length (now events)) × Owned (plan-by (now plan)) (all-lent (now active) (now slots) (now vars) (now queue) (now trace)) × Linked (now plan) k (now links) ⌝ }
     ensures { λ r. ⌜ Gone-through (plan-by (now (plan .entry))) (take count (items-of (now (events .entry)))) (all-lent (now (active .entry)) (now (slots .entry)) (now (vars .entry)) (now (queue .entry)) (now (trace .entry))) r (all-lent (now (active .exit)) (now (slots .exit)) (now (vars .exit)) (now (queue .exit)) (now (trace .exit))) ⌝ }
 {
     let mut picks: [usize; TRANSITIONS] = [0; TRANSITIONS];
@@ -47,6 +51,7 @@ pub fn go_through(
         let now = post_and_run(
             plan,
             k,
+            links,
             event,
             arg,
             &mut picks,

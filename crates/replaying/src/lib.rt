@@ -13,6 +13,8 @@ use meaning::answers::FOREIGN;
 use meaning::answers::NOT_A_PLAN;
 use meaning::answers::NOT_STARTED;
 use meaning::plan::Counts;
+use plan_choice::links::LINKS;
+use plan_choice::links::links_of;
 use plan_own::own;
 use plan_rows::counts;
 use promises::Replayed;
@@ -31,6 +33,7 @@ ghost use lib.ListN.{length, take};
 ghost use Rattle.meaning.specs.WellFormed.{plan-by, well-formed};
 ghost use Rattle.widget.specs.View.{all-lent, widget as said-by};
 ghost use Rattle.plan_choice.specs.Heads.{Examined};
+ghost use Rattle.plan_choice.specs.Links.{Linked};
 ghost use Rattle.plan_invariants.specs.Replay.{replay-examined as once};
 ghost use Rattle.promises.specs.Replay.{course as went, items-of, replay as defined};
 ghost use Rattle.replaying.specs.Course.{Told, Starts, Broken};
@@ -96,13 +99,14 @@ fn told(
 fn as_posted(
     plan: &[i32],
     k: Counts,
+    links: &[u8; LINKS],
     state: State,
     events: &[i32],
     done: usize,
     number: usize,
     trace: &mut [i32],
 ) -> Replayed
-    requires { ⌜ Examined (now plan) k × Starts (plan-by (now plan)) state × Broken (plan-by (now plan)) (length (now trace)) (items-of (now events)) state done number ⌝ }
+    requires { ⌜ Examined (now plan) k × Starts (plan-by (now plan)) state × Broken (plan-by (now plan)) (length (now trace)) (items-of (now events)) state done number × Linked (now plan) k (now links) ⌝ }
     ensures { λ r. ⌜ Told (once (plan-by (now (plan .entry))) state (items-of (now (events .entry))) (length (now (trace .entry)))) (now (trace .entry)) r (now (trace .exit)) ⌝ }
 {
     let mut active = state.active;
@@ -113,6 +117,7 @@ fn as_posted(
     go_through(
         plan,
         k,
+        links,
         events,
         done,
         &mut active,
@@ -149,9 +154,11 @@ pub fn replay_examined(
     let mut vars = state.vars;
     let queue = state.queue;
     let mut waiting = lend(queue);
+    let links = links_of(plan, k);
     let gone = go_through(
         plan,
         k,
+        &links,
         events,
         events.len() / EVENT,
         &mut active,
@@ -161,7 +168,16 @@ pub fn replay_examined(
         trace,
     );
     if gone.posted {
-        return as_posted(plan, k, state, events, gone.done, gone.number, trace);
+        return as_posted(
+            plan,
+            k,
+            &links,
+            state,
+            events,
+            gone.done,
+            gone.number,
+            trace,
+        );
     }
     told(
         gone.done,

@@ -6,6 +6,7 @@ use meaning::answers::NO_SUCH_EVENT;
 use meaning::answers::QUEUE_FULL;
 use meaning::plan::Counts;
 use numbers::reference;
+use plan_choice::links::LINKS;
 use queue::Item;
 use queue::lent::QUEUE_NUMBERS;
 use queue::lent::held;
@@ -23,6 +24,7 @@ ghost use Rattle.queue.specs.Numbers.{QUEUE-NUMBERS as all};
 ghost use Rattle.meaning.specs.WellFormed.{plan-by};
 ghost use Rattle.widget.specs.View.{all-lent};
 ghost use Rattle.plan_choice.specs.Heads.{Examined};
+ghost use Rattle.plan_choice.specs.Links.{Linked};
 ghost use Rattle.plan_code.specs.Code.{Slotted};
 ghost use Rattle.replaying.specs.Turns.{Free, Passes, Turned};
 
@@ -91,6 +93,7 @@ fn pass(queue: &mut [i32; QUEUE_NUMBERS], event: i32, arg: i32) -> Passed
 pub fn post_and_run(
     plan: &[i32],
     k: Counts,
+    links: &[u8; LINKS],
     event: i32,
     arg: i32,
     picks: &mut [usize; TRANSITIONS],
@@ -100,7 +103,7 @@ pub fn post_and_run(
     queue: &mut [i32; QUEUE_NUMBERS],
     trace: &mut [i32],
 ) -> Turn
-    requires { ⌜ Examined (now plan) k × (length (now picks) ≡ transitions) × Slotted (now slots) × (length (now queue) ≡ all) × Free (now queue) ⌝ }
+    requires { ⌜ Examined (now plan) k × (length (now picks) ≡ transitions) × Slotted (now slots) × (length (now queue) ≡ all) × Free (now queue) × Linked (now plan) k (now links) ⌝ }
     ensures { λ r. ⌜ Turned (plan-by (now (plan .entry))) (item event arg) (all-lent (now (active .entry)) (now (slots .entry)) (now (vars .entry)) (now (queue .entry)) (now (trace .entry))) r (all-lent (now (active .exit)) (now (slots .exit)) (now (vars .exit)) (now (queue .exit)) (now (trace .exit))) × (length (now (picks .exit)) ≡ transitions) ⌝ }
 {
     if !active[0] {
@@ -130,6 +133,7 @@ pub fn post_and_run(
     let went = react(
         plan,
         k,
+        links,
         trigger,
         front.arg,
         picks,

@@ -12,12 +12,13 @@ use Rattle.plan_steps.proofs.settle.Statement.{statement}
 use Rattle.plan_steps.proofs.settle.Tie as tie
 
 abbrev Inv-loop : tie.InvT-loop
-Inv-loop plan k picks₀ active₀ slots₀ vars₀ queue₀ trace₀ at next₀ turns₀ picks active slots vars queue trace next turns =
+Inv-loop plan k links picks₀ active₀ slots₀ vars₀ queue₀ trace₀ at next₀ turns₀ picks active slots vars queue trace next turns =
     Settling (plan-by plan) (all-lent active₀ slots₀ vars₀ queue₀ trace₀) next₀ turns
     (all-lent active slots vars queue trace) next × (length picks ≡ TRANSITIONS)
 
 abbrev μ-loop : tie.MeasureT-loop
-μ-loop plan k picks₀ active₀ slots₀ vars₀ queue₀ trace₀ at next₀ turns₀ picks active slots vars queue trace next turns = NULL-STEPS - turns
+μ-loop plan k links picks₀ active₀ slots₀ vars₀ queue₀ trace₀ at next₀ turns₀ picks active slots vars queue trace next turns =
+    NULL-STEPS - turns
 
 abbrev else2-from-else3 : tie.Else3 Inv-loop μ-loop → tie.Else2 Inv-loop μ-loop
 else2-from-else3 c = c .before .before .before .before .before .before .before .before .before .before
@@ -38,7 +39,11 @@ loop-holds : tie.Need-loop-holds Inv-loop μ-loop
 loop-holds c = (settling-begin (c .pre .3), c .pre .1)
 
 choose-requires : tie.Need-choose-requires Inv-loop μ-loop
-choose-requires c κs = (c .before .before .before .before .pre .0, c .before .before .before .loop .inv .1)
+choose-requires c κs = (
+  c .before .before .before .before .pre .0,
+  c .before .before .before .loop .inv .1,
+  c .before .before .before .before .pre .4,
+)
 
 fire-all-requires : tie.Need-fire-all-requires Inv-loop μ-loop
 fire-all-requires c κs =
@@ -78,6 +83,11 @@ returns-2 c =
       g .stands .size,
     )
 
+same-length-3 : tie.Need-same-length-3 Inv-loop μ-loop
+same-length-3 c =
+    c .before .before .before .fire-all .ensures .did .kept
+    ∙ at-loop-from-fire-all-arg6 (c .before .before .before .before) .loop .inv .0 .owes .kept
+
 returns-3 : tie.Need-returns-3 Inv-loop μ-loop
 returns-3 c =
     let g = else2-from-then3 c .before .before .choose .ensures in (
@@ -90,4 +100,4 @@ returns-3 c =
 pub settle-spec : {M : Type 1} → statement M
 settle-spec =
     tie.close (tie.spec Inv-loop μ-loop loop-holds choose-requires fire-all-requires add-turns loop-less
-    loop-again (λ c. search needs) returns (λ c. search needs) returns-2 (λ c. search needs) returns-3)
+    loop-again (λ c. search needs) returns (λ c. search needs) returns-2 same-length-3 returns-3)

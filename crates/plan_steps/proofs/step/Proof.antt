@@ -15,7 +15,7 @@ abbrev start-from-fire-all-arg6 : tie.After-fire-all-arg6 → tie.Start
 start-from-fire-all-arg6 c = c .before .before .before .before .before .before .before .before .before .before
 
 choose-requires : tie.Need-choose-requires
-choose-requires c κs = (start-from-choose-arg3 c .pre .0, start-from-choose-arg3 c .pre .1)
+choose-requires c κs = (start-from-choose-arg3 c .pre .0, start-from-choose-arg3 c .pre .1, start-from-choose-arg3 c .pre .4)
 
 fire-all-requires : tie.Need-fire-all-requires
 fire-all-requires c κs = (

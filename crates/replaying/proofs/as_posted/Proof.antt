@@ -14,7 +14,7 @@ use Rattle.replaying.proofs.as_posted.Tie as tie
 -- the arrays of a state have their full size
 sized-of : (c : tie.Start) → Sized (c .args .state)
 sized-of c =
-    let g = c .good .1 .1 .0 .1 .1 in
+    let g = c .good .1 .1 .1 .0 .1 .1 in
     record {
       active = sym (length-map (c .args .state .active) _) ∙ g .1 .0 .1 .0 .1;
       slots = sym (length-map (c .args .state .slots) _) ∙ g .1 .1 .0 .1 .0 .1;
@@ -38,6 +38,7 @@ go-through-requires c κs =
       s .pre .0,
       omega (arith, there s),
       owned-lent (s .pre .1) (sized-of s) (c .before .before .before .before .before .lend .ensures) (s .args .trace .now),
+      s .pre .3,
     )
 
 returns : tie.Need-returns

@@ -29,7 +29,7 @@ abbrev start-from-else2 : tie.Else2 → tie.Start
 start-from-else2 c = c .before .before .before .before
 
 abbrev else2-from-call : tie.After-go-through-arg → tie.Else2
-else2-from-call c = c .before .before .before .before .before .before .before .before .before .before
+else2-from-call c = c .before .before .before .before .before .before .before .before .before .before .before .before
 
 -- the tests are passed
 ready : (c : tie.Else2) → Starts (plan-by (start-from-else2 c .args .plan .now)) (start-from-else2 c .args .state)
@@ -62,23 +62,25 @@ go-through-requires c κs =
     let s = start-from-else2 e in (
       s .pre,
       half (length (s .args .events .now)) .0,
-      owned-lent (ready e) (sized-of s) (c .before .before .before .before .before .lend .ensures) (s .args .trace .now),
+      owned-lent (ready e) (sized-of s) (c .before .before .before .before .before .before .before .lend .ensures) (s .args .trace .now),
+      c .before .before .before .before .before .before .links-of .ensures,
     )
 
 as-posted-requires : tie.Need-as-posted-requires
 as-posted-requires c κs =
-    let g = c .before .before .before in
+    let g = c .before .before .before .before in
     let e = else2-from-call (g .before) in
     let s = start-from-else2 e in (
       s .pre,
       ready e,
-      broken-here (ready e) (sized-of s) (g .before .before .before .before .before .before .lend .ensures) (s .args .trace .now)
-          (all-there s) (g .go-through .ensures) (c .before .if3 .taken),
+      broken-here (ready e) (sized-of s) (g .before .before .before .before .before .before .before .before .lend .ensures)
+          (s .args .trace .now) (all-there s) (g .go-through .ensures) (c .before .before .if3 .taken),
+      g .before .before .before .before .before .before .before .links-of .ensures,
     )
 
 returns-3 : tie.Need-returns-3
 returns-3 c =
-    let g = c .before .before .before .before .before in
+    let g = c .before .before .before .before .before .before in
     let s = start-from-else2 (else2-from-call (g .before)) in
     told-as (ap (replay-examined (plan-by (s .args .plan .now)) (s .args .state) (items-of (s .args .events .now)))
     (sym (g .go-through .ensures .kept)))
@@ -89,11 +91,12 @@ returns-4 c =
     let g = c .before .before .before .before .before in
     let e = else2-from-call (g .before) in
     let s = start-from-else2 e in
-    ended-told (ready e) (sized-of s) (g .before .before .before .before .before .before .lend .ensures) (s .args .trace .now) (all-there s)
+    ended-told (ready e) (sized-of s) (g .before .before .before .before .before .before .before .before .lend .ensures) (s .args .trace .now)
+    (all-there s)
     (g .go-through .ensures) (c .before .before .before .if3 .left) (c .before .told .ensures)
 
 pub replay-examined-spec : {M : Type 1} → statement M
 replay-examined-spec =
     tie.close (tie.spec (λ c κs. search needs) (λ c. search needs) returns (λ c κs. search needs) (λ c κs. search needs)
-    (λ c. search needs) returns-2 (λ c κs. search needs) go-through-requires as-posted-requires (λ c. search needs)
+    (λ c. search needs) returns-2 (λ c κs. search needs) (λ c κs. search needs) go-through-requires as-posted-requires (λ c. search needs)
     returns-3 (λ c κs. search needs) (λ c. search needs) returns-4)

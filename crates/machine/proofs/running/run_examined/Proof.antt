@@ -32,7 +32,7 @@ abbrev else1-from-trace3 : tie.After-trace3 → tie.Else1
 else1-from-trace3 c = remove-from-trace3 c .before .before .before .before
 
 abbrev lend-from-trace5 : tie.After-trace5 → tie.After-lend
-lend-from-trace5 c = c .before .before .before .before .before .before .before .before .before .before .before .before
+lend-from-trace5 c = c .before .before .before .before .before .before .before .before .before .before .before .before .before .before
 
 abbrev reference-from-trace5 : tie.After-trace5 → tie.After-reference
 reference-from-trace5 c = lend-from-trace5 c .before .before .before .before .before
@@ -42,8 +42,8 @@ remove-from-trace5 c = reference-from-trace5 c .before .before .before .before .
 
 abbrev start-from-struct-told2 : tie.After-struct-told2 → tie.Start
 start-from-struct-told2 c =
-    c .before .before .before .before .before .before .before .before .before .before .before .before
-    .before .before .before .before .before .before .before .before .before .before .before
+    c .before .before .before .before .before .before .before .before .before .before .before .before .before
+    .before .before .before .before .before .before .before .before .before .before .before .before
 
 abbrev start-from-trace5 : tie.After-trace5 → tie.Start
 start-from-trace5 c = start-from-struct-told2 (c .before .before .before .before .before)
@@ -73,7 +73,12 @@ returns-3 c =
     (not-true _ (c .before .before .before .if3 .taken))) (c .before .refuse3 .ensures)
 
 react-requires : tie.Need-react-requires
-react-requires c κs = (start-from-struct-told2 c .pre, length-replicate {A = ℕ} TRANSITIONS 0, slots-long (start-from-struct-told2 c))
+react-requires c κs = (
+  start-from-struct-told2 c .pre,
+  length-replicate {A = ℕ} TRANSITIONS 0,
+  slots-long (start-from-struct-told2 c),
+  c .before .before .before .before .before .before .before .before .links-of .ensures,
+)
 
 finish-requires : tie.Need-finish-requires
 finish-requires c κs = c .before .before .react .ensures .0 .did .fits
@@ -97,5 +102,5 @@ pub run-examined-spec : {M : Type 1} → statement M
 run-examined-spec =
     tie.close (tie.spec (λ c κs. search needs) (λ c. search needs) returns (λ c κs. search needs)
     (λ c κs. search needs) (λ c. search needs) returns-2 (λ c κs. search needs) (λ c κs. search needs)
-    (λ c. search needs) returns-3 (λ c κs. search needs) (λ c κs. search needs) react-requires finish-requires
+    (λ c. search needs) returns-3 (λ c κs. search needs) (λ c κs. search needs) (λ c κs. search needs) react-requires finish-requires
     (λ c. search needs) returns-4)

@@ -37,6 +37,7 @@ settle-requires c κs =
       start-from-settle-arg6 c .pre .1,
       d .slotted (else1-from-settle-arg6 c .if1 .left) ∙ start-from-settle-arg6 c .pre .2,
       d .did .fits,
+      start-from-settle-arg6 c .pre .3,
     )
 
 returns-2 : tie.Need-returns-2

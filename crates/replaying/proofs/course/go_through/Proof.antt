@@ -21,13 +21,14 @@ use Rattle.replaying.proofs.course.go_through.Statement.{statement}
 use Rattle.replaying.proofs.course.go_through.Tie as tie
 
 abbrev Inv-loop : tie.InvT-loop
-Inv-loop plan k events count active₀ slots₀ vars₀ queue₀ trace₀ picks₀ done₀ at₀ active slots vars queue trace picks done at =
+Inv-loop plan k links events count active₀ slots₀ vars₀ queue₀ trace₀ picks₀ done₀ at₀ active slots vars queue trace picks done at =
     Coursing (plan-by plan) (take count (items-of events)) (widget (all-lent active₀ slots₀ vars₀ queue₀ trace₀)) (length trace₀) done
     (all-lent active slots vars queue trace) at
     × (length picks ≡ TRANSITIONS) × (done ≤ count)
 
 abbrev μ-loop : tie.MeasureT-loop
-μ-loop plan k events count active₀ slots₀ vars₀ queue₀ trace₀ picks₀ done₀ at₀ active slots vars queue trace picks done at = count - done
+μ-loop plan k links events count active₀ slots₀ vars₀ queue₀ trace₀ picks₀ done₀ at₀ active slots vars queue trace picks done at =
+    count - done
 
 loop-holds : tie.Need-loop-holds Inv-loop μ-loop
 loop-holds c = (coursing-begin (c .pre .2), length-replicate {A = ℕ} TRANSITIONS 0, omega arith)
@@ -71,7 +72,7 @@ post-and-run-requires c κs =
     let s = in-loop-from-call c .before .before in
     let i = in-loop-from-call c .before .loop .inv in
     let w = well (s .args .plan .now) (s .pre .0 .formed) in
-    (s .pre .0, i .1, coursing-slots w (i .0), i .0 .whole, coursing-free w (i .0))
+    (s .pre .0, i .1, coursing-slots w (i .0), i .0 .whole, coursing-free w (i .0), s .pre .3)
 
 returns : tie.Need-returns Inv-loop μ-loop
 returns c =

@@ -61,7 +61,7 @@ returns-3 c =
     )
 
 react-requires : tie.Need-react-requires
-react-requires c κs = (start-from-told2 c .pre .0, start-from-told2 c .pre .1, start-from-told2 c .pre .2)
+react-requires c κs = (start-from-told2 c .pre .0, start-from-told2 c .pre .1, start-from-told2 c .pre .2, start-from-told2 c .pre .5)
 
 event-fits-32 : (c : tie.After-pass) → SFits w32 (c .pass .result .front .event)
 event-fits-32 c = search needs
