@@ -1,6 +1,6 @@
 -- Laws of the loops over a chart's rows: what is still to be put from row i on, the rows by their numbers, and what a row that is put
 -- keeps. In the order: what is left; rows of a value that keeps R0; all kinds together. Assumes nothing.
-use mathlib.Core.Path.{_≡_, sym, ap, _∙_}
+use mathlib.Core.Path.{_≡_, refl, sym, ap, _∙_}
 use mathlib.Core.Bool.{Bool, true}
 use mathlib.Core.List.{List, [], _∷_, _++_, append-assoc}
 use Prim.Native.Nat.{ℕ, zero, suc, _+_, _*_, _≤_, _<_}

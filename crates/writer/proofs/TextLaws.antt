@@ -13,6 +13,7 @@ use Rattle.meaning.specs.Value.{num, is-letter, is-absent, one-of-letters, fits
 use Rattle.meaning.specs.Number.{numeral}
 use Rattle.meaning.specs.Split.{joined}
 use Rattle.meaning.specs.Line.{write-field, write-by, text-of-row}
+use Rattle.round_trip.proofs.Numbers.{no}
 use Rattle.round_trip.proofs.Fields.{both, absent-is, absent-number, letter-is}
 use Rattle.writer.specs.Texts.{number-text, letter-text, target-text, s-text, v-text, e-text, t-text, a-text}
 
@@ -31,11 +32,12 @@ unfolding letter-text
 letter-none z e = rw e
 
 letter-one : (ls : List ℕ) (z : ℤ) → one-of-letters ls z ≡ true → ref z ∷ [] ≡ letter-text z
+unfolding letter-text is-absent
 letter-one ls z e = go z (letter-is ls z e .is)
   where
     go : (z : ℤ) → z ≡ pos (ref z) → ref z ∷ [] ≡ letter-text z
     go (pos k) e = refl
-    go (negsuc k) e = refl
+    go (negsuc k) e = no cc
 
 -- ---- S
 
@@ -79,7 +81,7 @@ e-same z = refl
 -- ---- T
 
 target-same : (n : ℕ) (row : List ℤ) → fits target 5 row ≡ true → write-by target n 5 row ≡ target-text (num row 5) (num row 6) ∷ []
-unfolding write-by write-field target-text
+unfolding write-by write-field target-text is-absent
 target-same n row e = go (is-absent (num row 5) && is-absent (num row 6)) (is-letter 104 (num row 5) && inRange (num row 6)) refl refl e
   where
     go : (a b : Bool) → is-absent (num row 5) && is-absent (num row 6) ≡ a → is-letter 104 (num row 5) && inRange (num row 6) ≡ b
