@@ -225,6 +225,9 @@ module _ (k n : ℕ) (x : List ℕ) (l : Line) where
 
   pub said-none : 13 ≤ k → l ≡ wrong → l ≡ read-field (field-of k) n x
   unfolding read-field field-of has
-  said-none h el = rw (el, List·getD-eq-default (
-      turn ∷ number ∷ dash ∷ state ∷ history ∷ in-place ∷ count 0 EVENTS ∷ letter (bytes "o") ∷ letter (bytes "ab") ∷ letter (bytes "=<>") ∷ letter (bytes "exdt")
-      ∷ letter (bytes "saq") ∷ letter (bytes "ko") ∷ []) (letter []) {n = k} h)
+  said-none h el = rw (
+    el,
+    List·getD-eq-default (
+        turn ∷ number ∷ dash ∷ state ∷ history ∷ in-place ∷ count 0 EVENTS ∷ letter (bytes "o") ∷ letter (bytes "ab") ∷ letter (bytes "=<>") ∷ letter (bytes "exdt")
+        ∷ letter (bytes "saq") ∷ letter (bytes "ko") ∷ []) (letter []) {n = k} h,
+  )

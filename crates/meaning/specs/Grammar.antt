@@ -47,7 +47,6 @@ pub data Form : Type 0 where
 
 infixr 60 _then_
 infixr 50 _or_
-
 -- ---- the records
 
 pub data Record : Type 0 where

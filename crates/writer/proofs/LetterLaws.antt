@@ -63,8 +63,7 @@ trans-letter row e =
 pub action-letters : (row : List ℤ) → action-statable row ≡ true → IsLetter (num row 0) × IsLetter (num row 2)
 unfolding action-statable
 action-letters row e =
-    let p = both (one-of-letters (bytes "exdt") (num row 0)) (inRange (num row 1) && fits act 2 row) e in
-    (
+    let p = both (one-of-letters (bytes "exdt") (num row 0)) (inRange (num row 1) && fits act 2 row) e in (
       a-letter (bytes "exdt") (num row 0) refl (p .0),
       go (one-of-letters (bytes "saq") (num row 2) && (inRange (num row 3) && inRange (num row 4))) refl (both (inRange (num row 1)) (fits act 2 row) (p .1) .1),
     )

@@ -158,12 +158,12 @@ chart-put v keeps p p0 p1 p2 p3 r e0 e1 e2 e3 e =
     kinds-put (map-from s-text 0 (rows-of v .states)) (map-from v-text 0 (rows-of v .vars)) (map-from t-text 0 (rows-of v .transitions))
     (map-from (λ n row. a-text row) 0 (rows-of v .actions)) (e-text (num v 2)) p p0 p1 p2 p3 r e0 e1 e2 e3 e
     ∙ ap (λ (l : List (List ℕ)). put-all (ended l) p) (
-      rw (
-        ← rows-same-from (text-of-row s-record) s-text state-statable s-same 0 (rows-of v .states) (s .states .ok),
-        ← rows-same (text-of-row v-record) v-text var-statable (λ n row _. v-same n row) 0 (rows-of v .vars) (s .vars .ok),
-        ← e-same (num v 2),
-        ← rows-same (text-of-row t-record) t-text trans-statable t-same 0 (rows-of v .transitions) (s .transitions .ok),
-        ← rows-same (text-of-row a-record) (λ n row. a-text row) action-statable a-same 0 (rows-of v .actions) (s .actions .ok),
-        ← events-at v,
-      )
+    rw (
+      ← rows-same-from (text-of-row s-record) s-text state-statable s-same 0 (rows-of v .states) (s .states .ok),
+      ← rows-same (text-of-row v-record) v-text var-statable (λ n row _. v-same n row) 0 (rows-of v .vars) (s .vars .ok),
+      ← e-same (num v 2),
+      ← rows-same (text-of-row t-record) t-text trans-statable t-same 0 (rows-of v .transitions) (s .transitions .ok),
+      ← rows-same (text-of-row a-record) (λ n row. a-text row) action-statable a-same 0 (rows-of v .actions) (s .actions .ok),
+      ← events-at v,
+    )
     )
