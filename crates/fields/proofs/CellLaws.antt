@@ -1,4 +1,4 @@
--- Laws of cells: what a number, a letter or "-" gives, one for each way out of the code. Assumes nothing.
+-- Laws of one field: what each way out of the code says. Assumes nothing.
 use mathlib.Core.Path.{_≡_, refl, sym, ap, _∙_}
 use mathlib.Core.Bool.{Bool, true, false, cond, true≢false}
 use mathlib.Core.List.{List, [], _∷_}
@@ -8,25 +8,30 @@ use native.Mathlib.Numerals.{add-one}
 use lib.Dec.{T, eqb, leb, ltb}
 use lib.IntN.{ℤ, pos, negsuc, natAbs}
 use lib.Signed.{mag, ltZ, nonNeg}
-use lib.ListN.{length, getD, drop}
+use lib.ListN.{length, getD, drop, List·getD-eq-default}
 use lib.Seq.{drop-cons, drop-length, slice, slice-empty, slice-cons}
 use mir.Syntax.{w32, w64}
 use mir.Val.{Fits, toZ, ofZ}
 use borrow.Author.Tests.{eq-eqb, ne-eqb, ltb-true, le-leb, lt-leb}
 use Rattle.sizes.specs.Sizes.{EVENTS}
-use Rattle.meaning.specs.Lists.{has}
+use Rattle.meaning.specs.Grammar.{Field, turn, number, count, letter, dash, state, history, in-place, bytes}
 use Rattle.meaning.specs.Value.{ABSENT}
-use Rattle.meaning.specs.Line.{cell, cell-of, count-cell, is-turn, letter-of, dash-cell, letter-by, letter-cell, number-cell, number-or-dash, letter-or-dash, is-dash, starts-with-h, target-cells-by, target-cells}
+use Rattle.forms.specs.Table.{field-of}
+use Rattle.meaning.specs.Lists.{has}
+use Rattle.meaning.specs.Line.{Line, line, wrong, beyond, letter-of, is-turn, number-line, count-line, right-if, read-field}
 use Rattle.meaning.specs.Number.{number-of}
 use Rattle.meaning.specs.declared.Num.{Num}
 use Rattle.meaning.specs.declared.Num.the-variants.{Is, Beyond, Not}
-use Rattle.meaning.specs.declared.Cell.{Cell}
 use Rattle.numerals.proofs.Signed.{back32}
+use Rattle.fields.specs.Said.{numbers-of}
 
 -- ---- a number in the range
 module _ (v : Num) (z : ℤ) (e : v ≡ Is z) (f : mag z < 2 ^ 31) where
-  pub cell-is : cell 0 (toZ w32 (ofZ w32 z)) ≡ cell-of v
-  cell-is = rw (e, back32 z f)
+  pub number-is : line 0 (toZ w32 (ofZ w32 z) ∷ []) ≡ number-line [] v
+  number-is = rw (e, back32 z f)
+
+  pub target-is : (k : ℕ) (y : ℤ) → y ≡ pos k → line 0 (y ∷ toZ w32 (ofZ w32 z) ∷ []) ≡ number-line (pos k ∷ []) v
+  target-is k y g = rw (e, back32 z f, g)
 
   pub turn-neg : (t : ℕ) → ltZ (toZ w32 (ofZ w32 z)) (pos 0) ≡ true → false ≡ is-turn v t
   turn-neg t h = rw e (go z (rw (back32 z f) at h))
@@ -49,39 +54,73 @@ module _ (v : Num) (z : ℤ) (e : v ≡ Is z) (f : mag z < 2 ^ 31) where
       go (pos n) h = refl
       go (negsuc n) h = absurd (true≢false h)
 
-  pub count-neg : ltZ (toZ w32 (ofZ w32 z)) (pos 0) ≡ true → cell 2 (pos 0) ≡ count-cell v
+  pub count-neg : ltZ (toZ w32 (ofZ w32 z)) (pos 0) ≡ true → beyond ≡ count-line 0 32 v
   count-neg h = rw e (go z (rw (back32 z f) at h))
     where
-      go : (z : ℤ) → ltZ z (pos 0) ≡ true → cell 2 (pos 0) ≡ count-cell (Is z)
+      go : (z : ℤ) → ltZ z (pos 0) ≡ true → beyond ≡ count-line 0 32 (Is z)
       go (pos n) h = let k = ltb-true n 0 h in absurd (omega arith)
       go (negsuc n) h = refl
 
   module _ (g : ltZ (toZ w32 (ofZ w32 z)) (pos 0) ≡ false) where
-    pub count-in : natAbs (toZ w32 (ofZ w32 z)) ≤ EVENTS → cell 0 (toZ w32 (ofZ w32 z)) ≡ count-cell v
+    pub count-in : natAbs (toZ w32 (ofZ w32 z)) ≤ EVENTS → line 0 (toZ w32 (ofZ w32 z) ∷ []) ≡ count-line 0 32 v
     count-in h = rw (e, back32 z f) (go z (rw (back32 z f) at g) (rw (back32 z f) at h))
       where
-        go : (z : ℤ) → ltZ z (pos 0) ≡ false → natAbs z ≤ EVENTS → cell 0 z ≡ count-cell (Is z)
-        go (pos n) g h = rw (le-leb n EVENTS h)
+        go : (z : ℤ) → ltZ z (pos 0) ≡ false → natAbs z ≤ EVENTS → line 0 (z ∷ []) ≡ count-line 0 32 (Is z)
+        go (pos n) g h = rw (le-leb 0 n (omega arith), le-leb n EVENTS h)
         go (negsuc n) g h = absurd (true≢false g)
 
-    pub count-past : EVENTS < natAbs (toZ w32 (ofZ w32 z)) → cell 2 (pos 0) ≡ count-cell v
+    pub count-past : EVENTS < natAbs (toZ w32 (ofZ w32 z)) → beyond ≡ count-line 0 32 v
     count-past h = rw e (go z (rw (back32 z f) at g) (rw (back32 z f) at h))
       where
-        go : (z : ℤ) → ltZ z (pos 0) ≡ false → EVENTS < natAbs z → cell 2 (pos 0) ≡ count-cell (Is z)
-        go (pos n) g h = rw (lt-leb n EVENTS h)
+        go : (z : ℤ) → ltZ z (pos 0) ≡ false → EVENTS < natAbs z → beyond ≡ count-line 0 32 (Is z)
+        go (pos n) g h = rw (le-leb 0 n (omega arith), lt-leb n EVENTS h)
         go (negsuc n) g h = refl
 
-pub cell-beyond : (v : Num) → v ≡ Beyond → cell 2 (pos 0) ≡ cell-of v
-cell-beyond v e = rw e
+module _ (v : Num) where
+  pub number-beyond : v ≡ Beyond → beyond ≡ number-line [] v
+  number-beyond e = rw e
 
-pub cell-not : (v : Num) → v ≡ Not → cell 1 (pos 0) ≡ cell-of v
-cell-not v e = rw e
+  pub number-not : v ≡ Not → wrong ≡ number-line [] v
+  number-not e = rw e
 
-pub count-beyond : (v : Num) → v ≡ Beyond → cell 2 (pos 0) ≡ count-cell v
-count-beyond v e = rw e
+  pub count-beyond : v ≡ Beyond → beyond ≡ count-line 0 32 v
+  count-beyond e = rw e
 
-pub count-not : (v : Num) → v ≡ Not → cell 1 (pos 0) ≡ count-cell v
-count-not v e = rw e
+  pub count-not : v ≡ Not → wrong ≡ count-line 0 32 v
+  count-not e = rw e
+
+module _ (k : ℕ) (v : Num) where
+  pub target-beyond : v ≡ Beyond → beyond ≡ number-line (pos k ∷ []) v
+  target-beyond e = rw e
+
+  pub target-not : v ≡ Not → wrong ≡ number-line (pos k ∷ []) v
+  target-not e = rw e
+
+-- ---- how many numbers
+module _ (w : ℕ) (a b : ℤ) where
+  pub stated-two : 2 ≤ w → 2 ≡ length (numbers-of w a b)
+  stated-two h = go w h
+    where
+      go : (w : ℕ) → 2 ≤ w → 2 ≡ length (numbers-of w a b)
+      go zero h = absurd (omega arith)
+      go (suc zero) h = absurd (omega arith)
+      go (suc (suc w)) h = refl
+
+  pub stated-few : w < 2 → w ≡ length (numbers-of w a b)
+  stated-few h = go w h
+    where
+      go : (w : ℕ) → w < 2 → w ≡ length (numbers-of w a b)
+      go zero h = refl
+      go (suc zero) h = refl
+      go (suc (suc w)) h = absurd (omega arith)
+
+-- ---- a field that is right, or not
+module _ (t : Bool) (zs : List ℤ) where
+  pub right-not : t ≡ false → wrong ≡ right-if t zs
+  right-not e = rw e
+
+  pub right-is : t ≡ true → line 0 zs ≡ right-if t zs
+  right-is e = rw e
 
 -- ---- a letter among others, looked for from i on
 module _ (x : ℕ) (l : List ℕ) (i : ℕ) where
@@ -97,65 +136,98 @@ module _ (x : ℕ) (l : List ℕ) (i : ℕ) where
   unfolding has
   among-none h k = let e : i ≡ length l = omega arith in rw (e, drop-length l)
 
--- ---- a field that is "-", or a letter of some
-module _ (f : List ℕ) (l : ℕ) (e : l ≡ letter-of f) where
-  pub dash-is : l ≡ 45 → cell 0 ABSENT ≡ dash-cell f
-  unfolding dash-cell
-  dash-is h = rw (← e, h)
-
-  pub dash-not : (l ≡ 45 → ⊥) → cell 1 (pos 0) ≡ dash-cell f
-  unfolding dash-cell
-  dash-not h = rw (← e, ne-eqb l 45 h)
-
-  pub letter-is : (ls : List ℕ) (c : Cell) → c ≡ letter-by l ls → c ≡ letter-cell ls f
-  unfolding letter-cell
-  letter-is ls c h = rw (h, e)
-
 module _ (x : ℕ) (ls : List ℕ) (t : Bool) (e : t ≡ has x ls) where
-  pub among-yes : (z : ℤ) → t ≡ true → z ≡ pos x → cell 0 z ≡ letter-by x ls
-  among-yes z h g = rw (← e, h, g)
+  pub letter-is : (z : ℤ) → t ≡ true → z ≡ pos x → line 0 (z ∷ []) ≡ right-if (has x ls) (pos x ∷ [])
+  letter-is z h g = rw (← e, h, g)
 
-  pub among-no : t ≡ false → cell 1 (pos 0) ≡ letter-by x ls
-  among-no h = rw (← e, h)
+  pub letter-not : t ≡ false → wrong ≡ right-if (has x ls) (pos x ∷ [])
+  letter-not h = rw (← e, h)
 
-pub number-is : (f : List ℕ) (v : Num) (c : Cell) → v ≡ number-of f → c ≡ cell-of v → c ≡ number-cell f
-unfolding number-cell
-number-is f v c e h = rw (h, e)
+-- ---- h and a number
+module _ (s : List ℕ) (a e : ℕ) where
+  pub history-empty : a ≡ e → wrong ≡ read-field history 0 (slice a e s)
+  unfolding read-field number-of
+  history-empty z = rw (z, slice-empty)
 
-module _ (w : Bool) (f : List ℕ) (c : Cell) where
-  pub wanted-number : w ≡ true → c ≡ number-cell f → c ≡ number-or-dash w f
-  wanted-number e h = rw (e, h)
+  module _ (k : a < e) (t : e ≤ length s) where
+    pub history-is : getD s a 0 ≡ 104 → (v : Num) (l : Line) → v ≡ number-of (slice (a + 1) e s) → l ≡ number-line (pos 104 ∷ []) v → l ≡ read-field history 0 (slice a e s)
+    unfolding read-field
+    history-is b v l n g = rw (slice-cons a e s 0 k t, b, g, n, add-one)
 
-  pub no-number : w ≡ false → c ≡ dash-cell f → c ≡ number-or-dash w f
-  no-number e h = rw (e, h)
+    pub history-not : (getD s a 0 ≡ 104 → ⊥) → wrong ≡ read-field history 0 (slice a e s)
+    unfolding read-field number-of
+    history-not b = rw (slice-cons a e s 0 k t, ne-eqb (getD s a 0) 104 b)
 
-  pub wanted-letter : (ls : List ℕ) → w ≡ true → c ≡ letter-cell ls f → c ≡ letter-or-dash w ls f
-  wanted-letter ls e h = rw (e, h)
+-- ---- a field by its code
 
-  pub no-letter : (ls : List ℕ) → w ≡ false → c ≡ dash-cell f → c ≡ letter-or-dash w ls f
-  no-letter ls e h = rw (e, h)
+-- a code that is none of the first
+pub next-code : (m k : ℕ) → m ≤ k → (k ≡ m → ⊥) → suc m ≤ k
+next-code m k h n = omega arith
 
--- ---- a target
-pub aim-dash : (f : List ℕ) (l : ℕ) → l ≡ letter-of f → l ≡ 45 → cell 0 ABSENT ∷ cell 0 ABSENT ∷ [] ≡ target-cells f
-unfolding target-cells
-aim-dash f l e h = rw (← e, h)
+pub code-o : field-of 7 ≡ letter (bytes "o")
+unfolding field-of
+code-o = refl
 
-module _ (s f : List ℕ) (a e l : ℕ) (q : slice a e s ≡ f) (el : l ≡ letter-of f) (h : l ≡ 45 → ⊥) where
-  no-dash : is-dash f ≡ false
-  no-dash = rw (← el) (ne-eqb l 45 h)
+pub code-ab : field-of 8 ≡ letter (bytes "ab")
+unfolding field-of
+code-ab = refl
 
-  pub aim-empty : a ≡ e → cell 0 (pos 0) ∷ cell 1 (pos 0) ∷ [] ≡ target-cells f
-  unfolding target-cells number-cell number-of
-  aim-empty z = rw no-dash (go f (sym q ∙ rw (z, slice-empty)))
-    where
-      go : (f : List ℕ) → f ≡ [] → cell 0 (pos 0) ∷ cell 1 (pos 0) ∷ [] ≡ target-cells-by false (starts-with-h f) f
-      go f z = rw z
+pub code-sign : field-of 9 ≡ letter (bytes "=<>")
+unfolding field-of
+code-sign = refl
 
-  module _ (k : a < e) (t : e ≤ length s) (v : Num) (c : Cell) (g : c ≡ cell-of v) where
-    pub aim-history : getD s a 0 ≡ 104 → v ≡ number-of (slice (a + 1) e s) → cell 0 (pos 104) ∷ c ∷ [] ≡ target-cells f
-    unfolding target-cells number-cell
-    aim-history b n = rw no-dash (rw (← q, slice-cons a e s 0 k t, b, g, n, add-one))
+pub code-owner : field-of 10 ≡ letter (bytes "exdt")
+unfolding field-of
+code-owner = refl
 
-    pub aim-state : (getD s a 0 ≡ 104 → ⊥) → v ≡ number-of (slice a e s) → cell 0 (pos 0) ∷ c ∷ [] ≡ target-cells f
-    unfolding target-cells number-cell
-    aim-state b n = rw no-dash (rw (g, n, ← q, slice-cons a e s 0 k t) (rw (ne-eqb (getD s a 0) 104 b)))
+pub code-saq : field-of 11 ≡ letter (bytes "saq")
+unfolding field-of
+code-saq = refl
+
+pub code-ko : field-of 12 ≡ letter (bytes "ko")
+unfolding field-of
+code-ko = refl
+
+module _ (k n : ℕ) (x : List ℕ) (l : Line) where
+  module _ (v : Num) (ev : v ≡ number-of x) where
+    pub said-turn : (t : Bool) → k ≡ 0 → t ≡ is-turn v n → l ≡ right-if t [] → l ≡ read-field (field-of k) n x
+    unfolding read-field field-of
+    said-turn t e et el = rw (e, el, et, ev)
+
+    pub said-number : k ≡ 1 → l ≡ number-line [] v → l ≡ read-field (field-of k) n x
+    unfolding read-field field-of
+    said-number e el = rw (e, el, ev)
+
+    pub said-state : k ≡ 3 → l ≡ number-line (pos 0 ∷ []) v → l ≡ read-field (field-of k) n x
+    unfolding read-field field-of
+    said-state e el = rw (e, el, ev)
+
+    pub said-count : k ≡ 6 → l ≡ count-line 0 32 v → l ≡ read-field (field-of k) n x
+    unfolding read-field field-of
+    said-count e el = rw (e, el, ev)
+
+  pub said-history : k ≡ 4 → l ≡ read-field history 0 x → l ≡ read-field (field-of k) n x
+  unfolding read-field field-of
+  said-history e el = rw (e, el)
+
+  module _ (b : ℕ) (eb : b ≡ letter-of x) where
+    pub said-dash : k ≡ 2 → l ≡ right-if (eqb b 45) (ABSENT ∷ []) → l ≡ read-field (field-of k) n x
+    unfolding read-field field-of
+    said-dash e el = rw (e, el, eb)
+
+    pub said-in-place : k ≡ 5 → l ≡ right-if (eqb b 45) (ABSENT ∷ ABSENT ∷ []) → l ≡ read-field (field-of k) n x
+    unfolding read-field field-of
+    said-in-place e el = rw (e, el, eb)
+
+    pub said-letter : (m : ℕ) (ls : List ℕ) → k ≡ m → field-of m ≡ letter ls → l ≡ right-if (has b ls) (pos b ∷ []) → l ≡ read-field (field-of k) n x
+    unfolding read-field
+    said-letter m ls e f el = rw (e, f, el, eb)
+
+  pub said-none : 13 ≤ k → l ≡ wrong → l ≡ read-field (field-of k) n x
+  unfolding read-field field-of has
+  said-none h el = rw (
+    el,
+    List·getD-eq-default (
+        turn ∷ number ∷ dash ∷ state ∷ history ∷ in-place ∷ count 0 EVENTS ∷ letter (bytes "o") ∷ letter (bytes "ab") ∷ letter (bytes "=<>") ∷ letter (bytes "exdt")
+        ∷ letter (bytes "saq") ∷ letter (bytes "ko") ∷ []) (letter []) {n = k} h,
+  )

@@ -1,79 +1,143 @@
-// Fields read into cells (01, "Chart text"): a number, a letter or "-", each with the mark 0, 1 or 2 that it gives.
-use crate::field;
-use crate::letter_at;
+// One field of a line read (01, "Chart text"), by its code in the table of forms: its mark, 0, 1 or 2, and the numbers that it states.
+use crate::whole;
 use chart_rows::decode::ABSENT;
-use meaning::Cell;
+use forms::AB;
+use forms::DASH;
+use forms::EVENT_COUNT;
+use forms::HISTORY;
+use forms::IN_PLACE;
+use forms::KO;
+use forms::NUMBER;
+use forms::O;
+use forms::OWNER;
+use forms::SAQ;
+use forms::SIGN;
+use forms::STATE;
+use forms::TURN;
 use meaning::Num;
 use meaning::answers::OUTSIDE_SIZE;
 use meaning::answers::WRONG_LINE;
 use numerals::number;
 use sizes::EVENTS;
 ghost use mathlib.Core.Path.{_≡_};
-ghost use mathlib.Core.List.{List, [], _∷_};
-ghost use Prim.Native.Nat.{_+_, _-_, _<_, _≤_};
-ghost use lib.ListN.{length, getD};
+ghost use mathlib.Core.List.{[], _∷_};
+ghost use Prim.Native.Nat.{_≤_};
+ghost use lib.ListN.{length};
 ghost use lib.Seq.{slice};
+ghost use lib.IntN.{pos};
+ghost use Rattle.meaning.specs.Grammar.{history};
 ghost use Rattle.meaning.specs.Lists.{has};
-ghost use Rattle.meaning.specs.Number.{number-of};
-ghost use Rattle.meaning.specs.Split.{fields};
-ghost use Rattle.meaning.specs.Line.{field as field-of, cell-of, letter-by, count-cell, is-turn, number-cell, dash-cell, letter-cell, number-or-dash, letter-or-dash, target-cells};
+ghost use Rattle.meaning.specs.Value.{ABSENT as Absent};
+ghost use Rattle.meaning.specs.Line.{is-turn, number-line, count-line, right-if, read-field};
+ghost use Rattle.forms.specs.Table.{field-of};
+ghost use Rattle.fields.specs.Said.{said, numbers-of};
 
-// A field that is "-".
-const DASH: Cell = Cell {
-    mark: 0,
-    value: ABSENT,
+// The mark, how many numbers are stated, and these: the value, and where there are two the letter in front of it.
+pub struct Said {
+    pub mark: usize,
+    pub width: usize,
+    pub lead: i32,
+    pub value: i32,
+}
+
+const WRONG: Said = Said {
+    mark: WRONG_LINE,
+    width: 0,
+    lead: 0,
+    value: 0,
 };
 
-// What a number field gives.
-fn cell_of(n: Num) -> Cell
-    ensures { λ r. ⌜ r ≡ cell-of n ⌝ }
+const BEYOND: Said = Said {
+    mark: OUTSIDE_SIZE,
+    width: 0,
+    lead: 0,
+    value: 0,
+};
+
+// How many numbers are stated.
+pub fn stated(r: Said) -> usize
+    ensures { λ n. ⌜ (n ≡ length (said r .row)) × (n ≤ 2) ⌝ }
 {
-    match n {
-        Num::Is(z) => Cell { mark: 0, value: z },
-        Num::Beyond => Cell {
-            mark: OUTSIDE_SIZE,
-            value: 0,
+    let width = r.width;
+    if 2 <= width {
+        return 2;
+    }
+    width
+}
+
+// So many times "-" where the field is right.
+fn absent_if(right: bool, width: usize) -> Said
+    ensures { λ r. ⌜ said r ≡ right-if right (numbers-of width Absent Absent) ⌝ }
+{
+    if right {
+        return Said {
+            mark: 0,
+            width,
+            lead: ABSENT,
+            value: ABSENT,
+        };
+    }
+    WRONG
+}
+
+// A number alone.
+fn number_said(v: Num) -> Said
+    ensures { λ r. ⌜ said r ≡ number-line [] v ⌝ }
+{
+    match v {
+        Num::Is(z) => Said {
+            mark: 0,
+            width: 1,
+            lead: 0,
+            value: z,
         },
-        Num::Not => Cell {
-            mark: WRONG_LINE,
-            value: 0,
-        },
+        Num::Beyond => BEYOND,
+        Num::Not => WRONG,
     }
 }
 
-// What the count of events gives: 0 to 32.
-pub fn count_cell(n: Num) -> Cell
-    ensures { λ r. ⌜ r ≡ count-cell n ⌝ }
+// A number behind a letter.
+fn target_said(letter: u8, v: Num) -> Said
+    ensures { λ r. ⌜ said r ≡ number-line (pos letter ∷ []) v ⌝ }
 {
-    match n {
+    match v {
+        Num::Is(z) => Said {
+            mark: 0,
+            width: 2,
+            lead: letter as i32,
+            value: z,
+        },
+        Num::Beyond => BEYOND,
+        Num::Not => WRONG,
+    }
+}
+
+// The count of events: 0 to 32.
+fn count_said(v: Num) -> Said
+    ensures { λ r. ⌜ said r ≡ count-line 0 32 v ⌝ }
+{
+    match v {
         Num::Is(z) => {
             if z < 0 {
-                return Cell {
-                    mark: OUTSIDE_SIZE,
-                    value: 0,
-                };
+                return BEYOND;
             }
             if (z as usize) <= EVENTS {
-                return Cell { mark: 0, value: z };
+                return Said {
+                    mark: 0,
+                    width: 1,
+                    lead: 0,
+                    value: z,
+                };
             }
-            Cell {
-                mark: OUTSIDE_SIZE,
-                value: 0,
-            }
+            BEYOND
         }
-        Num::Beyond => Cell {
-            mark: OUTSIDE_SIZE,
-            value: 0,
-        },
-        Num::Not => Cell {
-            mark: WRONG_LINE,
-            value: 0,
-        },
+        Num::Beyond => BEYOND,
+        Num::Not => WRONG,
     }
 }
 
 // Whether a number is the one in turn.
-pub fn is_turn(n: Num, turn: usize) -> bool
+fn is_turn(n: Num, turn: usize) -> bool
     ensures { λ r. ⌜ r ≡ is-turn n turn ⌝ }
 {
     match n {
@@ -88,39 +152,8 @@ pub fn is_turn(n: Num, turn: usize) -> bool
     }
 }
 
-// Field k as a number, by itself.
-pub fn num_at(s: &[u8], from: usize, to: usize, k: usize) -> Num
-    requires { ⌜ (from ≤ to) × (to ≤ length (now s)) ⌝ }
-    ensures { λ r. ⌜ r ≡ number-of (field-of (fields (slice from to (now (s .entry)))) k) ⌝ }
-{
-    let p = field(s, from, to, k);
-    number(s, p.from, p.to)
-}
-
-// Field k as a number.
-pub fn number_at(s: &[u8], from: usize, to: usize, k: usize) -> Cell
-    requires { ⌜ (from ≤ to) × (to ≤ length (now s)) ⌝ }
-    ensures { λ r. ⌜ r ≡ number-cell (field-of (fields (slice from to (now (s .entry)))) k) ⌝ }
-{
-    cell_of(num_at(s, from, to, k))
-}
-
-// Field k as "-".
-pub fn dash_at(s: &[u8], from: usize, to: usize, k: usize) -> Cell
-    requires { ⌜ (from ≤ to) × (to ≤ length (now s)) ⌝ }
-    ensures { λ r. ⌜ r ≡ dash-cell (field-of (fields (slice from to (now (s .entry)))) k) ⌝ }
-{
-    if letter_at(s, from, to, k) == b'-' {
-        return DASH;
-    }
-    Cell {
-        mark: WRONG_LINE,
-        value: 0,
-    }
-}
-
 // Whether a letter is one of these.
-pub fn among(letter: u8, letters: &[u8]) -> bool
+fn among(letter: u8, letters: &[u8]) -> bool
     ensures { λ r. ⌜ r ≡ has letter (now (letters .entry)) ⌝ }
 {
     let mut i = 0;
@@ -133,103 +166,54 @@ pub fn among(letter: u8, letters: &[u8]) -> bool
     false
 }
 
-// A letter of these, as a cell.
-pub fn letter_cell(letter: u8, letters: &[u8]) -> Cell
-    ensures { λ r. ⌜ r ≡ letter-by letter (now (letters .entry)) ⌝ }
+// One of these letters.
+fn letter_said(letter: u8, letters: &[u8]) -> Said
+    ensures { λ r. ⌜ said r ≡ right-if (has letter (now (letters .entry))) (pos letter ∷ []) ⌝ }
 {
     if among(letter, letters) {
-        return Cell {
+        return Said {
             mark: 0,
+            width: 1,
+            lead: 0,
             value: letter as i32,
         };
     }
-    Cell {
-        mark: WRONG_LINE,
-        value: 0,
-    }
+    WRONG
 }
 
-// Field k as one of these letters.
-pub fn one_of_at(s: &[u8], from: usize, to: usize, k: usize, letters: &[u8]) -> Cell
+// h and a number.
+fn history_said(s: &[u8], from: usize, to: usize) -> Said
     requires { ⌜ (from ≤ to) × (to ≤ length (now s)) ⌝ }
-    ensures { λ r. ⌜ r ≡ letter-cell (now (letters .entry)) (field-of (fields (slice from to (now (s .entry)))) k) ⌝ }
+    ensures { λ r. ⌜ said r ≡ read-field history 0 (slice from to (now (s .entry))) ⌝ }
 {
-    letter_cell(letter_at(s, from, to, k), letters)
+    if from == to {
+        return WRONG;
+    }
+    if s[from] == b'h' {
+        return target_said(b'h', number(s, from + 1, to));
+    }
+    WRONG
 }
 
-// A number where it is wanted, else "-".
-pub fn number_or_dash_at(wanted: bool, s: &[u8], from: usize, to: usize, k: usize) -> Cell
+// A field of record n.
+pub fn read_field(s: &[u8], from: usize, to: usize, field: u8, n: usize) -> Said
     requires { ⌜ (from ≤ to) × (to ≤ length (now s)) ⌝ }
-    ensures { λ r. ⌜ r ≡ number-or-dash wanted (field-of (fields (slice from to (now (s .entry)))) k) ⌝ }
+    ensures { λ r. ⌜ said r ≡ read-field (field-of field) n (slice from to (now (s .entry))) ⌝ }
 {
-    if wanted {
-        return number_at(s, from, to, k);
-    }
-    dash_at(s, from, to, k)
-}
-
-// One of these letters where it is wanted, else "-".
-pub fn one_of_or_dash_at(
-    wanted: bool,
-    s: &[u8],
-    from: usize,
-    to: usize,
-    k: usize,
-    letters: &[u8],
-) -> Cell
-    requires { ⌜ (from ≤ to) × (to ≤ length (now s)) ⌝ }
-    ensures { λ r. ⌜ r ≡ letter-or-dash wanted (now (letters .entry)) (field-of (fields (slice from to (now (s .entry)))) k) ⌝ }
-{
-    if wanted {
-        return one_of_at(s, from, to, k, letters);
-    }
-    dash_at(s, from, to, k)
-}
-
-// A target: the letter h or 0, and a state; both "-" for a reaction in place.
-pub struct Aim {
-    pub letter: Cell,
-    pub state: Cell,
-}
-
-// Field k as a target.
-pub fn target_at(s: &[u8], from: usize, to: usize, k: usize) -> Aim
-    requires { ⌜ (from ≤ to) × (to ≤ length (now s)) ⌝ }
-    ensures { λ r. ⌜ r .letter ∷ r .state ∷ [] ≡ target-cells (field-of (fields (slice from to (now (s .entry)))) k) ⌝ }
-{
-    let plain = Cell { mark: 0, value: 0 };
-    if letter_at(s, from, to, k) == b'-' {
-        return Aim {
-            letter: DASH,
-            state: DASH,
-        };
-    }
-    let p = field(s, from, to, k);
-    let a = p.from;
-    let e = p.to;
-    if a == e {
-        return Aim {
-            letter: plain,
-            state: Cell {
-                mark: WRONG_LINE,
-                value: 0,
-            },
-        };
-    }
-    if s[a] == b'h' {
-        let history = Cell {
-            mark: 0,
-            value: 104,
-        };
-        let owner = cell_of(number(s, a + 1, e));
-        return Aim {
-            letter: history,
-            state: owner,
-        };
-    }
-    let state = cell_of(number(s, a, e));
-    Aim {
-        letter: plain,
-        state: state,
+    match field {
+        TURN => absent_if(is_turn(number(s, from, to), n), 0),
+        NUMBER => number_said(number(s, from, to)),
+        DASH => absent_if(whole(s, from, to) == b'-', 1),
+        STATE => target_said(0, number(s, from, to)),
+        HISTORY => history_said(s, from, to),
+        IN_PLACE => absent_if(whole(s, from, to) == b'-', 2),
+        EVENT_COUNT => count_said(number(s, from, to)),
+        O => letter_said(whole(s, from, to), b"o"),
+        AB => letter_said(whole(s, from, to), b"ab"),
+        SIGN => letter_said(whole(s, from, to), b"=<>"),
+        OWNER => letter_said(whole(s, from, to), b"exdt"),
+        SAQ => letter_said(whole(s, from, to), b"saq"),
+        KO => letter_said(whole(s, from, to), b"ko"),
+        _ => WRONG,
     }
 }

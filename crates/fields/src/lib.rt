@@ -6,7 +6,6 @@ ghost use mathlib.Core.Path.{_≡_};
 ghost use mathlib.Core.List.{List, [], _∷_};
 ghost use Prim.Native.Nat.{_+_, _-_, _<_, _≤_};
 ghost use lib.ListN.{length, getD};
-ghost use lib.Dec.{eqb};
 ghost use lib.Seq.{slice};
 ghost use Rattle.meaning.specs.Split.{fields};
 ghost use Rattle.meaning.specs.Line.{letter-of, field as field-of};
@@ -31,21 +30,6 @@ pub fn stop(s: &[u8], from: usize, to: usize, sep: u8) -> usize
     i
 }
 
-// Whether a line has n fields.
-pub fn exactly(s: &[u8], from: usize, to: usize, n: usize) -> bool
-    requires { ⌜ (from ≤ to) × (to ≤ length (now s)) ⌝ }
-    ensures { λ r. ⌜ r ≡ eqb (length (fields (slice from to (now (s .entry))))) n ⌝ }
-{
-    if n == 0 {
-        return false;
-    }
-    let e = stop(s, from, to, TAB);
-    if e == to {
-        return n == 1;
-    }
-    exactly(s, e + 1, to, n - 1)
-}
-
 // Where a field stands.
 pub struct Part {
     pub from: usize,
@@ -67,16 +51,22 @@ pub fn field(s: &[u8], from: usize, to: usize, k: usize) -> Part
     field(s, e + 1, to, k - 1)
 }
 
+// The letter that is the whole of a part, else 0.
+pub fn whole(s: &[u8], from: usize, to: usize) -> u8
+    requires { ⌜ (from ≤ to) × (to ≤ length (now s)) ⌝ }
+    ensures { λ r. ⌜ r ≡ letter-of (slice from to (now (s .entry))) ⌝ }
+{
+    if to - from == 1 {
+        return s[from];
+    }
+    0
+}
+
 // The letter that is the whole of field k, else 0.
 pub fn letter_at(s: &[u8], from: usize, to: usize, k: usize) -> u8
     requires { ⌜ (from ≤ to) × (to ≤ length (now s)) ⌝ }
     ensures { λ r. ⌜ r ≡ letter-of (field-of (fields (slice from to (now (s .entry)))) k) ⌝ }
 {
     let p = field(s, from, to, k);
-    let a = p.from;
-    let e = p.to;
-    if e - a == 1 {
-        return s[a];
-    }
-    0
+    whole(s, p.from, p.to)
 }

@@ -11,13 +11,14 @@ use lib.Dec.{leb}
 use lib.IntN.{negsuc, pos, ℤ}
 use borrow.Author.Tests.{leb-true}
 use Rattle.laws.proofs.Lists.{and-left, and-right, every-at}
+use Rattle.meaning.specs.Grammar.{bytes, guard, target}
 use Rattle.meaning.specs.Chart.{Chart, no-action, no-trans, no-var}
 use Rattle.meaning.specs.Lists.{chunks, every, every-from}
 use Rattle.meaning.specs.Rules.{after-rule-0, failing-rule, failing-rule-of}
 use Rattle.meaning.specs.Tree.{trans-row, var-row}
-use Rattle.meaning.specs.Value.{ABSENT, ACT-ROW, ACTIONS-AT, Rows, STATE-ROW, STATES-AT, TRANS-ROW, TRANSITIONS-AT, VALUE, VAR-ROW, VARS-AT, act-by}
-use Rattle.meaning.specs.Value.{action-by, action-statable, chart-by, chart-of, count-fits, counts-fit, guard-by, guard-statable, is-absent, is-letter}
-use Rattle.meaning.specs.Value.{num, number-if, one-of-letters, rows-of, rows-statable, rule-0, size-by, state-by, state-statable, target-statable}
+use Rattle.meaning.specs.Value.{ACT-ROW, ACTIONS-AT, Rows, STATE-ROW, STATES-AT, TRANS-ROW, TRANSITIONS-AT, VALUE, VAR-ROW, VARS-AT, act-by}
+use Rattle.meaning.specs.Value.{action-by, action-statable, chart-by, chart-of, count-fits, counts-fit, fits, guard-by, is-absent, is-letter}
+use Rattle.meaning.specs.Value.{num, one-of-letters, rows-of, rows-statable, rule-0, size-by, state-by, state-statable}
 use Rattle.meaning.specs.Value.{trans-by, trans-statable, var-by, var-statable}
 use Rattle.meaning.specs.declared.chart.Act.{Act}
 use Rattle.meaning.specs.declared.chart.Act.the-variants.{AddTo as add-to, Send as send, SetTo as set-to, TakeTo as take-to, Tell as tell}
@@ -82,49 +83,76 @@ ref-most : (most : ℕ) (z : ℤ) → count-fits 0 most z ≡ true → ref z ≤
 ref-most most (pos n) e = leb-true n most (and-right (leb 0 n) (leb n most) e)
 ref-most most (negsuc n) e = absurd (false≢true e)
 
-act-range-by : (x y : ℤ) (b s k q o : Bool) → inRange x ≡ true → number-if (b || (s || (q || false))) y ≡ true
-    → Act-in-range (cond b (set-to (ref x) y) (cond s (add-to (ref x) y) (cond k (take-to (ref x)) (cond q (send (ref x) y) (tell x)))))
-act-range-by x y true s k q o h g = g
-act-range-by x y false true k q o h g = g
-act-range-by x y false false true q o h g = tt
-act-range-by x y false false false true o h g = g
-act-range-by x y false false false false o h g = h
+module _ (a x y : ℤ) (e : (one-of-letters (bytes "saq") a && (inRange x && inRange y)) || (one-of-letters (bytes "ko") a && (inRange x && is-absent y)) ≡ true) where
+  -- of the letters s, a and q both numbers are in range
+  second-range : (l : ℕ) → is-letter l a ≡ true → one-of-letters (bytes "saq") (pos l) ≡ true → one-of-letters (bytes "ko") (pos l) ≡ false → inRange y ≡ true
+  second-range l h p q = go (inRange x) (inRange y) (rw (eqZ-true a (pos l) h, p, q) at e)
+    where
+      go : (s t : Bool) → (s && t) || false ≡ true → t ≡ true
+      go true true e = refl
+      go true false e = e
+      go false t e = absurd (false≢true e)
+
+  first-range : inRange x ≡ true
+  first-range = go (one-of-letters (bytes "saq") a) (one-of-letters (bytes "ko") a) (inRange x) e
+    where
+      go : (p q s : Bool) → (p && (s && inRange y)) || (q && (s && is-absent y)) ≡ true → s ≡ true
+      go p q true e = refl
+      go true true false e = e
+      go true false false e = e
+      go false true false e = e
+      go false false false e = e
+
+  act-range-by : Act-in-range (act-by a x y)
+  unfolding act-by
+  act-range-by = go (is-letter 115 a) (is-letter 97 a) (is-letter 107 a) (is-letter 113 a) refl refl refl
+    where
+      go : (s p k q : Bool) → is-letter 115 a ≡ s → is-letter 97 a ≡ p → is-letter 113 a ≡ q
+          → Act-in-range (cond s (set-to (ref x) y) (cond p (add-to (ref x) y) (cond k (take-to (ref x)) (cond q (send (ref x) y) (tell x)))))
+      go true p k q hs hp hq = second-range 115 hs refl refl
+      go false true k q hs hp hq = second-range 97 hp refl refl
+      go false false true q hs hp hq = tt
+      go false false false true hs hp hq = second-range 113 hq refl refl
+      go false false false false hs hp hq = first-range
 
 act-range : (row : List ℤ) → action-statable row ≡ true → Act-in-range (action-by row .act)
-unfolding action-statable action-by act-by
+unfolding action-statable action-by
 act-range row e =
-    let l3 = number-if (one-of-letters (115 ∷ 97 ∷ 113 ∷ []) (num row 2)) (num row 4) in
-    let l2 = inRange (num row 3) && l3 in
-    let l1 = one-of-letters (115 ∷ 97 ∷ 107 ∷ 113 ∷ 111 ∷ []) (num row 2) && l2 in
-    let l0 = inRange (num row 1) && l1 in
-    let e2 = and-right (one-of-letters (115 ∷ 97 ∷ 107 ∷ 113 ∷ 111 ∷ []) (num row 2)) l2 (and-right (inRange (num row 1)) l1 (and-right (one-of-letters (101 ∷ 120 ∷ 100 ∷ 116 ∷ []) (num row 0)) l0 e)) in
-    act-range-by (num row 3) (num row 4) (is-letter 115 (num row 2)) (is-letter 97 (num row 2)) (is-letter 107 (num row 2)) (is-letter 113 (num row 2)) true
-    (and-left (inRange (num row 3)) l3 e2) (and-right (inRange (num row 3)) l3 e2)
+    let l0 = (one-of-letters (bytes "saq") (num row 2) && (inRange (num row 3) && inRange (num row 4))) || (one-of-letters (bytes "ko") (num row 2) && (inRange (num row 3) && is-absent (num row 4))) in
+    act-range-by (num row 2) (num row 3) (num row 4)
+    (and-right (inRange (num row 1)) l0 (and-right (one-of-letters (bytes "exdt") (num row 0)) (inRange (num row 1) && l0) e))
 
-guard-range-by : (v x : ℤ) (b s m : Bool) (t : Bool) → (t || (inRange v && ((b || (s || (m || false))) && inRange x))) ≡ true → (t ≡ true → (b || (s || (m || false))) ≡ false)
-    → Guard-in-range (cond b (compares (ref v) equal x) (cond s (compares (ref v) less x) (cond m (compares (ref v) more x) always)))
-guard-range-by v x false false false t e n = tt
-guard-range-by v x true s m true e n = absurd (true≢false (n refl))
-guard-range-by v x true s m false e n = and-right (inRange v) (inRange x) e
-guard-range-by v x false true m true e n = absurd (true≢false (n refl))
-guard-range-by v x false true m false e n = and-right (inRange v) (inRange x) e
-guard-range-by v x false false true true e n = absurd (true≢false (n refl))
-guard-range-by v x false false true false e n = and-right (inRange v) (inRange x) e
+module _
+    (v g x : ℤ) (t : Bool)
+    (e : (is-absent v && (is-absent g && (is-absent x && t))) || (inRange v && (one-of-letters (bytes "=<>") g && (inRange x && t))) ≡ true)
+  where
+    constant-range : (l : ℕ) → is-letter l g ≡ true → one-of-letters (bytes "=<>") (pos l) ≡ true → inRange x ≡ true
+    unfolding is-absent
+    constant-range l h p = go (is-absent v) (inRange v) (inRange x) (rw (eqZ-true g (pos l) h, p) at e)
+      where
+        go : (a s r : Bool) → (a && false) || (s && (r && t)) ≡ true → r ≡ true
+        go a s true e = refl
+        go true true false e = e
+        go true false false e = e
+        go false true false e = e
+        go false false false e = e
 
-absent-is : (z : ℤ) → is-absent z ≡ true → z ≡ ABSENT
-unfolding is-absent
-absent-is z e = eqZ-true z ABSENT e
+    guard-range-by : Guard-in-range (guard-by v g x)
+    unfolding guard-by
+    guard-range-by = go (is-letter 61 g) (is-letter 60 g) (is-letter 62 g) refl refl refl
+      where
+        go : (p q r : Bool) → is-letter 61 g ≡ p → is-letter 60 g ≡ q → is-letter 62 g ≡ r
+            → Guard-in-range (cond p (compares (ref v) equal x) (cond q (compares (ref v) less x) (cond r (compares (ref v) more x) always)))
+        go true q r hp hq hr = constant-range 61 hp refl
+        go false true r hp hq hr = constant-range 60 hq refl
+        go false false true hp hq hr = constant-range 62 hr refl
+        go false false false hp hq hr = tt
 
 guard-range : (row : List ℤ) → trans-statable row ≡ true → Guard-in-range (trans-by row .guard)
-unfolding trans-statable trans-by guard-by guard-statable
+unfolding trans-statable trans-by
 guard-range row e =
-    let v = num row 2 in
-    let g = num row 3 in
-    let x = num row 4 in
-    let t = is-absent v && (is-absent g && is-absent x) in
-    guard-range-by v x (is-letter 61 g) (is-letter 60 g) (is-letter 62 g) t
-    (and-left (guard-statable v g x) (target-statable (num row 5) (num row 6)) (and-right (inRange (num row 1)) (guard-statable v g x && target-statable (num row 5) (num row 6)) (and-right (inRange (num row 0)) (inRange (num row 1) && (guard-statable v g x && target-statable (num row 5) (num row 6))) e)))
-    (λ h. ap (λ z. one-of-letters (61 ∷ 60 ∷ 62 ∷ []) z) (absent-is g (and-left (is-absent g) (is-absent x) (and-right (is-absent v) (is-absent g && is-absent x) h))))
+    guard-range-by (num row 2) (num row 3) (num row 4) (fits target 5 row)
+    (and-right (inRange (num row 1)) (fits guard 2 row) (and-right (inRange (num row 0)) (inRange (num row 1) && fits guard 2 row) e))
 
 row-range : (row : List ℤ) → var-statable row ≡ true → Row-in-range (var-by row)
 unfolding var-statable var-by

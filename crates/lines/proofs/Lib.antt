@@ -1,3 +1,2 @@
 pub mod MarkLaws
 pub mod LineLaws
-pub mod PlaceLaws

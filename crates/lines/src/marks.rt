@@ -1,11 +1,11 @@
-// Marks of a line, and rows put into the chart's numbers.
-use meaning::Cell;
+// Marks of a line, and the numbers of a field put into the chart's.
+use fields::cells::Said;
 ghost use mathlib.Core.Path.{_≡_};
-ghost use mathlib.Core.List.{List, [], _∷_};
-ghost use Prim.Native.Nat.{_+_, _<_, _≤_};
-ghost use Rattle.meaning.specs.Value.{VALUE};
+ghost use Prim.Native.Nat.{_+_, _<_, _^_};
+ghost use lib.ListN.{set};
+ghost use lib.Seq.{sets};
 ghost use Rattle.meaning.specs.Line.{worse, room};
-ghost use Rattle.lines.specs.Took.{put-row};
+ghost use Rattle.fields.specs.Said.{said};
 
 // Of two marks the one to be told: 1 before 2, and 0 only for both.
 pub fn worse(a: usize, b: usize) -> usize
@@ -23,13 +23,6 @@ pub fn worse(a: usize, b: usize) -> usize
     b
 }
 
-// Three marks before a fourth.
-pub fn worse3(a: usize, b: usize, c: usize, d: usize) -> usize
-    ensures { λ r. ⌜ r ≡ worse a (worse b (worse c d)) ⌝ }
-{
-    worse(a, worse(b, worse(c, d)))
-}
-
 // Room for a record of number n among at most so many.
 pub fn room(n: usize, most: usize) -> usize
     ensures { λ r. ⌜ r ≡ room n most ⌝ }
@@ -37,59 +30,41 @@ pub fn room(n: usize, most: usize) -> usize
     if n < most { 0 } else { 2 }
 }
 
-// A cell's value at a place; past the numbers that are lent nothing is put.
-pub fn put(chart: &mut [i32], at: usize, a: Cell)
-    ensures { λ _. ⌜ now (chart .exit) ≡ put-row (now (chart .entry)) at (a ∷ []) ⌝ }
+// The value of a field at a place; past the numbers that are lent nothing is put.
+fn put_value(chart: &mut [i32], at: usize, r: Said)
+    ensures { λ _. ⌜ now (chart .exit) ≡ set (now (chart .entry)) at (r .value) ⌝ }
 {
     if chart.len() <= at {
         return;
     }
-    let z = a.value;
+    let z = r.value;
     chart[at] = z;
 }
 
-// Two of them.
-pub fn put2(chart: &mut [i32], at: usize, a: Cell, b: Cell)
-    requires { ⌜ at + 2 ≤ VALUE ⌝ }
-    ensures { λ _. ⌜ now (chart .exit) ≡ put-row (now (chart .entry)) at (a ∷ b ∷ []) ⌝ }
+// The letter in front of it.
+fn put_lead(chart: &mut [i32], at: usize, r: Said)
+    ensures { λ _. ⌜ now (chart .exit) ≡ set (now (chart .entry)) at (r .lead) ⌝ }
 {
-    put(chart, at, a);
-    put(chart, at + 1, b);
+    if chart.len() <= at {
+        return;
+    }
+    let z = r.lead;
+    chart[at] = z;
 }
 
-// Three of them.
-pub fn put3(chart: &mut [i32], at: usize, a: Cell, b: Cell, c: Cell)
-    requires { ⌜ at + 3 ≤ VALUE ⌝ }
-    ensures { λ _. ⌜ now (chart .exit) ≡ put-row (now (chart .entry)) at (a ∷ b ∷ c ∷ []) ⌝ }
+// The numbers that a field states.
+pub fn put_said(chart: &mut [i32], at: usize, r: Said)
+    requires { ⌜ at + 1 < 2 ^ 64 ⌝ }
+    ensures { λ _. ⌜ now (chart .exit) ≡ sets (now (chart .entry)) at (said r .row) ⌝ }
 {
-    put2(chart, at, a, b);
-    put(chart, at + 2, c);
-}
-
-// Five of them.
-pub fn put5(chart: &mut [i32], at: usize, a: Cell, b: Cell, c: Cell, d: Cell, e: Cell)
-    requires { ⌜ at + 5 ≤ VALUE ⌝ }
-    ensures { λ _. ⌜ now (chart .exit) ≡ put-row (now (chart .entry)) at (a ∷ b ∷ c ∷ d ∷ e ∷ []) ⌝ }
-{
-    put3(chart, at, a, b, c);
-    put2(chart, at + 3, d, e);
-}
-
-// Seven of them: the row of a transition.
-pub fn put7(
-    chart: &mut [i32],
-    at: usize,
-    a: Cell,
-    b: Cell,
-    c: Cell,
-    d: Cell,
-    e: Cell,
-    f: Cell,
-    g: Cell,
-)
-    requires { ⌜ at + 7 ≤ VALUE ⌝ }
-    ensures { λ _. ⌜ now (chart .exit) ≡ put-row (now (chart .entry)) at (a ∷ b ∷ c ∷ d ∷ e ∷ f ∷ g ∷ []) ⌝ }
-{
-    put5(chart, at, a, b, c, d, e);
-    put2(chart, at + 5, f, g);
+    let width = r.width;
+    if width == 0 {
+        return;
+    }
+    if width == 1 {
+        put_value(chart, at, r);
+        return;
+    }
+    put_lead(chart, at, r);
+    put_value(chart, at + 1, r);
 }

@@ -8,9 +8,10 @@ use Rattle.meaning.specs.Open.{all-open}
 use Rattle.meaning.specs.Lists.{map-from}
 use Rattle.meaning.specs.Value.{ABSENT, VALUE}
 use Rattle.meaning.specs.Split.{ended}
-use Rattle.meaning.specs.Line.{s-text}
+use Rattle.meaning.specs.Grammar.{bytes, s-record}
+use Rattle.meaning.specs.Line.{text-of-row}
 use Rattle.meaning.specs.Text.{Outcome, done, refused, read, write}
-use Rattle.meaning.specs.Examples.{bytes, text-K}
+use Rattle.meaning.specs.Examples.{text-K}
 
 both-ways : ℕ → Outcome (List ℤ) → Outcome (List ℕ)
 both-ways n (done v) = write v n
@@ -41,7 +42,7 @@ faults (t ∷ ts) = fault-of (read t VALUE) ∷ faults ts
 
 -- n states: the root, and n - 1 children of kind b
 states : ℕ → List ℕ
-states n = ended (s-text 0 (ABSENT ∷ pos 111 ∷ pos 1 ∷ []) ∷ map-from s-text 1 (replicate (n - 1) (pos 0 ∷ pos 98 ∷ ABSENT ∷ [])))
+states n = ended (text-of-row s-record 0 (ABSENT ∷ pos 111 ∷ pos 1 ∷ []) ∷ map-from (text-of-row s-record) 1 (replicate (n - 1) (pos 0 ∷ pos 98 ∷ ABSENT ∷ [])))
 
 -- in the order: an empty text; its E line missing; a last line without LF; an empty last line; 32 and 33 events; 1 before 2 on one line;
 -- a leading zero; 64 states, 65, and a 65th of the wrong form; -1 as a parent, and "-"; h-1 as a target

@@ -1,9 +1,6 @@
 -- Charts, states and calls to compute with (01, "Checked by example"): chart K as its text, as its value and as a chart; the chart of two
 -- null components; two charts more; what a call gives and the states after it, in few words. Assumes nothing.
 use Prim.Native.Nat.{ℕ, zero, suc}
-use Prim.Native.String.{[] as end, _∷_ as _then_}
-use Prim.Native.String.{String}
-use Prim.Native.Char.{code}
 use mathlib.Core.Bool.{Bool, true, false}
 use mathlib.Core.List.{List, [], _∷_, map}
 use lib.ListN.{replicate}
@@ -11,6 +8,7 @@ use lib.IntN.{ℤ, pos, negsuc}
 use Rattle.sizes.specs.Sizes.{QUEUE, STATES, VARIABLES}
 use Rattle.queue.specs.Queue.{item, queue-of}
 use Rattle.meaning.specs.declared.State.{State}
+use Rattle.meaning.specs.Grammar.{bytes}
 use Rattle.meaning.specs.Lists.{concat-map, from, has, padded}
 use Rattle.meaning.specs.Chart.{Kind, kind-o, kind-a, kind-b, Guard, always, compares, equal, Target, to, history, set-to}
 use Rattle.meaning.specs.Chart.{add-to, send, tell, entry-of, exit-of, default-of, transition-of}
@@ -30,10 +28,6 @@ tr s e g t = record { source = s; trigger = e; guard = g; target = t }
 
 unfoldable pub ac : Owner → Act → ActRow
 ac o a = record { owner = o; act = a }
-
-unfoldable pub bytes : String → List ℕ
-bytes end = []
-bytes (c then s) = code c ∷ bytes s
 
 -- chart K as its text: fields parted by one tab, each line ended by LF
 unfoldable pub text-K : List ℕ
@@ -154,6 +148,6 @@ unfoldable pub machine-to : List ℤ → ℕ → ℕ → State → Outcome
 machine-to ns n e u = machine-run ns (machine-post ns u (pos e) (pos 0) .after) n
 
 unfoldable pub examples-open : ℕ
-unfolding st tr ac bytes text-K chart-K value-K plan-K chart-two chart-self chart-inside chart-filling queue-of standing gives react-of react-to
+unfolding st tr ac text-K chart-K value-K plan-K chart-two chart-self chart-inside chart-filling queue-of standing gives react-of react-to
     machine-to
 examples-open = 0

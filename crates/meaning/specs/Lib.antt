@@ -2,6 +2,7 @@ pub mod Answers
 pub mod Steps
 pub mod Lists
 pub mod Chart
+pub mod Grammar
 pub mod Value
 pub mod Tree
 pub mod Rules

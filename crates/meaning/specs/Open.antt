@@ -5,6 +5,7 @@ use Rattle.numbers.specs.Hold.{holdZ}
 use Rattle.queue.specs.Queue.{empty-queue, appended, removed}
 use Rattle.meaning.specs.Steps.{steps-open}
 use Rattle.meaning.specs.Lists.{lists-open}
+use Rattle.meaning.specs.Grammar.{grammar-open}
 use Rattle.meaning.specs.Value.{value-open}
 use Rattle.meaning.specs.Tree.{tree-open}
 use Rattle.meaning.specs.Rules.{rules-open}
@@ -26,5 +27,5 @@ use Rattle.meaning.specs.Program.{program-open}
 use Rattle.meaning.specs.Examples.{examples-open}
 
 unfoldable pub all-open : ℕ
-unfolding inRange within holdZ empty-queue appended removed steps-open lists-open value-open tree-open rules-open widget-open effects-open entry-open reaction-open foreign-open calls-open plan-open compile-open well-formed-open machine-open number-open split-open line-open text-open program-open examples-open
+unfolding inRange within holdZ empty-queue appended removed steps-open lists-open grammar-open value-open tree-open rules-open widget-open effects-open entry-open reaction-open foreign-open calls-open plan-open compile-open well-formed-open machine-open number-open split-open line-open text-open program-open examples-open
 all-open = 0

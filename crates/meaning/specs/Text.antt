@@ -13,8 +13,8 @@ use Rattle.meaning.specs.Lists.{padded, concat-map, map-from}
 use Rattle.meaning.specs.Value.{Rows, rows-of, chart-by, num, STATE-ROW, VAR-ROW, TRANS-ROW, ACT-ROW, VALUE}
 use Rattle.meaning.specs.Rules.{failing-rule, failing-rule-of}
 use Rattle.meaning.specs.Split.{fields, lines, ended}
-use Rattle.meaning.specs.Line.{Line, Record, s-record, v-record, e-record, t-record, a-record, no-record}
-use Rattle.meaning.specs.Line.{letter-of, field, record-by, stage-after, line-of, s-text, v-text, e-text, t-text, a-text}
+use Rattle.meaning.specs.Grammar.{Record, s-record, v-record, e-record, t-record, a-record, no-record, record-by}
+use Rattle.meaning.specs.Line.{Line, letter-of, field, stage-after, line-of, text-of-row}
 use Rattle.meaning.specs.declared.Answer.{Answer}
 use Rattle.meaning.specs.declared.Turns.{Turns}
 use Rattle.meaning.specs.declared.Written.{Written}
@@ -157,7 +157,8 @@ lent-numbers n o = lent (pos 0) n o
 
 unfoldable pub text-by : Rows → List ℕ
 text-by r =
-    ended (map-from s-text 0 (r .states) ++ (map-from v-text 0 (r .vars) ++ (e-text (r .events) ∷ (map-from t-text 0 (r .transitions) ++ map-from (λ n row. a-text row) 0 (r .actions)))))
+    ended (map-from (text-of-row s-record) 0 (r .states) ++ (map-from (text-of-row v-record) 0 (r .vars) ++ (text-of-row e-record 0 (r .events ∷ [])
+    ∷ (map-from (text-of-row t-record) 0 (r .transitions) ++ map-from (text-of-row a-record) 0 (r .actions)))))
 
 -- the text of the chart that a value states
 unfoldable pub text-of : List ℤ → List ℕ

@@ -1,7 +1,8 @@
 -- The chart handed over as a value: numbers at fixed places, and the rule R0 about them (01, "Chart rules, in order").
--- In the order: the letters of the text; the layout; what a row of numbers says; the chart that the numbers state; R0.
+-- In the order: the layout; what a row of numbers says; the chart that the numbers state; R0.
 -- A letter of the text stands as its own code, "-" as ABSENT, which is no number that a text can state. Assumes nothing.
 use Prim.Native.Nat.{ℕ, zero, suc, _+_, _*_}
+use Prim.Native.Char.{code}
 use mathlib.Core.Bool.{Bool, true, false, not, cond, _&&_, _||_}
 use mathlib.Core.List.{List, [], _∷_, map}
 use lib.ListN.{length, getD, take, drop}
@@ -12,8 +13,10 @@ use Rattle.sizes.specs.Sizes.{STATES, VARIABLES, EVENTS, TRANSITIONS, ACTIONS, 
 use Rattle.numbers.specs.Equal.{eqZ}
 use Rattle.numbers.specs.Range.{inRange}
 use Rattle.numbers.specs.Reference.{ref}
+use Rattle.meaning.specs.Grammar.{Field, turn, number, count, letter, dash, state, history, in-place, width, Form, last, _then_, _or_}
+use Rattle.meaning.specs.Grammar.{s-record, v-record, t-record, a-record, form}
 use Rattle.meaning.specs.Lists.{every, every-from, chunks}
-use Rattle.meaning.specs.Chart.{Kind, kind-o, kind-a, kind-b, Sign, equal, less, more, Guard, always, compares, Target, to, history, in-place}
+use Rattle.meaning.specs.Chart.{Kind, kind-o, kind-a, kind-b, Sign, equal, less, more, Guard, always, compares, Target, to, history as to-history, in-place as no-target}
 use Rattle.meaning.specs.Chart.{Act, set-to, add-to, take-to, send, tell, Owner, entry-of, exit-of, default-of, transition-of}
 use Rattle.meaning.specs.Chart.{StateRow, VarRow, TransRow, ActRow, Chart}
 
@@ -76,7 +79,7 @@ ref-or-none z = cond (is-absent z) 0 (ref z)
 
 -- o, a, b
 unfoldable pub kind-by : ℤ → Kind
-kind-by z = cond (is-letter 111 z) kind-o (cond (is-letter 97 z) kind-a kind-b)
+kind-by z = cond (is-letter (code "o") z) kind-o (cond (is-letter (code "a") z) kind-a kind-b)
 
 unfoldable pub state-by : List ℤ → StateRow
 state-by row = record { parent = ref-or-none (num row 0); kind = kind-by (num row 1); default = ref-or-none (num row 2) }
@@ -87,12 +90,12 @@ var-by row = record { low = num row 0; high = num row 1; first = num row 2 }
 -- =, <, >, or "-"
 unfoldable pub guard-by : ℤ → ℤ → ℤ → Guard
 guard-by v g x =
-    cond (is-letter 61 g) (compares (ref v) equal x)
-    (cond (is-letter 60 g) (compares (ref v) less x) (cond (is-letter 62 g) (compares (ref v) more x) always))
+    cond (is-letter (code "=") g) (compares (ref v) equal x)
+    (cond (is-letter (code "<") g) (compares (ref v) less x) (cond (is-letter (code ">") g) (compares (ref v) more x) always))
 
 -- a target: 0 and a state, h and a state, or "-"
 unfoldable pub target-by : ℤ → ℤ → Target
-target-by h s = cond (is-letter 104 h) (history (ref s)) (cond (is-absent h) in-place (to (ref s)))
+target-by h s = cond (is-letter (code "h") h) (to-history (ref s)) (cond (is-absent h) no-target (to (ref s)))
 
 unfoldable pub trans-by : List ℤ → TransRow
 trans-by row = record {
@@ -105,13 +108,13 @@ trans-by row = record {
 -- e, x, d, t
 unfoldable pub owner-by : ℤ → ℤ → Owner
 owner-by k n =
-    cond (is-letter 101 k) (entry-of (ref n)) (cond (is-letter 120 k) (exit-of (ref n)) (cond (is-letter 100 k) (default-of (ref n)) (transition-of (ref n))))
+    cond (is-letter (code "e") k) (entry-of (ref n)) (cond (is-letter (code "x") k) (exit-of (ref n)) (cond (is-letter (code "d") k) (default-of (ref n)) (transition-of (ref n))))
 
 -- s, a, k, q, o
 unfoldable pub act-by : ℤ → ℤ → ℤ → Act
 act-by a x y =
-    cond (is-letter 115 a) (set-to (ref x) y)
-    (cond (is-letter 97 a) (add-to (ref x) y) (cond (is-letter 107 a) (take-to (ref x)) (cond (is-letter 113 a) (send (ref x) y) (tell x))))
+    cond (is-letter (code "s") a) (set-to (ref x) y)
+    (cond (is-letter (code "a") a) (add-to (ref x) y) (cond (is-letter (code "k") a) (take-to (ref x)) (cond (is-letter (code "q") a) (send (ref x) y) (tell x))))
 
 unfoldable pub action-by : List ℤ → ActRow
 action-by row = record { owner = owner-by (num row 0) (num row 1); act = act-by (num row 2) (num row 3) (num row 4) }
@@ -159,38 +162,38 @@ abbrev pub one-of-letters : List ℕ → ℤ → Bool
 one-of-letters [] z = false
 one-of-letters (l ∷ ls) z = is-letter l z || one-of-letters ls z
 
--- a number where it is wanted, else "-"
-abbrev pub number-if : Bool → ℤ → Bool
-number-if true z = inRange z
-number-if false z = is-absent z
-
--- "State 0 alone has parent -. Default is a number for o, else -"
-unfoldable pub state-statable : ℕ → List ℤ → Bool
-state-statable n row = number-if (not (eqb n 0)) (num row 0) && (one-of-letters (111 ∷ 97 ∷ 98 ∷ []) (num row 1) && number-if (is-letter 111 (num row 1)) (num row 2))
-
-unfoldable pub var-statable : List ℤ → Bool
-var-statable row = inRange (num row 0) && (inRange (num row 1) && inRange (num row 2))
-
--- "The three guard fields are all - or none is"
-unfoldable pub guard-statable : ℤ → ℤ → ℤ → Bool
-guard-statable v g x = (is-absent v && (is-absent g && is-absent x)) || (inRange v && (one-of-letters (61 ∷ 60 ∷ 62 ∷ []) g && inRange x))
-
--- a state, h and a state, or "-"
-unfoldable pub target-statable : ℤ → ℤ → Bool
-target-statable h s = (is-absent h && is-absent s) || ((is-letter 0 h || is-letter 104 h) && inRange s)
-
-unfoldable pub trans-statable : List ℤ → Bool
-trans-statable row =
-    inRange (num row 0) && (inRange (num row 1) && (guard-statable (num row 2) (num row 3) (num row 4) && target-statable (num row 5) (num row 6)))
-
--- k and o have a second field "-"
-unfoldable pub action-statable : List ℤ → Bool
-action-statable row =
-    one-of-letters (101 ∷ 120 ∷ 100 ∷ 116 ∷ []) (num row 0) && (inRange (num row 1) && (one-of-letters (115 ∷ 97 ∷ 107 ∷ 113 ∷ 111 ∷ []) (num row 2)
-    && (inRange (num row 3) && number-if (one-of-letters (115 ∷ 97 ∷ 113 ∷ []) (num row 2)) (num row 4))))
-
 abbrev pub count-fits : ℕ → ℕ → ℤ → Bool
 count-fits least most z = leZ (pos least) z && leZ z (pos most)
+
+-- the numbers from place i on are such as a field states
+abbrev pub fits-field : Field → ℕ → List ℤ → Bool
+fits-field turn i row = true
+fits-field number i row = inRange (num row i)
+fits-field (count low high) i row = count-fits low high (num row i)
+fits-field (letter ls) i row = one-of-letters ls (num row i)
+fits-field dash i row = is-absent (num row i)
+fits-field state i row = is-letter 0 (num row i) && inRange (num row (i + 1))
+fits-field history i row = is-letter (code "h") (num row i) && inRange (num row (i + 1))
+fits-field in-place i row = is-absent (num row i) && is-absent (num row (i + 1))
+
+-- and by a form
+abbrev pub fits : Form → ℕ → List ℤ → Bool
+fits (last x) i row = fits-field x i row
+fits (x then xs) i row = fits-field x i row && fits xs (i + width x) row
+fits (a or b) i row = fits a i row || fits b i row
+
+-- record n of a kind is one that a text can state
+unfoldable pub state-statable : ℕ → List ℤ → Bool
+state-statable n row = fits (form s-record n) 0 row
+
+unfoldable pub var-statable : List ℤ → Bool
+var-statable row = fits (form v-record 0) 0 row
+
+unfoldable pub trans-statable : List ℤ → Bool
+trans-statable row = fits (form t-record 0) 0 row
+
+unfoldable pub action-statable : List ℤ → Bool
+action-statable row = fits (form a-record 0) 0 row
 
 -- states 2 to 64, variables 0 to 16, events 0 to 32, transitions 0 to 128, actions 0 to 256
 unfoldable pub counts-fit : List ℤ → Bool
@@ -207,5 +210,5 @@ rule-0 v = leb VALUE (length v) && (counts-fit v && rows-statable (rows-of v))
 
 -- everything above, opened: for statements that compute
 unfoldable pub value-open : ℕ
-unfolding is-absent ref-or-none kind-by state-by var-by guard-by target-by trans-by owner-by act-by action-by chart-by size-by rows-of chart-of state-statable var-statable guard-statable target-statable trans-statable action-statable counts-fit rows-statable rule-0
+unfolding is-absent ref-or-none kind-by state-by var-by guard-by target-by trans-by owner-by act-by action-by chart-by size-by rows-of chart-of state-statable var-statable trans-statable action-statable counts-fit rows-statable rule-0
 value-open = 0

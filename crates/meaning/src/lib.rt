@@ -43,12 +43,6 @@ pub enum Nat {
     Not,
 }
 
-// One field as it is read: its mark is the answer number that it gives (0, 1 or 2), its value stands in the chart.
-pub struct Cell {
-    pub mark: usize,
-    pub value: i32,
-}
-
 // How far a text was read: the stage in the order S, V, one E, T, A, and the number in turn of each kind of record.
 pub struct Turns {
     pub stage: usize,

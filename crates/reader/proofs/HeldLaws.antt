@@ -9,7 +9,8 @@ use lib.ListN.{length, getD, set, length-append}
 use lib.Seq.{sets}
 use Rattle.sizes.specs.Sizes.{STATES, VARIABLES, TRANSITIONS, ACTIONS}
 use Rattle.meaning.specs.Value.{Rows, VALUE, num, STATES-AT, STATE-ROW, VARS-AT, VAR-ROW, TRANSITIONS-AT, TRANS-ROW, ACTIONS-AT, ACT-ROW}
-use Rattle.meaning.specs.Line.{Record, s-record, v-record, e-record, t-record, a-record, no-record, stage-after}
+use Rattle.meaning.specs.Grammar.{Record, s-record, v-record, e-record, t-record, a-record, no-record}
+use Rattle.meaning.specs.Line.{stage-after}
 use Rattle.meaning.specs.Text.{Walk, start, no-rows, turns-of, with-row, taken, flat, area, value-of}
 use Rattle.meaning.specs.declared.Turns.{Turns}
 use Rattle.reader.specs.Order.{place-of, turns-after, Within, with-counts}
@@ -127,10 +128,10 @@ module _ (w : Walk) (y z : List ℤ) (f : Fit (w .rows)) where
   unfolding place-of turns-of
   next-numbers s-record q = store-s (w .rows) z y f (q .0) (q .1)
   next-numbers v-record q = store-v (w .rows) z y f (q .0) (q .1)
-  next-numbers e-record q = store-e (w .rows) z y f q
+  next-numbers e-record q = store-e (w .rows) z y f (q .1)
   next-numbers t-record q = store-t (w .rows) z y f (q .0) (q .1)
   next-numbers a-record q = store-a (w .rows) z y f (q .0) (q .1)
-  next-numbers no-record q = absurd q
+  next-numbers no-record q = let h = q .0 in absurd (omega arith)
 
   pub next-turns : (k : Record) → RowFits k (turns-of w) y → turns-after k (turns-of w) ≡ turns-of (taken k y w)
   unfolding turns-of turns-after with-row stage-after
@@ -139,7 +140,7 @@ module _ (w : Walk) (y z : List ℤ) (f : Fit (w .rows)) where
   next-turns e-record q = refl
   next-turns t-record q = rw (length-more (w .rows .transitions) y)
   next-turns a-record q = rw (length-more (w .rows .actions) y)
-  next-turns no-record q = absurd q
+  next-turns no-record q = let h = q .0 in absurd (omega arith)
 
   pub next-fit : (k : Record) → RowFits k (turns-of w) y → Fit (with-row k y (w .rows))
   unfolding turns-of with-row
@@ -193,7 +194,7 @@ module _ (w : Walk) (y z : List ℤ) (f : Fit (w .rows)) where
     few-transitions = f .few-transitions;
     few-actions = let h = q .0 in rw (length-more (w .rows .actions) y) (omega arith);
   }
-  next-fit no-record q = absurd q
+  next-fit no-record q = let h = q .0 in absurd (omega arith)
 
 -- ---- at the start, and the counts
 pub fit-start : Fit no-rows

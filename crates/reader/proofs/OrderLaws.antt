@@ -3,7 +3,7 @@
 use mathlib.Core.Path.{_≡_, refl, sym, ap, _∙_, subst}
 use mathlib.Core.Bool.{Bool, true, false}
 use mathlib.Core.List.{List, [], _∷_}
-use Prim.Native.Nat.{ℕ, _+_, _*_, _≤_, _<_}
+use Prim.Native.Nat.{ℕ, zero, suc, _+_, _*_, _≤_, _<_}
 use native.Mathlib.Omega.{arith}
 use lib.Dec.{eqb, leb}
 use lib.IntN.{ℤ, pos}
@@ -14,12 +14,12 @@ use mir.Val.{toZ, ofZ}
 use Rattle.numbers.specs.Reference.{NOWHERE}
 use Rattle.numerals.proofs.Signed.{back32}
 use borrow.Author.Tests.{eq-eqb, ne-eqb, le-leb, lt-leb}
-use Rattle.meaning.specs.Value.{STATES-AT, STATE-ROW, VARS-AT, VAR-ROW, TRANSITIONS-AT, TRANS-ROW, ACTIONS-AT, ACT-ROW}
-use Rattle.meaning.specs.Line.{Line, Record, s-record, v-record, e-record, t-record, a-record, no-record}
-use Rattle.meaning.specs.Line.{record-by, in-order, line-by, line-in-order, line-of, s-line, v-line, e-line, t-line, a-line}
+use Rattle.meaning.specs.Grammar.{Record, s-record, v-record, e-record, t-record, a-record, no-record, Form, form, most, record-by}
+use Rattle.meaning.specs.Line.{Line, line, wrong, beside, room, rest-of, read-by, in-order, turn-of, line-by, line-in-order, line-of}
+use Rattle.forms.specs.Table.{form-at}
+use Rattle.forms.proofs.TableLaws.{root-form, state-form, variable-form, events-form, transition-form, action-form}
 use Rattle.meaning.specs.declared.Turns.{Turns}
 use Rattle.lines.specs.Took.{Took}
-use Rattle.lines.proofs.LineLaws.{took-wrong}
 use Rattle.reader.specs.Order.{place-of, turns-after, with-counts}
 
 -- ---- the letters
@@ -51,37 +51,46 @@ is-none {k} s v e t a = rw (ne-eqb k 83 s, ne-eqb k 86 v, ne-eqb k 69 e, ne-eqb 
 module _ (q : Record) (t : Turns) (fs : List (List ℕ)) (xs : List ℤ) where
   misplaced : (r : Record) → q ≡ r → in-order (t .stage) r ≡ false → Took (line-of q t fs) (place-of q t) xs 1 xs
   unfolding line-of
-  misplaced r e h = took-wrong (line-of q t fs) (place-of q t) xs (rw (e, h))
+  misplaced r e h = record { mark = rw (e, h); row = λ z. absurd (omega arith); size = refl }
 
   module _ (m : ℕ) (ys : List ℤ) where
-    placed : (r : Record) → q ≡ r → in-order (t .stage) r ≡ true → Took (line-by r t fs) (place-of r t) xs m ys
-        → Took (line-of q t fs) (place-of q t) xs m ys
-    unfolding line-of
-    placed r e h w = rw (e, h) w
+    -- a line that was read by the form of its record, at an entry of the table
+    abbrev Read : Record → ℕ → Type 0
+    Read r i = Took (beside (line (room (turn-of r t) (most r)) []) (read-by (form-at i) (turn-of r t) (rest-of fs))) (place-of r t) xs m ys
 
-    pub took-s : q ≡ s-record → t .stage ≡ 0 → Took (s-line (t .states) fs) (STATES-AT + t .states * STATE-ROW) xs m ys
+    placed : (r : Record) (i : ℕ) → q ≡ r → in-order (t .stage) r ≡ true → form-at i ≡ form r (turn-of r t) → Read r i
         → Took (line-of q t fs) (place-of q t) xs m ys
-    unfolding line-by place-of in-order
-    took-s e h w = placed s-record e (eq-eqb (t .stage) 0 h) w
+    unfolding line-of line-by
+    placed r i e h f w = rw (e, h) (rw f at w)
 
-    pub took-v : q ≡ v-record → t .stage ≤ 1 → Took (v-line (t .vars) fs) (VARS-AT + t .vars * VAR-ROW) xs m ys
-        → Took (line-of q t fs) (place-of q t) xs m ys
-    unfolding line-by place-of in-order
-    took-v e h w = placed v-record e (le-leb (t .stage) 1 h) w
+    module _ (e : q ≡ s-record) (h : t .stage ≡ 0) where
+      pub took-root : t .states ≡ 0 → Read s-record 0 → Took (line-of q t fs) (place-of q t) xs m ys
+      unfolding in-order
+      took-root z w = placed s-record 0 e (eq-eqb (t .stage) 0 h) (root-form ∙ ap (form s-record) (sym z)) w
 
-    pub took-e : q ≡ e-record → t .stage ≤ 1 → Took (e-line fs) 2 xs m ys → Took (line-of q t fs) (place-of q t) xs m ys
-    unfolding line-by place-of in-order
-    took-e e h w = placed e-record e (le-leb (t .stage) 1 h) w
+      pub took-s : (t .states ≡ 0 → ⊥) → Read s-record 7 → Took (line-of q t fs) (place-of q t) xs m ys
+      unfolding in-order
+      took-s z w = placed s-record 7 e (eq-eqb (t .stage) 0 h) (go (t .states) z) w
+        where
+          go : (n : ℕ) → (n ≡ 0 → ⊥) → form-at 7 ≡ form s-record n
+          go zero z = absurd (z refl)
+          go (suc n) z = state-form n
 
-    pub took-t : q ≡ t-record → t .stage ≡ 2 → Took (t-line (t .transitions) fs) (TRANSITIONS-AT + t .transitions * TRANS-ROW) xs m ys
-        → Took (line-of q t fs) (place-of q t) xs m ys
-    unfolding line-by place-of in-order
-    took-t e h w = placed t-record e (eq-eqb (t .stage) 2 h) w
+    pub took-v : q ≡ v-record → t .stage ≤ 1 → Read v-record 14 → Took (line-of q t fs) (place-of q t) xs m ys
+    unfolding in-order
+    took-v e h w = placed v-record 14 e (le-leb (t .stage) 1 h) (variable-form (t .vars)) w
 
-    pub took-a : q ≡ a-record → 2 ≤ t .stage → Took (a-line (t .actions) fs) (ACTIONS-AT + t .actions * ACT-ROW) xs m ys
-        → Took (line-of q t fs) (place-of q t) xs m ys
-    unfolding line-by place-of in-order
-    took-a e h w = placed a-record e (le-leb 2 (t .stage) h) w
+    pub took-e : q ≡ e-record → t .stage ≤ 1 → Read e-record 18 → Took (line-of q t fs) (place-of q t) xs m ys
+    unfolding in-order
+    took-e e h w = placed e-record 18 e (le-leb (t .stage) 1 h) (events-form 0) w
+
+    pub took-t : q ≡ t-record → t .stage ≡ 2 → Read t-record 19 → Took (line-of q t fs) (place-of q t) xs m ys
+    unfolding in-order
+    took-t e h w = placed t-record 19 e (eq-eqb (t .stage) 2 h) (transition-form (t .transitions)) w
+
+    pub took-a : q ≡ a-record → 2 ≤ t .stage → Read a-record 39 → Took (line-of q t fs) (place-of q t) xs m ys
+    unfolding in-order
+    took-a e h w = placed a-record 39 e (le-leb 2 (t .stage) h) (action-form (t .actions)) w
 
   pub not-s : q ≡ s-record → (t .stage ≡ 0 → ⊥) → Took (line-of q t fs) (place-of q t) xs 1 xs
   unfolding in-order

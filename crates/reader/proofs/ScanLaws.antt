@@ -11,7 +11,8 @@ use lib.Seq.{slice, slice-empty, slice-cons, take-length, sets, length-sets}
 use borrow.Author.Tests.{le-leb, lt-leb}
 use Rattle.meaning.specs.Value.{Rows, VALUE}
 use Rattle.meaning.specs.Split.{all, split, fields, lines}
-use Rattle.meaning.specs.Line.{Line, Record, letter-of, field, record-by, line-of}
+use Rattle.meaning.specs.Grammar.{Record, record-by}
+use Rattle.meaning.specs.Line.{Line, letter-of, field, line-of}
 use Rattle.meaning.specs.Text.{Outcome, done, refused, answer, answer-of, Walk, start, turns-of, taken, further, after-line, line-taken}
 use Rattle.meaning.specs.Text.{record-of, ending, walk, value-of}
 use Rattle.meaning.specs.declared.Answer.{Answer}

@@ -6,7 +6,8 @@ use lib.IntN.{ℤ, pos}
 use lib.ListN.{set}
 use Rattle.sizes.specs.Sizes.{STATES, VARIABLES, TRANSITIONS, ACTIONS}
 use Rattle.meaning.specs.Value.{STATES-AT, STATE-ROW, VARS-AT, VAR-ROW, TRANSITIONS-AT, TRANS-ROW, ACTIONS-AT, ACT-ROW}
-use Rattle.meaning.specs.Line.{Record, s-record, v-record, e-record, t-record, a-record, no-record, stage-after}
+use Rattle.meaning.specs.Grammar.{Record, s-record, v-record, e-record, t-record, a-record, no-record}
+use Rattle.meaning.specs.Line.{stage-after}
 use Rattle.meaning.specs.declared.Turns.{Turns}
 
 -- the place of the next row of a kind

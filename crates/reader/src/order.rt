@@ -1,16 +1,30 @@
 // The order S, V, one E, T, A (01, "Chart text"): a line is read as the record that its first letter names, if that stands in its
 // place, and counted after it.
+use chart_rows::layout::ACT_ROW;
 use chart_rows::layout::ACTION_COUNT;
+use chart_rows::layout::ACTIONS_AT;
+use chart_rows::layout::EVENT_COUNT;
 use chart_rows::layout::STATE_COUNT;
+use chart_rows::layout::STATE_ROW;
+use chart_rows::layout::STATES_AT;
+use chart_rows::layout::TRANS_ROW;
 use chart_rows::layout::TRANSITION_COUNT;
+use chart_rows::layout::TRANSITIONS_AT;
 use chart_rows::layout::VAR_COUNT;
-use lines::line_a;
-use lines::line_e;
-use lines::line_s;
-use lines::line_t;
-use lines::line_v;
+use chart_rows::layout::VAR_ROW;
+use chart_rows::layout::VARS_AT;
+use forms::ACTION;
+use forms::EVENTS;
+use forms::OTHER_STATE;
+use forms::ROOT;
+use forms::TRANSITION;
+use forms::VARIABLE;
 use meaning::Turns;
 use numbers::number;
+use sizes::ACTIONS;
+use sizes::STATES;
+use sizes::TRANSITIONS;
+use sizes::VARIABLES;
 ghost use mathlib.Core.Path.{_≡_};
 ghost use Prim.Native.Nat.{_+_, _<_, _≤_};
 ghost use lib.ListN.{length, set};
@@ -18,43 +32,55 @@ ghost use lib.IntN.{pos};
 ghost use lib.Seq.{slice};
 ghost use Rattle.numbers.specs.Reference.{NOWHERE};
 ghost use Rattle.meaning.specs.Split.{fields};
-ghost use Rattle.meaning.specs.Line.{record-by, line-of};
+ghost use Rattle.meaning.specs.Grammar.{record-by};
+ghost use Rattle.meaning.specs.Line.{line-of};
 ghost use Rattle.lines.specs.Took.{Took};
 ghost use Rattle.reader.specs.Order.{place-of, turns-after, Within, with-counts};
 
 // A line whose first field is the letter k.
 pub fn line(s: &[u8], from: usize, to: usize, k: u8, t: Turns, chart: &mut [i32]) -> usize
-    requires { ⌜ (from ≤ to) × (to ≤ length (now s)) ⌝ }
+    requires { ⌜ (from ≤ to) × (to ≤ length (now s)) × Within t ⌝ }
     ensures { λ r. ⌜ Took (line-of (record-by k) t (fields (slice from to (now (s .entry))))) (place-of (record-by k) t) (now (chart .entry)) r (now (chart .exit)) ⌝ }
 {
     let stage = t.stage;
     if k == b'S' {
         if stage == 0 {
-            return line_s(s, from, to, t.states, chart);
+            let n = t.states;
+            let at = STATES_AT + n * STATE_ROW;
+            if n == 0 {
+                return lines::line(s, from, to, ROOT, n, STATES, chart, at);
+            }
+            return lines::line(s, from, to, OTHER_STATE, n, STATES, chart, at);
         }
         return 1;
     }
     if k == b'V' {
         if stage <= 1 {
-            return line_v(s, from, to, t.vars, chart);
+            let n = t.vars;
+            let at = VARS_AT + n * VAR_ROW;
+            return lines::line(s, from, to, VARIABLE, n, VARIABLES, chart, at);
         }
         return 1;
     }
     if k == b'E' {
         if stage <= 1 {
-            return line_e(s, from, to, chart);
+            return lines::line(s, from, to, EVENTS, 0, 1, chart, EVENT_COUNT);
         }
         return 1;
     }
     if k == b'T' {
         if stage == 2 {
-            return line_t(s, from, to, t.transitions, chart);
+            let n = t.transitions;
+            let at = TRANSITIONS_AT + n * TRANS_ROW;
+            return lines::line(s, from, to, TRANSITION, n, TRANSITIONS, chart, at);
         }
         return 1;
     }
     if k == b'A' {
         if 2 <= stage {
-            return line_a(s, from, to, t.actions, chart);
+            let n = t.actions;
+            let at = ACTIONS_AT + n * ACT_ROW;
+            return lines::line(s, from, to, ACTION, n, ACTIONS, chart, at);
         }
         return 1;
     }

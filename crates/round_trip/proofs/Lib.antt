@@ -1,10 +1,8 @@
 pub mod Numbers
 pub mod Splits
-pub mod Cells
-pub mod LinesKept
-pub mod FieldsFree
-pub mod LinesRead
-pub mod TransRead
+pub mod Fields
+pub mod Forms
+pub mod Records
 pub mod Shaped
 pub mod WalkKept
 pub mod WalkRead

@@ -16,7 +16,7 @@ use Rattle.meaning.specs.Tree.{is-o, kind-of}
 use Rattle.meaning.specs.Rules.{rule-1, rule-2, rule-3, rule-4, rule-5, rule-6, rule-7, first-failing, failing-rule, after-rule-0, failing-rule-of}
 use Rattle.meaning.specs.Text.{Outcome, done, refused, value-of, by-rule, checked-if, checked, read-text, read, text-of, write}
 use Rattle.round_trip.proofs.Numbers.{no}
-use Rattle.round_trip.proofs.Cells.{both}
+use Rattle.round_trip.proofs.Fields.{both}
 use Rattle.round_trip.proofs.WalkKept.{text-kept}
 use Rattle.round_trip.proofs.WalkRead.{text-short, text-reads}
 use Rattle.round_trip.proofs.Values.{rows-back, value-keeps, value-shaped}

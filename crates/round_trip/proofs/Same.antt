@@ -14,7 +14,7 @@ use Rattle.numbers.specs.Reference.{ref}
 use Rattle.meaning.specs.Lists.{padded, chunks}
 use Rattle.meaning.specs.Value.{num, COUNTS, STATE-ROW, VAR-ROW, TRANS-ROW, ACT-ROW, STATES-AT, VARS-AT, TRANSITIONS-AT, ACTIONS-AT, VALUE, size-by, rows-of, count-fits, counts-fit, rule-0}
 use Rattle.meaning.specs.Text.{flat, area, value-of}
-use Rattle.round_trip.proofs.Cells.{both}
+use Rattle.round_trip.proofs.Fields.{both}
 use Rattle.round_trip.proofs.Values.{flat-length, flat-chunks, chunks-length, chunks-long, area-length, size-is, states-from, vars-from, transitions-from, actions-from, value-length, counted-is, counts-of, enough, value-shaped}
 
 -- ---- one kind's rows

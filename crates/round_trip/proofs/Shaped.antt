@@ -9,8 +9,8 @@ use lib.IntN.{ℤ, pos}
 use lib.ListN.{length, length-append}
 use Rattle.sizes.specs.Sizes.{STATES, VARIABLES, EVENTS, TRANSITIONS, ACTIONS}
 use Rattle.meaning.specs.Lists.{every, every-from, map-from}
-use Rattle.meaning.specs.Value.{Rows, STATE-ROW, VAR-ROW, TRANS-ROW, ACT-ROW, state-statable, var-statable, trans-statable, action-statable}
-use Rattle.round_trip.proofs.Cells.{both}
+use Rattle.meaning.specs.Value.{Rows, count-fits, STATE-ROW, VAR-ROW, TRANS-ROW, ACT-ROW, state-statable, var-statable, trans-statable, action-statable}
+use Rattle.round_trip.proofs.Fields.{both}
 
 -- ---- one more at the end
 
@@ -58,16 +58,10 @@ few-more rs r most h = rw (length-append rs (r ∷ [])) (omega arith)
 
 -- ---- all rows
 
--- a count of events
-pub record Count (z : ℤ) : Type 0 where
-  pub count : ℕ
-  pub is : z ≡ pos count
-  pub fits : count ≤ EVENTS
-
 pub record Shaped (r : Rows) : Type 0 where
   pub states : Fitting (every-from state-statable 0) STATE-ROW STATES (r .states)
   pub vars : Fitting (every var-statable) VAR-ROW VARIABLES (r .vars)
-  pub events : Count (r .events)
+  pub events : count-fits 0 EVENTS (r .events) ≡ true
   pub transitions : Fitting (every trans-statable) TRANS-ROW TRANSITIONS (r .transitions)
   pub actions : Fitting (every action-statable) ACT-ROW ACTIONS (r .actions)
 
@@ -79,9 +73,6 @@ no-states = fitting-none (every-from state-statable 0) STATE-ROW STATES refl
 pub none-of : (p : List ℤ → Bool) (size most : ℕ) → Fitting (every p) size most []
 unfolding every
 none-of p size most = fitting-none (every p) size most refl
-
-pub no-events : Count (pos 0)
-no-events = record { count = 0; is = refl; fits = omega arith }
 
 -- one more
 module _ (rs : List (List ℤ)) (r : List ℤ) (size most : ℕ) (long : length r ≡ size) (fits : length rs < most) where

@@ -17,8 +17,8 @@ use Rattle.meaning.specs.Lists.{every, every-from, padded, chunks}
 use Rattle.meaning.specs.Value.{Rows, num, STATE-ROW, VAR-ROW, TRANS-ROW, ACT-ROW, STATES-AT, VARS-AT, TRANSITIONS-AT, ACTIONS-AT, VALUE}
 use Rattle.meaning.specs.Value.{state-statable, var-statable, trans-statable, action-statable, size-by, rows-of, count-fits, counts-fit, rows-statable, rule-0}
 use Rattle.meaning.specs.Text.{flat, area, value-of}
-use Rattle.round_trip.proofs.Cells.{both}
-use Rattle.round_trip.proofs.Shaped.{Shaped, Count, Fitting, AllLong}
+use Rattle.round_trip.proofs.Fields.{both}
+use Rattle.round_trip.proofs.Shaped.{Shaped, Fitting, AllLong}
 
 -- ---- rows laid out, and cut again
 
@@ -178,11 +178,10 @@ counted least most n h k = rw (le-leb least n h, le-leb n most k)
 counts-kept : (r : Rows) → Shaped r → 2 ≤ length (r .states) → counts-fit (value-of r) ≡ true
 unfolding counts-fit value-of
 counts-kept r s h =
-    let e : count-fits 0 EVENTS (r .events) ≡ true = rw (s .events .is) (counted 0 EVENTS (s .events .count) (omega arith) (s .events .fits)) in
     rw (
       counted 2 STATES (length (r .states)) h (s .states .few),
       counted 0 VARIABLES (length (r .vars)) (omega arith) (s .vars .few),
-      e,
+      s .events,
       counted 0 TRANSITIONS (length (r .transitions)) (omega arith) (s .transitions .few),
       counted 0 ACTIONS (length (r .actions)) (omega arith) (s .actions .few),
     )
@@ -241,11 +240,9 @@ module _ (v : List ℤ) (keeps : rule-0 v ≡ true) where
         actions = fitting-of (every action-statable) ACT-ROW ACTIONS ACTIONS-AT (num v 4) (omega arith) (c .1);
       }
     where
-      events-of : Count (num v 2)
+      events-of : count-fits 0 EVENTS (num v 2) ≡ true
       events-of =
           let rest : Bool = count-fits 0 EVENTS (num v 2) && (count-fits 0 TRANSITIONS (num v 3) && count-fits 0 ACTIONS (num v 4)) in
           let a = both (count-fits 2 STATES (num v 0)) (count-fits 0 VARIABLES (num v 1) && rest) counts-of in
           let b = both (count-fits 0 VARIABLES (num v 1)) rest (a .1) in
-          let c = both (count-fits 0 EVENTS (num v 2)) (count-fits 0 TRANSITIONS (num v 3) && count-fits 0 ACTIONS (num v 4)) (b .1) in
-          let d = counted-is 0 EVENTS (num v 2) (c .0) in
-          record { count = ref (num v 2); is = d .1; fits = d .0 }
+          both (count-fits 0 EVENTS (num v 2)) (count-fits 0 TRANSITIONS (num v 3) && count-fits 0 ACTIONS (num v 4)) (b .1) .0

@@ -11,27 +11,27 @@ use lib.ListN.{length}
 use borrow.Author.Tests.{eqb-true, leb-true, le-leb, lt-leb}
 use Rattle.sizes.specs.Sizes.{STATES, VARIABLES, TRANSITIONS, ACTIONS, TEXT}
 use Rattle.meaning.specs.Lists.{map-from}
-use Rattle.meaning.specs.Value.{Rows, STATE-ROW, VAR-ROW, TRANS-ROW, ACT-ROW, state-statable, var-statable, trans-statable, action-statable}
+use Rattle.meaning.specs.Value.{Rows, num, STATE-ROW, VAR-ROW, TRANS-ROW, ACT-ROW, state-statable, var-statable, trans-statable, action-statable}
 use Rattle.meaning.specs.Split.{LF, fields, lines, tails, ended}
-use Rattle.meaning.specs.Line.{Line, Record, s-record, v-record, e-record, t-record, a-record, no-record, letter-of, field, record-by, in-order, stage-after}
-use Rattle.meaning.specs.Line.{line-by, line-in-order, line-of, s-line, v-line, e-line, t-line, a-line, s-text, v-text, e-text, t-text, a-text}
+use Rattle.meaning.specs.Grammar.{Record, s-record, v-record, e-record, t-record, a-record, no-record, name, record-by}
+use Rattle.meaning.specs.Line.{Line, letter-of, field, in-order, stage-after, turn-of, line-by, line-in-order, line-of, text-of-row}
 use Rattle.meaning.specs.Text.{done, refused, Walk, start, turns-of, with-row, taken, further, record-of, ending, walk, no-rows, read-unless, read-text, text-by}
 use Rattle.meaning.specs.declared.Turns.{Turns}
 use Rattle.round_trip.proofs.Numbers.{no}
 use Rattle.round_trip.proofs.Splits.{glued, glued-lines, ended-append}
-use Rattle.round_trip.proofs.Cells.{Good, zero-good}
-use Rattle.round_trip.proofs.LinesKept.{RowKept, EventsKept, s-kept, v-kept, e-kept, t-kept, a-kept}
-use Rattle.round_trip.proofs.Shaped.{Shaped, map-from-more, no-states, none-of, no-events, fitting-from-more, fitting-more}
+use Rattle.round_trip.proofs.Fields.{Good, zero-good}
+use Rattle.round_trip.proofs.Records.{RowKept, row-kept}
+use Rattle.round_trip.proofs.Shaped.{Shaped, map-from-more, no-states, none-of, fitting-from-more, fitting-more}
 
 -- ---- lines so far, and the stages
 
 abbrev e-part : ℕ → ℤ → List (List ℕ)
-e-part stage events = cond (leb 2 stage) (e-text events ∷ []) []
+e-part stage events = cond (leb 2 stage) (text-of-row e-record 0 (events ∷ []) ∷ []) []
 
 abbrev lines-of : ℕ → Rows → List (List ℕ)
 lines-of stage r =
-    map-from s-text 0 (r .states) ++ (map-from v-text 0 (r .vars) ++ (e-part stage (r .events)
-    ++ (map-from t-text 0 (r .transitions) ++ map-from (λ n row. a-text row) 0 (r .actions))))
+    map-from (text-of-row s-record) 0 (r .states) ++ (map-from (text-of-row v-record) 0 (r .vars) ++ (e-part stage (r .events)
+    ++ (map-from (text-of-row t-record) 0 (r .transitions) ++ map-from (text-of-row a-record) 0 (r .actions))))
 
 -- what the stage says of the rows: nothing of a later kind stands there yet
 record Staged (w : Walk) : Type 0 where
@@ -55,8 +55,14 @@ from-none f k xs e = rw e
 early : (stage : ℕ) (z : ℤ) → stage ≤ 1 → e-part stage z ≡ []
 early stage z h = rw (lt-leb 2 stage (omega arith))
 
-late : (stage : ℕ) (z : ℤ) → 2 ≤ stage → e-part stage z ≡ e-text z ∷ []
+late : (stage : ℕ) (z : ℤ) → 2 ≤ stage → e-part stage z ≡ text-of-row e-record 0 (z ∷ []) ∷ []
 late stage z h = rw (le-leb 2 stage h)
+
+-- the one number of an E row
+one-number : (x : List ℤ) → length x ≡ 1 → x ≡ num x 0 ∷ []
+one-number [] e = no cc
+one-number (z ∷ []) e = refl
+one-number (z ∷ y ∷ x) e = absurd (omega arith)
 
 -- ---- one more line of each kind
 
@@ -64,20 +70,20 @@ module _ (w : Walk) (s : Sound w) (l : List ℕ) (x : List ℤ) where
   abbrev rs : Rows
   rs = w .rows
 
-  s-step : w .stage ≡ 0 → RowKept (s-text (length (rs .states)) x) l (state-statable (length (rs .states)) x) x STATE-ROW (length (rs .states)) STATES
+  s-step : w .stage ≡ 0 → RowKept s-record (length (rs .states)) l x
       → Step w l (taken s-record x w)
-  unfolding with-row stage-after
+  unfolding with-row stage-after state-statable
   s-step o k = record {
     more =
         let n : 0 + length (rs .states) ≡ length (rs .states) = omega arith in
         rw (
-          from-none v-text 0 (rs .vars) (s .staged .no-vars o),
-          from-none t-text 0 (rs .transitions) (s .staged .no-transitions (omega arith)),
-          from-none (λ n row. a-text row) 0 (rs .actions) (s .staged .no-actions (omega arith)),
+          from-none (text-of-row v-record) 0 (rs .vars) (s .staged .no-vars o),
+          from-none (text-of-row t-record) 0 (rs .transitions) (s .staged .no-transitions (omega arith)),
+          from-none (text-of-row a-record) 0 (rs .actions) (s .staged .no-actions (omega arith)),
           early (w .stage) (rs .events) (omega arith),
           append-nil,
           append-nil,
-          map-from-more s-text 0 (rs .states) x,
+          map-from-more (text-of-row s-record) 0 (rs .states) x,
           n,
           k .same,
         );
@@ -97,18 +103,18 @@ module _ (w : Walk) (s : Sound w) (l : List ℕ) (x : List ℤ) where
     };
   }
 
-  v-step : w .stage ≤ 1 → RowKept (v-text (length (rs .vars)) x) l (var-statable x) x VAR-ROW (length (rs .vars)) VARIABLES → Step w l (taken v-record x w)
-  unfolding with-row stage-after
+  v-step : w .stage ≤ 1 → RowKept v-record (length (rs .vars)) l x → Step w l (taken v-record x w)
+  unfolding with-row stage-after var-statable
   v-step o k = record {
     more =
         let n : 0 + length (rs .vars) ≡ length (rs .vars) = omega arith in
         rw (
-          from-none t-text 0 (rs .transitions) (s .staged .no-transitions o),
-          from-none (λ n row. a-text row) 0 (rs .actions) (s .staged .no-actions (omega arith)),
+          from-none (text-of-row t-record) 0 (rs .transitions) (s .staged .no-transitions o),
+          from-none (text-of-row a-record) 0 (rs .actions) (s .staged .no-actions (omega arith)),
           early (w .stage) (rs .events) o,
           append-nil,
           append-nil,
-          map-from-more v-text 0 (rs .vars) x,
+          map-from-more (text-of-row v-record) 0 (rs .vars) x,
           n,
           k .same,
           append-assoc,
@@ -129,15 +135,16 @@ module _ (w : Walk) (s : Sound w) (l : List ℕ) (x : List ℤ) where
     };
   }
 
-  e-step : w .stage ≤ 1 → EventsKept l x → Step w l (taken e-record x w)
+  e-step : w .stage ≤ 1 → RowKept e-record 0 l x → Step w l (taken e-record x w)
   unfolding with-row stage-after
   e-step o k = record {
     more =
         rw (
-          from-none t-text 0 (rs .transitions) (s .staged .no-transitions o),
-          from-none (λ n row. a-text row) 0 (rs .actions) (s .staged .no-actions (omega arith)),
+          from-none (text-of-row t-record) 0 (rs .transitions) (s .staged .no-transitions o),
+          from-none (text-of-row a-record) 0 (rs .actions) (s .staged .no-actions (omega arith)),
           early (w .stage) (rs .events) o,
           append-nil,
+          ← one-number x (k .long),
           k .same,
           append-assoc,
         );
@@ -145,7 +152,7 @@ module _ (w : Walk) (s : Sound w) (l : List ℕ) (x : List ℤ) where
       shaped = record {
         states = s .shaped .states;
         vars = s .shaped .vars;
-        events = record { count = k .count; is = k .is; fits = k .fits };
+        events = k .ok;
         transitions = s .shaped .transitions;
         actions = s .shaped .actions;
       };
@@ -157,18 +164,18 @@ module _ (w : Walk) (s : Sound w) (l : List ℕ) (x : List ℤ) where
     };
   }
 
-  t-step : w .stage ≡ 2 → RowKept (t-text (length (rs .transitions)) x) l (trans-statable x) x TRANS-ROW (length (rs .transitions)) TRANSITIONS
+  t-step : w .stage ≡ 2 → RowKept t-record (length (rs .transitions)) l x
       → Step w l (taken t-record x w)
-  unfolding with-row stage-after
+  unfolding with-row stage-after trans-statable
   t-step o k = record {
     more =
         let n : 0 + length (rs .transitions) ≡ length (rs .transitions) = omega arith in
         rw (
-          from-none (λ n row. a-text row) 0 (rs .actions) (s .staged .no-actions (omega arith)),
+          from-none (text-of-row a-record) 0 (rs .actions) (s .staged .no-actions (omega arith)),
           late (w .stage) (rs .events) (omega arith),
           append-nil,
           append-nil,
-          map-from-more t-text 0 (rs .transitions) x,
+          map-from-more (text-of-row t-record) 0 (rs .transitions) x,
           n,
           k .same,
         ) (simp append-assoc);
@@ -188,13 +195,15 @@ module _ (w : Walk) (s : Sound w) (l : List ℕ) (x : List ℤ) where
     };
   }
 
-  a-step : 2 ≤ w .stage → RowKept (a-text x) l (action-statable x) x ACT-ROW (length (rs .actions)) ACTIONS → Step w l (taken a-record x w)
-  unfolding with-row stage-after
+  a-step : 2 ≤ w .stage → RowKept a-record (length (rs .actions)) l x → Step w l (taken a-record x w)
+  unfolding with-row stage-after action-statable
   a-step o k = record {
     more =
+        let n : 0 + length (rs .actions) ≡ length (rs .actions) = omega arith in
         rw (
           late (w .stage) (rs .events) o,
-          map-from-more (λ n row. a-text row) 0 (rs .actions) x,
+          map-from-more (text-of-row a-record) 0 (rs .actions) x,
+          n,
           k .same,
         ) (simp append-assoc);
     sound = record {
@@ -217,11 +226,11 @@ module _ (w : Walk) (s : Sound w) (l : List ℕ) (x : List ℤ) where
 
 -- the letter of a record
 abbrev Named : ℕ → Record → Type 0
-Named x s-record = x ≡ 83
-Named x v-record = x ≡ 86
-Named x e-record = x ≡ 69
-Named x t-record = x ≡ 84
-Named x a-record = x ≡ 65
+Named x s-record = x ≡ name s-record
+Named x v-record = x ≡ name v-record
+Named x e-record = x ≡ name e-record
+Named x t-record = x ≡ name t-record
+Named x a-record = x ≡ name a-record
 Named x no-record = Unit
 
 named : (x : ℕ) → Named x (record-by x)
@@ -245,18 +254,14 @@ module _ (w : Walk) (s : Sound w) (l : List ℕ) where
   StepBy k x = Step w l (taken k (x .row) w)
 
   in-order-kept : (k : Record) (b : Bool) → in-order (w .stage) k ≡ b → Named (letter-of (field (fields l) 0)) k
-      → Good (line-in-order b k turns (fields l) .mark) → StepBy k (line-in-order b k turns (fields l))
-  unfolding in-order line-by turns-of
+      → Good (line-in-order b k (turn-of k turns) (fields l) .mark) → StepBy k (line-in-order b k (turn-of k turns) (fields l))
+  unfolding in-order turns-of
   in-order-kept k false o n g = absurd (g .right refl)
-  in-order-kept s-record true o n g =
-      s-step w s l (s-line (turns .states) (fields l) .row) (eqb-true (w .stage) 0 o) (s-kept (turns .states) l n g)
-  in-order-kept v-record true o n g =
-      v-step w s l (v-line (turns .vars) (fields l) .row) (leb-true (w .stage) 1 o) (v-kept (turns .vars) l n g)
-  in-order-kept e-record true o n g = e-step w s l (e-line (fields l) .row) (leb-true (w .stage) 1 o) (e-kept l n g)
-  in-order-kept t-record true o n g =
-      t-step w s l (t-line (turns .transitions) (fields l) .row) (eqb-true (w .stage) 2 o) (t-kept (turns .transitions) l n g)
-  in-order-kept a-record true o n g =
-      a-step w s l (a-line (turns .actions) (fields l) .row) (leb-true 2 (w .stage) o) (a-kept (turns .actions) l n g)
+  in-order-kept s-record true o n g = s-step w s l _ (eqb-true (w .stage) 0 o) (row-kept s-record (turns .states) l n g)
+  in-order-kept v-record true o n g = v-step w s l _ (leb-true (w .stage) 1 o) (row-kept v-record (turns .vars) l n g)
+  in-order-kept e-record true o n g = e-step w s l _ (leb-true (w .stage) 1 o) (row-kept e-record 0 l n g)
+  in-order-kept t-record true o n g = t-step w s l _ (eqb-true (w .stage) 2 o) (row-kept t-record (turns .transitions) l n g)
+  in-order-kept a-record true o n g = a-step w s l _ (leb-true 2 (w .stage) o) (row-kept a-record (turns .actions) l n g)
   in-order-kept no-record true o n g = absurd (false≢true o)
 
   line-kept : Good (line-of (record-of (fields l)) turns (fields l) .mark) → StepBy (record-of (fields l)) (line-of (record-of (fields l)) turns (fields l))
@@ -316,7 +321,7 @@ start-sound = record {
   shaped = record {
     states = no-states;
     vars = none-of var-statable VAR-ROW VARIABLES;
-    events = no-events;
+    events = refl;
     transitions = none-of trans-statable TRANS-ROW TRANSITIONS;
     actions = none-of action-statable ACT-ROW ACTIONS;
   };

@@ -3,21 +3,21 @@
 use mathlib.Core.Path.{_≡_, refl, sym, ap, _∙_, subst}
 use mathlib.Core.Bool.{Bool, true}
 use mathlib.Core.List.{List, [], _∷_, _++_, append-assoc, append-nil}
-use Prim.Native.Nat.{ℕ, suc, _+_, _≤_, _<_}
+use Prim.Native.Nat.{ℕ, zero, suc, _+_, _≤_, _<_}
 use native.Mathlib.Omega.{arith}
 use lib.IntN.{ℤ, pos}
 use lib.ListN.{length, length-append}
 use borrow.Author.Tests.{eq-eqb, le-leb, le-ltb}
 use Rattle.sizes.specs.Sizes.{STATES, VARIABLES, EVENTS, TRANSITIONS, ACTIONS, TEXT}
 use Rattle.meaning.specs.Lists.{every, every-from, map-from}
-use Rattle.meaning.specs.Value.{Rows, STATE-ROW, VAR-ROW, TRANS-ROW, ACT-ROW, state-statable, var-statable, trans-statable, action-statable}
+use Rattle.meaning.specs.Value.{Rows, count-fits, STATE-ROW, VAR-ROW, TRANS-ROW, ACT-ROW, state-statable, var-statable, trans-statable, action-statable}
 use Rattle.meaning.specs.Split.{LF, fields, lines, ended}
-use Rattle.meaning.specs.Line.{in-order, stage-after, line-by, line-of, s-text, v-text, e-text, t-text, a-text}
+use Rattle.meaning.specs.Grammar.{s-record, v-record, e-record, t-record, a-record, record-by}
+use Rattle.meaning.specs.Line.{in-order, stage-after, line-of, text-of-row}
 use Rattle.meaning.specs.Text.{Outcome, done, Walk, start, turns-of, with-row, line-taken, ending, walk, read-text, text-by}
 use Rattle.round_trip.proofs.Splits.{Free, AllFree, AllShort, all-free-append, lines-ended, ended-append, ended-length}
-use Rattle.round_trip.proofs.Cells.{both}
-use Rattle.round_trip.proofs.LinesRead.{s-free, s-short, s-named, s-reads, v-free, v-short, v-named, v-reads, e-free, e-short, e-named, e-reads, a-free, a-short, a-named, a-reads}
-use Rattle.round_trip.proofs.TransRead.{t-free, t-short, t-named, t-reads}
+use Rattle.round_trip.proofs.Fields.{both}
+use Rattle.round_trip.proofs.Records.{row-free, row-short, row-named, row-reads}
 use Rattle.round_trip.proofs.Shaped.{Shaped, Fitting, AllLong}
 
 -- ---- lines that are taken
@@ -123,32 +123,69 @@ abbrev ARow : ℕ → List ℤ → Type 0
 ARow = Row (λ _ x. action-statable x) ACT-ROW ACTIONS
 
 s-goes : (vs ts qs : List (List ℤ)) (z : ℤ) (stage : ℕ) (acc : List (List ℤ)) (x : List ℤ) → stage ≡ 0 → SRow (length acc) x
-    → Goes (at stage acc vs z ts qs) (s-text (length acc) x) (at 0 (acc ++ (x ∷ [])) vs z ts qs)
-unfolding line-of in-order line-by turns-of with-row stage-after
+    → Goes (at stage acc vs z ts qs) (text-of-row s-record (length acc) x) (at 0 (acc ++ (x ∷ [])) vs z ts qs)
+unfolding line-of in-order turns-of with-row stage-after record-by state-statable
 s-goes vs ts qs z stage acc x o r n more =
-    rw (s-named (length acc) x (r .ok) (r .fits), eq-eqb stage 0 o, s-reads (length acc) x (r .ok) (r .fits) (r .long))
+    rw (row-named s-record (length acc) x (r .ok) (r .fits), eq-eqb stage 0 o, row-reads s-record (length acc) x (r .ok) (r .fits) (r .long))
 
 v-goes : (ss ts qs : List (List ℤ)) (z : ℤ) (stage : ℕ) (acc : List (List ℤ)) (x : List ℤ) → stage ≤ 1 → VRow (length acc) x
-    → Goes (at stage ss acc z ts qs) (v-text (length acc) x) (at 1 ss (acc ++ (x ∷ [])) z ts qs)
-unfolding line-of in-order line-by turns-of with-row stage-after
+    → Goes (at stage ss acc z ts qs) (text-of-row v-record (length acc) x) (at 1 ss (acc ++ (x ∷ [])) z ts qs)
+unfolding line-of in-order turns-of with-row stage-after record-by var-statable
 v-goes ss ts qs z stage acc x o r n more =
-    rw (v-named (length acc) x (r .ok) (r .fits), le-leb stage 1 o, v-reads (length acc) x (r .ok) (r .fits) (r .long))
+    rw (row-named v-record (length acc) x (r .ok) (r .fits), le-leb stage 1 o, row-reads v-record (length acc) x (r .ok) (r .fits) (r .long))
 
-e-goes : (ss vs ts qs : List (List ℤ)) (z : ℤ) (stage m : ℕ) → stage ≤ 1 → m ≤ EVENTS → Goes (at stage ss vs z ts qs) (e-text (pos m)) (at 2 ss vs (pos m) ts qs)
-unfolding line-of in-order line-by turns-of with-row stage-after
-e-goes ss vs ts qs z stage m o h n more = rw (e-named m h, le-leb stage 1 o, e-reads m h)
+e-goes : (ss vs ts qs : List (List ℤ)) (z y : ℤ) (stage : ℕ) → stage ≤ 1 → count-fits 0 EVENTS y ≡ true
+    → Goes (at stage ss vs z ts qs) (text-of-row e-record 0 (y ∷ [])) (at 2 ss vs y ts qs)
+unfolding line-of in-order turns-of with-row stage-after record-by
+e-goes ss vs ts qs z y stage o h n more =
+    rw (row-named e-record 0 (y ∷ []) h (omega arith), le-leb stage 1 o, row-reads e-record 0 (y ∷ []) h (omega arith) refl)
 
 t-goes : (ss vs qs : List (List ℤ)) (z : ℤ) (stage : ℕ) (acc : List (List ℤ)) (x : List ℤ) → stage ≡ 2 → TRow (length acc) x
-    → Goes (at stage ss vs z acc qs) (t-text (length acc) x) (at 2 ss vs z (acc ++ (x ∷ [])) qs)
-unfolding line-of in-order line-by turns-of with-row stage-after
+    → Goes (at stage ss vs z acc qs) (text-of-row t-record (length acc) x) (at 2 ss vs z (acc ++ (x ∷ [])) qs)
+unfolding line-of in-order turns-of with-row stage-after record-by trans-statable
 t-goes ss vs qs z stage acc x o r n more =
-    rw (t-named (length acc) x (r .ok) (r .fits), eq-eqb stage 2 o, t-reads (length acc) x (r .ok) (r .fits) (r .long))
+    rw (row-named t-record (length acc) x (r .ok) (r .fits), eq-eqb stage 2 o, row-reads t-record (length acc) x (r .ok) (r .fits) (r .long))
 
 a-goes : (ss vs ts : List (List ℤ)) (z : ℤ) (stage : ℕ) (acc : List (List ℤ)) (x : List ℤ) → 2 ≤ stage → ARow (length acc) x
-    → Goes (at stage ss vs z ts acc) (a-text x) (at 3 ss vs z ts (acc ++ (x ∷ [])))
-unfolding line-of in-order line-by turns-of with-row stage-after
+    → Goes (at stage ss vs z ts acc) (text-of-row a-record (length acc) x) (at 3 ss vs z ts (acc ++ (x ∷ [])))
+unfolding line-of in-order turns-of with-row stage-after record-by action-statable
 a-goes ss vs ts z stage acc x o r n more =
-    rw (a-named (length acc) x (r .ok) (r .fits), le-leb 2 stage o, a-reads (length acc) x (r .ok) (r .fits) (r .long))
+    rw (row-named a-record (length acc) x (r .ok) (r .fits), le-leb 2 stage o, row-reads a-record (length acc) x (r .ok) (r .fits) (r .long))
+
+-- ---- free of LF, and short: lines of S and V have at most 49 bytes, of E 13, of T 76, of A 41
+
+s-free : (k : ℕ) (x : List ℤ) → SRow k x → Free LF (text-of-row s-record k x)
+unfolding state-statable
+s-free k x r = row-free s-record k x (r .ok) (r .fits)
+
+v-free : (k : ℕ) (x : List ℤ) → VRow k x → Free LF (text-of-row v-record k x)
+unfolding var-statable
+v-free k x r = row-free v-record k x (r .ok) (r .fits)
+
+t-free : (k : ℕ) (x : List ℤ) → TRow k x → Free LF (text-of-row t-record k x)
+unfolding trans-statable
+t-free k x r = row-free t-record k x (r .ok) (r .fits)
+
+a-free : (k : ℕ) (x : List ℤ) → ARow k x → Free LF (text-of-row a-record k x)
+unfolding action-statable
+a-free k x r = row-free a-record k x (r .ok) (r .fits)
+
+s-short : (k : ℕ) (x : List ℤ) → SRow k x → length (text-of-row s-record k x) ≤ 49
+unfolding state-statable
+s-short zero x r = row-short s-record 0 x (r .ok) (r .fits) 48 refl
+s-short (suc k) x r = row-short s-record (suc k) x (r .ok) (r .fits) 48 refl
+
+v-short : (k : ℕ) (x : List ℤ) → VRow k x → length (text-of-row v-record k x) ≤ 49
+unfolding var-statable
+v-short k x r = row-short v-record k x (r .ok) (r .fits) 48 refl
+
+t-short : (k : ℕ) (x : List ℤ) → TRow k x → length (text-of-row t-record k x) ≤ 92
+unfolding trans-statable
+t-short k x r = row-short t-record k x (r .ok) (r .fits) 91 refl
+
+a-short : (k : ℕ) (x : List ℤ) → ARow k x → length (text-of-row a-record k x) ≤ 61
+unfolding action-statable
+a-short k x r = row-short a-record k x (r .ok) (r .fits) 60 refl
 
 -- ---- all lines
 
@@ -165,29 +202,26 @@ past-same stage [] = refl
 past-same stage (x ∷ xs) = past-same stage xs
 
 module _
-    (ss vs ts qs : List (List ℤ)) (m : ℕ)
-    (fs : AllFine SRow 0 ss) (fv : AllFine VRow 0 vs) (h : m ≤ EVENTS) (ft : AllFine TRow 0 ts) (fa : AllFine ARow 0 qs)
+    (ss vs ts qs : List (List ℤ)) (m : ℤ)
+    (fs : AllFine SRow 0 ss) (fv : AllFine VRow 0 vs) (h : count-fits 0 EVENTS m ≡ true) (ft : AllFine TRow 0 ts) (fa : AllFine ARow 0 qs)
   where
-    abbrev a-line-of : ℕ → List ℤ → List ℕ
-    a-line-of k x = a-text x
-
     abbrev all-lines : List (List ℕ)
-    all-lines = map-from s-text 0 ss ++ (map-from v-text 0 vs ++ (e-text (pos m) ∷ (map-from t-text 0 ts ++ map-from a-line-of 0 qs)))
+    all-lines = map-from (text-of-row s-record) 0 ss ++ (map-from (text-of-row v-record) 0 vs ++ (text-of-row e-record 0 (m ∷ []) ∷ (map-from (text-of-row t-record) 0 ts ++ map-from (text-of-row a-record) 0 qs)))
 
     abbrev v-past : ℕ
     v-past = stage-past 1 (stage-past 0 0 ss) vs
 
-    all-reads : Reads start all-lines (at (stage-past 3 (stage-past 2 2 ts) qs) ss vs (pos m) ts qs)
+    all-reads : Reads start all-lines (at (stage-past 3 (stage-past 2 2 ts) qs) ss vs m ts qs)
     all-reads =
         let s0 : stage-past 0 0 ss ≤ 1 = past-below 0 0 ss 1 (omega arith) (omega arith) in
         let s2 : 2 ≤ stage-past 2 2 ts = past-above 2 2 ts 2 (omega arith) (omega arith) in
-        then (fine-reads s-text SRow (λ st acc. at st acc [] (pos 0) [] []) (λ st. st ≡ 0) 0 refl (s-goes [] [] [] (pos 0)) 0 [] ss 0 refl refl fs)
-        (then (fine-reads v-text VRow (λ st acc. at st ss acc (pos 0) [] []) (λ st. st ≤ 1) 1 (omega arith) (v-goes ss [] [] (pos 0)) (stage-past 0 0 ss) [] vs 0 refl s0 fv)
-        (one (e-goes ss vs [] [] (pos 0) v-past m (past-below 1 (stage-past 0 0 ss) vs 1 (omega arith) s0) h)
-        (then (fine-reads t-text TRow (λ st acc. at st ss vs (pos m) acc []) (λ st. st ≡ 2) 2 refl (t-goes ss vs [] (pos m)) 2 [] ts 0 refl refl ft)
-        (fine-reads a-line-of ARow (λ st acc. at st ss vs (pos m) ts acc) (λ st. 2 ≤ st) 3 (omega arith) (a-goes ss vs ts (pos m)) (stage-past 2 2 ts) [] qs 0 refl s2 fa))))
+        then (fine-reads (text-of-row s-record) SRow (λ st acc. at st acc [] (pos 0) [] []) (λ st. st ≡ 0) 0 refl (s-goes [] [] [] (pos 0)) 0 [] ss 0 refl refl fs)
+        (then (fine-reads (text-of-row v-record) VRow (λ st acc. at st ss acc (pos 0) [] []) (λ st. st ≤ 1) 1 (omega arith) (v-goes ss [] [] (pos 0)) (stage-past 0 0 ss) [] vs 0 refl s0 fv)
+        (one (e-goes ss vs [] [] (pos 0) m v-past (past-below 1 (stage-past 0 0 ss) vs 1 (omega arith) s0) h)
+        (then (fine-reads (text-of-row t-record) TRow (λ st acc. at st ss vs m acc []) (λ st. st ≡ 2) 2 refl (t-goes ss vs [] m) 2 [] ts 0 refl refl ft)
+        (fine-reads (text-of-row a-record) ARow (λ st acc. at st ss vs m ts acc) (λ st. 2 ≤ st) 3 (omega arith) (a-goes ss vs ts m) (stage-past 2 2 ts) [] qs 0 refl s2 fa))))
 
-    all-walked : walk 1 start (all-lines ++ ([] ∷ [])) ≡ done (record { states = ss; vars = vs; events = pos m; transitions = ts; actions = qs })
+    all-walked : walk 1 start (all-lines ++ ([] ∷ [])) ≡ done (record { states = ss; vars = vs; events = m; transitions = ts; actions = qs })
     all-walked =
         let s2 : 2 ≤ stage-past 2 2 ts = past-above 2 2 ts 2 (omega arith) (omega arith) in
         walk-reads 1 all-reads ∙ rw (le-leb 2 (stage-past 3 (stage-past 2 2 ts) qs) (past-above 3 (stage-past 2 2 ts) qs 2 (omega arith) s2))
@@ -195,28 +229,28 @@ module _
     all-free : AllFree LF all-lines
     unfolding AllFree
     all-free =
-        all-free-append LF (map-from s-text 0 ss) (map-from v-text 0 vs ++ (e-text (pos m) ∷ (map-from t-text 0 ts ++ map-from a-line-of 0 qs)))
-        (fine-free s-text SRow (λ k x r. s-free k x (r .ok) (r .fits)) 0 ss fs)
-        (all-free-append LF (map-from v-text 0 vs) (e-text (pos m) ∷ (map-from t-text 0 ts ++ map-from a-line-of 0 qs))
-        (fine-free v-text VRow (λ k x r. v-free k x (r .ok) (r .fits)) 0 vs fv) (
-          e-free m h,
-          all-free-append LF (map-from t-text 0 ts) (map-from a-line-of 0 qs)
-              (fine-free t-text TRow (λ k x r. t-free k x (r .ok) (r .fits)) 0 ts ft) (fine-free a-line-of ARow (λ k x r. a-free k x (r .ok) (r .fits)) 0 qs fa),
+        all-free-append LF (map-from (text-of-row s-record) 0 ss) (map-from (text-of-row v-record) 0 vs ++ (text-of-row e-record 0 (m ∷ []) ∷ (map-from (text-of-row t-record) 0 ts ++ map-from (text-of-row a-record) 0 qs)))
+        (fine-free (text-of-row s-record) SRow s-free 0 ss fs)
+        (all-free-append LF (map-from (text-of-row v-record) 0 vs) (text-of-row e-record 0 (m ∷ []) ∷ (map-from (text-of-row t-record) 0 ts ++ map-from (text-of-row a-record) 0 qs))
+        (fine-free (text-of-row v-record) VRow v-free 0 vs fv) (
+          row-free e-record 0 (m ∷ []) h (omega arith),
+          all-free-append LF (map-from (text-of-row t-record) 0 ts) (map-from (text-of-row a-record) 0 qs)
+              (fine-free (text-of-row t-record) TRow t-free 0 ts ft) (fine-free (text-of-row a-record) ARow a-free 0 qs fa),
         ))
 
     -- how long they are: lines of S and V have at most 49 bytes, of E 13, of T 92, of A 61
     all-short : length ss ≤ STATES → length vs ≤ VARIABLES → length ts ≤ TRANSITIONS → length qs ≤ ACTIONS → length (ended all-lines) ≤ TEXT
     unfolding ended
     all-short ls lv lt la =
-        let s = ended-length 49 (map-from s-text 0 ss) (fine-short s-text SRow 49 (λ k x r. s-short k x (r .ok) (r .fits)) 0 ss fs) in
-        let v = ended-length 49 (map-from v-text 0 vs) (fine-short v-text VRow 49 (λ k x r. v-short k x (r .ok) (r .fits)) 0 vs fv) in
-        let e = e-short m h in
-        let t = ended-length 92 (map-from t-text 0 ts) (fine-short t-text TRow 92 (λ k x r. t-short k x (r .ok) (r .fits)) 0 ts ft) in
-        let a = ended-length 61 (map-from a-line-of 0 qs) (fine-short a-line-of ARow 61 (λ k x r. a-short k x (r .ok) (r .fits)) 0 qs fa) in
-        let s′ = length-from s-text 0 ss in
-        let v′ = length-from v-text 0 vs in
-        let t′ = length-from t-text 0 ts in
-        let a′ = length-from a-line-of 0 qs in
+        let s = ended-length 49 (map-from (text-of-row s-record) 0 ss) (fine-short (text-of-row s-record) SRow 49 s-short 0 ss fs) in
+        let v = ended-length 49 (map-from (text-of-row v-record) 0 vs) (fine-short (text-of-row v-record) VRow 49 v-short 0 vs fv) in
+        let e = row-short e-record 0 (m ∷ []) h (omega arith) 12 refl in
+        let t = ended-length 92 (map-from (text-of-row t-record) 0 ts) (fine-short (text-of-row t-record) TRow 92 t-short 0 ts ft) in
+        let a = ended-length 61 (map-from (text-of-row a-record) 0 qs) (fine-short (text-of-row a-record) ARow 61 a-short 0 qs fa) in
+        let s′ = length-from (text-of-row s-record) 0 ss in
+        let v′ = length-from (text-of-row v-record) 0 vs in
+        let t′ = length-from (text-of-row t-record) 0 ts in
+        let a′ = length-from (text-of-row a-record) 0 qs in
         simp (ended-append, length-append) (omega arith)
 
 -- ---- the text
@@ -228,44 +262,31 @@ fine-rows : (p : List ℤ → Bool) (size most : ℕ) (xs : List (List ℤ)) →
 fine-rows p size most xs f = let k = f .few in fine-every p size most 0 xs (f .ok) (f .long) (omega arith)
 
 -- rows that a text can state: their text is never too long, and it reads as those rows
-pub text-short : (r : Rows) → Shaped r → length (text-by r) ≤ TEXT
-unfolding text-by
-text-short r s =
-    subst (λ (z : ℤ). length (ended (map-from s-text 0 (r .states) ++ (map-from v-text 0 (r .vars) ++ (e-text z ∷ (map-from t-text 0 (r .transitions) ++ map-from (λ n row. a-text row) 0 (r .actions)))))) ≤ TEXT)
-    (sym (s .events .is))
-    (all-short (r .states) (r .vars) (r .transitions) (r .actions) (s .events .count)
-    (fine-states (r .states) (s .states)) (fine-rows var-statable VAR-ROW VARIABLES (r .vars) (s .vars)) (s .events .fits)
-    (fine-rows trans-statable TRANS-ROW TRANSITIONS (r .transitions) (s .transitions)) (fine-rows action-statable ACT-ROW ACTIONS (r .actions) (s .actions))
-    (s .states .few) (s .vars .few) (s .transitions .few) (s .actions .few))
+module _ (r : Rows) (s : Shaped r) where
+  fs : AllFine SRow 0 (r .states)
+  fs = fine-states (r .states) (s .states)
 
-abbrev rows-with : Rows → ℤ → Rows
-rows-with r z = record { states = r .states; vars = r .vars; events = z; transitions = r .transitions; actions = r .actions }
+  fv : AllFine VRow 0 (r .vars)
+  fv = fine-rows var-statable VAR-ROW VARIABLES (r .vars) (s .vars)
 
-lines-read : (r : Rows) → Shaped r → walk 1 start (lines (text-by r)) ≡ done r
-unfolding text-by
-lines-read r s = subst (λ (z : ℤ). walk 1 start (lines (text-by (rows-with r z))) ≡ done (rows-with r z)) (sym (s .events .is)) (
-    ap (λ (ls : List (List ℕ)). walk 1 start ls) (lines-ended (all-lines (r .states) (r .vars) (r .transitions) (r .actions) m fs fv h ft fa) (all-free (r .states) (r .vars) (r .transitions) (r .actions) m fs fv h ft fa))
-    ∙ all-walked (r .states) (r .vars) (r .transitions) (r .actions) m fs fv h ft fa
-    )
-  where
-    m : ℕ
-    m = s .events .count
+  ft : AllFine TRow 0 (r .transitions)
+  ft = fine-rows trans-statable TRANS-ROW TRANSITIONS (r .transitions) (s .transitions)
 
-    h : m ≤ EVENTS
-    h = s .events .fits
+  fa : AllFine ARow 0 (r .actions)
+  fa = fine-rows action-statable ACT-ROW ACTIONS (r .actions) (s .actions)
 
-    fs : AllFine SRow 0 (r .states)
-    fs = fine-states (r .states) (s .states)
+  pub text-short : length (text-by r) ≤ TEXT
+  unfolding text-by
+  text-short =
+      all-short (r .states) (r .vars) (r .transitions) (r .actions) (r .events) fs fv (s .events) ft fa
+      (s .states .few) (s .vars .few) (s .transitions .few) (s .actions .few)
 
-    fv : AllFine VRow 0 (r .vars)
-    fv = fine-rows var-statable VAR-ROW VARIABLES (r .vars) (s .vars)
+  lines-read : walk 1 start (lines (text-by r)) ≡ done r
+  unfolding text-by
+  lines-read =
+      ap (λ (ls : List (List ℕ)). walk 1 start ls) (lines-ended (all-lines (r .states) (r .vars) (r .transitions) (r .actions) (r .events) fs fv (s .events) ft fa) (all-free (r .states) (r .vars) (r .transitions) (r .actions) (r .events) fs fv (s .events) ft fa))
+      ∙ all-walked (r .states) (r .vars) (r .transitions) (r .actions) (r .events) fs fv (s .events) ft fa
 
-    ft : AllFine TRow 0 (r .transitions)
-    ft = fine-rows trans-statable TRANS-ROW TRANSITIONS (r .transitions) (s .transitions)
-
-    fa : AllFine ARow 0 (r .actions)
-    fa = fine-rows action-statable ACT-ROW ACTIONS (r .actions) (s .actions)
-
-pub text-reads : (r : Rows) → Shaped r → read-text (text-by r) ≡ done r
-unfolding read-text
-text-reads r s = rw (le-ltb TEXT (length (text-by r)) (text-short r s)) (lines-read r s)
+  pub text-reads : read-text (text-by r) ≡ done r
+  unfolding read-text
+  text-reads = rw (le-ltb TEXT (length (text-by r)) text-short) lines-read

@@ -11,8 +11,10 @@ use lib.ListN.{length, getD, take, drop, drop-of-length-le}
 use lib.Seq.{drop-cons, drop-drop}
 use Rattle.numbers.specs.Range.{inRange}
 use Rattle.meaning.specs.Lists.{chunks}
-use Rattle.meaning.specs.Value.{num, is-letter, one-of-letters, number-if, STATE-ROW, VAR-ROW, TRANS-ROW, ACT-ROW}
-use Rattle.meaning.specs.Value.{state-statable, var-statable, guard-statable, target-statable, trans-statable, action-statable}
+use Rattle.meaning.specs.Value.{num, is-letter, one-of-letters, STATE-ROW, VAR-ROW, TRANS-ROW, ACT-ROW}
+use Rattle.meaning.specs.Value.{state-statable, var-statable, trans-statable, action-statable}
+use Rattle.rules.specs.Clauses.{number-if, guard-statable, target-statable}
+use Rattle.rules.proofs.Clauses.{state-is, trans-is, action-is}
 use Rattle.chart_rows.proofs.Rows.{chunk-at, num-at, num-first}
 
 -- ---- the loop over the letters: those from i on say as much as all
@@ -36,9 +38,8 @@ module _ (v : List ℤ) (b : ℕ) where
   pub state-read : (n : ℕ) → state-statable n (take STATE-ROW (drop b v))
       ≡ number-if (not (eqb n 0)) (getD v b (pos 0))
       && (one-of-letters (111 ∷ 97 ∷ 98 ∷ []) (getD v (b + 1) (pos 0)) && number-if (is-letter 111 (getD v (b + 1) (pos 0))) (getD v (b + 2) (pos 0)))
-  unfolding state-statable
   state-read n =
-      rw (num-first STATE-ROW b v (omega arith), num-at STATE-ROW b v 1 (omega arith), num-at STATE-ROW b v 2 (omega arith))
+      rw (state-is n (take STATE-ROW (drop b v)), num-first STATE-ROW b v (omega arith), num-at STATE-ROW b v 1 (omega arith), num-at STATE-ROW b v 2 (omega arith))
 
   pub var-read : var-statable (take VAR-ROW (drop b v))
       ≡ inRange (getD v b (pos 0)) && (inRange (getD v (b + 1) (pos 0)) && inRange (getD v (b + 2) (pos 0)))
@@ -50,9 +51,9 @@ module _ (v : List ℤ) (b : ℕ) where
       && (inRange (getD v (b + 1) (pos 0))
       && (guard-statable (getD v (b + 2) (pos 0)) (getD v (b + 3) (pos 0)) (getD v (b + 4) (pos 0))
       && target-statable (getD v (b + 5) (pos 0)) (getD v (b + 6) (pos 0))))
-  unfolding trans-statable
   trans-read =
       rw (
+        trans-is (take TRANS-ROW (drop b v)),
         num-first TRANS-ROW b v (omega arith),
         num-at TRANS-ROW b v 1 (omega arith),
         num-at TRANS-ROW b v 2 (omega arith),
@@ -68,9 +69,9 @@ module _ (v : List ℤ) (b : ℕ) where
       && (one-of-letters (115 ∷ 97 ∷ 107 ∷ 113 ∷ 111 ∷ []) (getD v (b + 2) (pos 0))
       && (inRange (getD v (b + 3) (pos 0))
       && number-if (one-of-letters (115 ∷ 97 ∷ 113 ∷ []) (getD v (b + 2) (pos 0))) (getD v (b + 4) (pos 0)))))
-  unfolding action-statable
   action-read =
       rw (
+        action-is (take ACT-ROW (drop b v)),
         num-first ACT-ROW b v (omega arith),
         num-at ACT-ROW b v 1 (omega arith),
         num-at ACT-ROW b v 2 (omega arith),

@@ -1,1 +1,2 @@
 pub mod Family
+pub mod Clauses

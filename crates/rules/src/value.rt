@@ -39,8 +39,9 @@ ghost use Rattle.numbers.specs.Reference.{NOWHERE};
 ghost use Rattle.numbers.specs.Range.{inRange};
 ghost use Rattle.meaning.specs.Lists.{every, every-from};
 ghost use Rattle.meaning.specs.Value.{STATE-ROW, VAR-ROW, TRANS-ROW, ACT-ROW, STATES-AT, VARS-AT, TRANSITIONS-AT, ACTIONS-AT};
-ghost use Rattle.meaning.specs.Value.{num, is-letter, is-absent, one-of-letters, number-if, count-fits, counts-fit, rows-of, rows-statable, rule-0};
-ghost use Rattle.meaning.specs.Value.{state-statable, var-statable, guard-statable, target-statable, trans-statable, action-statable};
+ghost use Rattle.meaning.specs.Value.{num, is-letter, is-absent, one-of-letters, count-fits, counts-fit, rows-of, rows-statable, rule-0};
+ghost use Rattle.meaning.specs.Value.{state-statable, var-statable, trans-statable, action-statable};
+ghost use Rattle.rules.specs.Clauses.{number-if, guard-statable, target-statable};
 
 // Is the number one of these letters?
 fn one_of_letters(letters: &[u8], z: i32) -> bool

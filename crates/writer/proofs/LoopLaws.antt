@@ -1,6 +1,6 @@
 -- Laws of the loops over a chart's rows: what is still to be put from row i on, the rows by their numbers, and what a row that is put
 -- keeps. In the order: what is left; rows of a value that keeps R0; all kinds together. Assumes nothing.
-use mathlib.Core.Path.{_≡_, sym, ap, _∙_}
+use mathlib.Core.Path.{_≡_, refl, sym, ap, _∙_}
 use mathlib.Core.Bool.{Bool, true}
 use mathlib.Core.List.{List, [], _∷_, _++_, append-assoc}
 use Prim.Native.Nat.{ℕ, zero, suc, _+_, _*_, _≤_, _<_}
@@ -12,19 +12,22 @@ use lib.Seq.{drop-cons, drop-drop}
 use Rattle.sizes.specs.Sizes.{STATES, VARIABLES, TRANSITIONS, ACTIONS}
 use Rattle.meaning.specs.Lists.{every, every-from, chunks, map-from}
 use Rattle.meaning.specs.Value.{num, STATE-ROW, VAR-ROW, TRANS-ROW, ACT-ROW, STATES-AT, VARS-AT, TRANSITIONS-AT, ACTIONS-AT}
-use Rattle.meaning.specs.Value.{state-statable, trans-statable, action-statable, state-by, var-by, trans-by, action-by, size-by, rows-of, chart-by, chart-of, rule-0}
+use Rattle.meaning.specs.Value.{state-statable, var-statable, trans-statable, action-statable, state-by, var-by, trans-by, action-by, size-by, rows-of, chart-by, chart-of, rule-0}
 use Rattle.meaning.specs.Split.{LF, ended}
-use Rattle.meaning.specs.Line.{s-text, v-text, e-text, t-text, a-text}
+use Rattle.writer.specs.Texts.{s-text, v-text, e-text, t-text, a-text}
 use Rattle.meaning.specs.Text.{text-by, text-of}
 use Rattle.chart_rows.proofs.Rows.{chunk-at, length-chunks}
-use Rattle.round_trip.proofs.Cells.{both}
+use Rattle.round_trip.proofs.Fields.{both}
 use Rattle.round_trip.proofs.Splits.{ended-append}
 use Rattle.round_trip.proofs.Values.{value-shaped}
+use Rattle.meaning.specs.Grammar.{s-record, v-record, e-record, t-record, a-record}
+use Rattle.meaning.specs.Line.{text-of-row}
 use Rattle.pen.specs.Pen.{Pen, put-all}
 use Rattle.writer.specs.Letters.{IsLetter}
 use Rattle.writer.specs.Row.{row-in, with-lf}
 use Rattle.pen.proofs.Laws.{all-append}
 use Rattle.writer.proofs.LetterLaws.{state-letter, trans-letter, action-letters}
+use Rattle.writer.proofs.TextLaws.{s-same, v-same, e-same, t-same, a-same, rows-same-from, rows-same}
 
 -- ---- what is left
 
@@ -124,6 +127,10 @@ module _ (v : List ℤ) where
           let k = s .few in
           (omega arith, rw (← actions-at h) (action-letters (getD (rows-of v .actions) i []) (every-at action-statable (rows-of v .actions) i h (s .ok))))
 
+events-at : (v : List ℤ) → rows-of v .events ≡ num v 2
+unfolding rows-of
+events-at v = refl
+
 -- ---- all kinds together
 
 -- bytes put behind others
@@ -141,11 +148,22 @@ kinds-put ss vs ts qs ev p p0 p1 p2 p3 r e0 e1 e2 e3 e =
     ∙ put-behind (ended ss) (ended vs ++ (with-lf ev ++ (ended ts ++ ended qs))) p p0 e0
     ∙ ap (λ (l : List ℕ). put-all l p) (sym (rw (ended-append ss (vs ++ (ev ∷ (ts ++ qs))), ended-append vs (ev ∷ (ts ++ qs)), ended-append ts qs, append-assoc ev (LF ∷ []) (ended ts ++ ended qs))))
 
-pub chart-put : (v : List ℤ) (p p0 p1 p2 p3 r : Pen)
+pub chart-put : (v : List ℤ) → rule-0 v ≡ true → (p p0 p1 p2 p3 r : Pen)
     → p0 ≡ put-all (ended (map-from s-text 0 (rows-of v .states))) p → p1 ≡ put-all (ended (map-from v-text 0 (rows-of v .vars))) p0
     → p2 ≡ put-all (with-lf (e-text (num v 2))) p1 → p3 ≡ put-all (ended (map-from t-text 0 (rows-of v .transitions))) p2
     → r ≡ put-all (ended (map-from (λ n row. a-text row) 0 (rows-of v .actions))) p3 → r ≡ put-all (text-of v) p
-unfolding text-of text-by rows-of
-chart-put v p p0 p1 p2 p3 r e0 e1 e2 e3 e =
+unfolding text-of text-by
+chart-put v keeps p p0 p1 p2 p3 r e0 e1 e2 e3 e =
+    let s = value-shaped v keeps in
     kinds-put (map-from s-text 0 (rows-of v .states)) (map-from v-text 0 (rows-of v .vars)) (map-from t-text 0 (rows-of v .transitions))
     (map-from (λ n row. a-text row) 0 (rows-of v .actions)) (e-text (num v 2)) p p0 p1 p2 p3 r e0 e1 e2 e3 e
+    ∙ ap (λ (l : List (List ℕ)). put-all (ended l) p) (
+    rw (
+      ← rows-same-from (text-of-row s-record) s-text state-statable s-same 0 (rows-of v .states) (s .states .ok),
+      ← rows-same (text-of-row v-record) v-text var-statable (λ n row _. v-same n row) 0 (rows-of v .vars) (s .vars .ok),
+      ← e-same (num v 2),
+      ← rows-same (text-of-row t-record) t-text trans-statable t-same 0 (rows-of v .transitions) (s .transitions .ok),
+      ← rows-same (text-of-row a-record) (λ n row. a-text row) action-statable a-same 0 (rows-of v .actions) (s .actions .ok),
+      ← events-at v,
+    )
+    )

@@ -8,7 +8,7 @@ use Rattle.numbers.specs.Reference.{ref}
 use Rattle.meaning.specs.Value.{is-absent, is-letter}
 use Rattle.meaning.specs.Number.{numeral}
 use Rattle.meaning.specs.Split.{TAB}
-use Rattle.meaning.specs.Line.{number-text, letter-text, target-text}
+use Rattle.writer.specs.Texts.{number-text, letter-text, target-text}
 use Rattle.pen.specs.Pen.{Pen, put-byte, put-all}
 
 -- ---- fields: a tab in front

@@ -9,7 +9,7 @@ use lib.ListN.{getD}
 use Rattle.meaning.specs.Value.{num, STATE-ROW, VAR-ROW, TRANS-ROW, ACT-ROW, STATES-AT, VARS-AT, TRANSITIONS-AT, ACTIONS-AT}
 use Rattle.meaning.specs.Number.{numeral}
 use Rattle.meaning.specs.Split.{TAB, LF, tails, joined}
-use Rattle.meaning.specs.Line.{number-text, letter-text, target-text, s-text, v-text, e-text, t-text, a-text}
+use Rattle.writer.specs.Texts.{number-text, letter-text, target-text, s-text, v-text, e-text, t-text, a-text}
 use Rattle.chart_rows.proofs.Rows.{num-at, num-first}
 use Rattle.pen.specs.Pen.{Pen, put-byte, put-all}
 use Rattle.writer.specs.Letters.{IsLetter}

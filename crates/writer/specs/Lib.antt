@@ -1,2 +1,3 @@
 pub mod Letters
 pub mod Row
+pub mod Texts

@@ -13,7 +13,7 @@ ghost use mathlib.Core.Bool.{true};
 ghost use Rattle.meaning.specs.Lists.{map-from};
 ghost use Rattle.meaning.specs.Value.{rows-of, rule-0};
 ghost use Rattle.meaning.specs.Split.{ended};
-ghost use Rattle.meaning.specs.Line.{s-text, v-text, t-text, a-text};
+ghost use Rattle.writer.specs.Texts.{s-text, v-text, t-text, a-text};
 ghost use Rattle.meaning.specs.Text.{text-of};
 ghost use Rattle.pen.specs.Pen.{pen, put-all};
 

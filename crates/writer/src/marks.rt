@@ -7,7 +7,7 @@ ghost use mathlib.Core.Path.{_≡_};
 ghost use mathlib.Core.List.{_∷_};
 ghost use Rattle.meaning.specs.Number.{numeral};
 ghost use Rattle.meaning.specs.Split.{TAB as Tab};
-ghost use Rattle.meaning.specs.Line.{number-text, letter-text, target-text};
+ghost use Rattle.writer.specs.Texts.{number-text, letter-text, target-text};
 ghost use Rattle.pen.specs.Pen.{pen, put-all};
 ghost use Rattle.writer.specs.Letters.{IsLetter};
 

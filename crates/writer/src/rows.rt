@@ -21,7 +21,7 @@ ghost use lib.ListN.{getD};
 ghost use lib.IntN.{pos};
 ghost use Rattle.sizes.specs.Sizes.{STATES, VARIABLES, TRANSITIONS, ACTIONS};
 ghost use Rattle.meaning.specs.Value.{num, STATE-ROW, VAR-ROW, TRANS-ROW, ACT-ROW, STATES-AT, VARS-AT, TRANSITIONS-AT, ACTIONS-AT};
-ghost use Rattle.meaning.specs.Line.{s-text, v-text, e-text, t-text, a-text};
+ghost use Rattle.writer.specs.Texts.{s-text, v-text, e-text, t-text, a-text};
 ghost use Rattle.pen.specs.Pen.{pen, put-all};
 ghost use Rattle.writer.specs.Letters.{IsLetter};
 ghost use Rattle.writer.specs.Row.{row-in, with-lf};

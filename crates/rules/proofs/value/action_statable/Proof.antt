@@ -5,7 +5,8 @@ use Prim.Native.Nat.{_+_, _*_}
 use mathlib.Core.List.{[], _∷_}
 use Rattle.numbers.specs.Range.{inRange}
 use Rattle.numbers.proofs.Laws.{back32}
-use Rattle.meaning.specs.Value.{one-of-letters, number-if, ACTIONS-AT, ACT-ROW}
+use Rattle.meaning.specs.Value.{one-of-letters, ACTIONS-AT, ACT-ROW}
+use Rattle.rules.specs.Clauses.{number-if}
 use Rattle.chart_rows.proofs.Said.{said-of}
 use Rattle.rules.proofs.Tests.{refuted, held, on}
 use Rattle.rules.proofs.Letters.{action-read}

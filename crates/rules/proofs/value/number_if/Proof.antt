@@ -1,7 +1,8 @@
 -- `number_if` goes by what is wanted. Assumes nothing.
 use mathlib.Core.Path.{_≡_, refl, sym, ap, _∙_}
 use Rattle.numbers.specs.Range.{inRange}
-use Rattle.meaning.specs.Value.{is-absent, number-if}
+use Rattle.meaning.specs.Value.{is-absent}
+use Rattle.rules.specs.Clauses.{number-if}
 use Rattle.chart_rows.proofs.Said.{said-own}
 use borrow.Author.Needs.{needs}
 use Rattle.rules.proofs.value.number_if.Statement.{statement}

@@ -8,7 +8,8 @@ use lib.Dec.{eqb}
 use lib.IntN.{pos}
 use lib.ListN.{getD}
 use Rattle.numbers.proofs.Laws.{back32}
-use Rattle.meaning.specs.Value.{is-letter, one-of-letters, number-if, STATES-AT, STATE-ROW}
+use Rattle.meaning.specs.Value.{is-letter, one-of-letters, STATES-AT, STATE-ROW}
+use Rattle.rules.specs.Clauses.{number-if}
 use Rattle.chart_rows.proofs.Said.{said-of}
 use Rattle.rules.proofs.Tests.{refuted, held, on}
 use Rattle.rules.proofs.Letters.{state-read}

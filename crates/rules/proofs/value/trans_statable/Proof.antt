@@ -3,7 +3,8 @@ use mathlib.Core.Path.{_≡_, refl, sym, ap, _∙_}
 use native.Mathlib.Omega.{arith}
 use Prim.Native.Nat.{_+_, _*_}
 use Rattle.numbers.specs.Range.{inRange}
-use Rattle.meaning.specs.Value.{guard-statable, target-statable, TRANSITIONS-AT, TRANS-ROW}
+use Rattle.meaning.specs.Value.{TRANSITIONS-AT, TRANS-ROW}
+use Rattle.rules.specs.Clauses.{guard-statable, target-statable}
 use Rattle.chart_rows.proofs.Said.{said-of, said-of2, said-of3}
 use Rattle.rules.proofs.Tests.{refuted, held, on}
 use Rattle.rules.proofs.Letters.{trans-read}

@@ -23,7 +23,7 @@ same-length : tie.Need-same-length
 same-length c = search needs
 
 returns : tie.Need-returns
-returns c = chart-put (c .before .before .before .before .before .before .before .before .before .before .before .before .before .before .before .before .before .before .before .before .before .args .chart .now) _ _ _ _ _ _ (c .before .before .before .before .before .before .before .before .before .before .before .before .before .before .before .before .before .before .put-states .ensures) (c .before .before .before .before .before .before .before .before .before .before .before .before .before .before .put-variables .ensures) (c .before .before .before .before .before .before .before .before .before .before .put-events .ensures) (c .before .before .before .before .before .before .put-transitions .ensures) (c .before .before .put-actions .ensures)
+returns c = chart-put (c .before .before .before .before .before .before .before .before .before .before .before .before .before .before .before .before .before .before .before .before .before .args .chart .now) (c .before .before .before .before .before .before .before .before .before .before .before .before .before .before .before .before .before .before .before .before .before .pre) _ _ _ _ _ _ (c .before .before .before .before .before .before .before .before .before .before .before .before .before .before .before .before .before .before .put-states .ensures) (c .before .before .before .before .before .before .before .before .before .before .before .before .before .before .put-variables .ensures) (c .before .before .before .before .before .before .before .before .before .before .put-events .ensures) (c .before .before .before .before .before .before .put-transitions .ensures) (c .before .before .put-actions .ensures)
 
 pub put-chart-spec : {M : Type 1} → statement M
 put-chart-spec =

@@ -5,7 +5,7 @@ use borrow.Author.Needs.{needs}
 use native.Mathlib.Omega.{arith}
 use lib.ListN.{length}
 use Rattle.meaning.specs.Value.{rows-of}
-use Rattle.meaning.specs.Line.{t-text}
+use Rattle.writer.specs.Texts.{t-text}
 use Rattle.pen.specs.Pen.{pen, put-all}
 use Rattle.writer.proofs.LoopLaws.{left-from, left-more, left-none, transitions-count, transitions-at, trans-asks}
 use Rattle.writer.proofs.kinds.put_transitions.Statement.{statement}

@@ -5,7 +5,7 @@ use borrow.Author.Needs.{needs}
 use native.Mathlib.Omega.{arith}
 use lib.ListN.{length}
 use Rattle.meaning.specs.Value.{rows-of}
-use Rattle.meaning.specs.Line.{v-text}
+use Rattle.writer.specs.Texts.{v-text}
 use Rattle.pen.specs.Pen.{pen, put-all}
 use Rattle.writer.proofs.LoopLaws.{left-from, left-more, left-none, vars-count, vars-at, var-asks}
 use Rattle.writer.proofs.kinds.put_variables.Statement.{statement}

@@ -1,0 +1,119 @@
+-- `fields::cells::read_field` meets its contract: each way out is a law of the files beside. Assumes nothing.
+use mathlib.Core.Path.{refl}
+use Rattle.meaning.specs.Grammar.{bytes}
+use Rattle.fields.specs.Said.{said}
+use Rattle.fields.proofs.CellLaws.{said-turn, said-number, said-dash, said-state, said-history, said-in-place, said-count, said-letter, code-o, code-ab, code-sign, code-owner, code-saq, code-ko, next-code, said-none}
+use borrow.Author.Needs.{needs}
+use native.Mathlib.Omega.{arith}
+use Rattle.fields.proofs.cells.read_field.Statement.{statement}
+use Rattle.fields.proofs.cells.read_field.Tie as tie
+
+returns : tie.Need-returns
+returns c = said-turn _ _ _ _ _ (c .before .before .number .ensures) _ (c .before .before .before .match .keys1) (c .before .is-turn .ensures) (c .absent-if .ensures)
+
+returns-2 : tie.Need-returns-2
+returns-2 c = said-number _ _ _ _ _ (c .before .number2 .ensures) (c .before .before .match .keys2) (c .number-said .ensures)
+
+returns-3 : tie.Need-returns-3
+returns-3 c = said-dash _ _ _ _ _ (c .before .whole .ensures) (c .before .before .match .keys3) (c .absent-if2 .ensures)
+
+returns-4 : tie.Need-returns-4
+returns-4 c = said-state _ _ _ _ _ (c .before .number3 .ensures) (c .before .before .match .keys4) (c .target-said .ensures)
+
+returns-5 : tie.Need-returns-5
+returns-5 c = said-history _ _ _ _ (c .before .match .keys5) (c .history-said .ensures)
+
+returns-6 : tie.Need-returns-6
+returns-6 c = said-in-place _ _ _ _ _ (c .before .whole2 .ensures) (c .before .before .match .keys6) (c .absent-if3 .ensures)
+
+returns-7 : tie.Need-returns-7
+returns-7 c = said-count _ _ _ _ _ (c .before .number4 .ensures) (c .before .before .match .keys7) (c .count-said .ensures)
+
+returns-8 : tie.Need-returns-8
+returns-8 c = said-letter _ _ _ _ _ (c .before .before .whole3 .ensures) 7 (bytes "o") (c .before .before .before .match .keys8) code-o (c .letter-said .ensures)
+
+returns-9 : tie.Need-returns-9
+returns-9 c = said-letter _ _ _ _ _ (c .before .before .whole4 .ensures) 8 (bytes "ab") (c .before .before .before .match .keys9) code-ab (c .letter-said2 .ensures)
+
+returns-10 : tie.Need-returns-10
+returns-10 c = said-letter _ _ _ _ _ (c .before .before .whole5 .ensures) 9 (bytes "=<>") (c .before .before .before .match .keys10) code-sign (c .letter-said3 .ensures)
+
+returns-11 : tie.Need-returns-11
+returns-11 c = said-letter _ _ _ _ _ (c .before .before .whole6 .ensures) 10 (bytes "exdt") (c .before .before .before .match .keys11) code-owner (c .letter-said4 .ensures)
+
+returns-12 : tie.Need-returns-12
+returns-12 c = said-letter _ _ _ _ _ (c .before .before .whole7 .ensures) 11 (bytes "saq") (c .before .before .before .match .keys12) code-saq (c .letter-said5 .ensures)
+
+returns-13 : tie.Need-returns-13
+returns-13 c = said-letter _ _ _ _ _ (c .before .before .whole8 .ensures) 12 (bytes "ko") (c .before .before .before .match .keys13) code-ko (c .letter-said6 .ensures)
+
+returns-14 : tie.Need-returns-14
+unfolding said
+returns-14 c =
+    let r = c .match .rest in
+    let k = c .before .before .args .field in
+    let k1 = next-code 0 k (omega arith) (r .0 .0 .0 .0 .0 .0 .0 .0 .0 .0 .0 .0 .1) in
+    let k2 = next-code 1 k k1 (r .0 .0 .0 .0 .0 .0 .0 .0 .0 .0 .0 .1) in
+    let k3 = next-code 2 k k2 (r .0 .0 .0 .0 .0 .0 .0 .0 .0 .0 .1) in
+    let k4 = next-code 3 k k3 (r .0 .0 .0 .0 .0 .0 .0 .0 .0 .1) in
+    let k5 = next-code 4 k k4 (r .0 .0 .0 .0 .0 .0 .0 .0 .1) in
+    let k6 = next-code 5 k k5 (r .0 .0 .0 .0 .0 .0 .0 .1) in
+    let k7 = next-code 6 k k6 (r .0 .0 .0 .0 .0 .0 .1) in
+    let k8 = next-code 7 k k7 (r .0 .0 .0 .0 .0 .1) in
+    let k9 = next-code 8 k k8 (r .0 .0 .0 .0 .1) in
+    let k10 = next-code 9 k k9 (r .0 .0 .0 .1) in
+    let k11 = next-code 10 k k10 (r .0 .0 .1) in
+    let k12 = next-code 11 k k11 (r .0 .1) in
+    let k13 = next-code 12 k k12 (r .1) in
+    said-none k _ _ _ k13 refl
+
+pub read-field-spec : {M : Type 1} → statement M
+read-field-spec =
+    tie.close
+    (tie.spec
+    (λ c κs. search needs)
+    (λ c κs. search needs)
+    (λ c κs. search needs)
+    (λ c κs. search needs)
+    (λ c κs. search needs)
+    (λ c κs. search needs)
+    (λ c κs. search needs)
+    (λ c κs. search needs)
+    (λ c κs. search needs)
+    (λ c κs. search needs)
+    (λ c κs. search needs)
+    (λ c κs. search needs)
+    (λ c κs. search needs)
+    (λ c κs. search needs)
+    (λ c κs. search needs)
+    (λ c. search needs)
+    (λ c κs. search needs)
+    (λ c κs. search needs)
+    (λ c. search needs)
+    (λ c κs. search needs)
+    (λ c κs. search needs)
+    (λ c. search needs)
+    (λ c κs. search needs)
+    (λ c κs. search needs)
+    (λ c. search needs)
+    (λ c κs. search needs)
+    (λ c κs. search needs)
+    (λ c. search needs)
+    (λ c κs. search needs)
+    (λ c κs. search needs)
+    (λ c. search needs)
+    (λ c κs. search needs)
+    returns
+    returns-2
+    returns-3
+    returns-4
+    returns-5
+    returns-6
+    returns-7
+    returns-8
+    returns-9
+    returns-10
+    returns-11
+    returns-12
+    returns-13
+    returns-14)

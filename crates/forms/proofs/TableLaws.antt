@@ -1,0 +1,96 @@
+-- The form at an entry, by what the entry is; and where the form of each record begins. Assumes nothing.
+use Prim.Native.Nat.{ℕ, zero, suc, _+_, _≤_, _<_}
+use native.Mathlib.Omega.{arith}
+use mathlib.Core.Path.{_≡_, refl, sym, ap, _∙_}
+use mathlib.Core.Bool.{Bool, true, false, _&&_, false≢true}
+use mathlib.Core.List.{List, [], _∷_}
+use lib.ListN.{length, getD, List·getD-eq-default}
+use lib.Dec.{leb}
+use borrow.Author.Tests.{ne-eqb, leb-true}
+use Rattle.meaning.specs.Grammar.{Form, last, _then_, _or_, s-record, v-record, e-record, t-record, a-record, form}
+use Rattle.forms.specs.Table.{steps, fields, skips, field-of, no-form, at-entry, entry-form, forms, form-at}
+
+record Entry (ss fs ks : List ℕ) (i : ℕ) : Type 0 where
+  behind : List Form
+  is : at-entry (forms ss fs ks) i ≡ entry-form (getD ss i 0) (getD fs i 0) (getD ks i 0) behind
+  later : (k : ℕ) → at-entry behind k ≡ at-entry (forms ss fs ks) (suc i + k)
+
+entry : (ss fs ks : List ℕ) (i : ℕ) → i < length ss → i < length fs → i < length ks → Entry ss fs ks i
+unfolding forms
+entry [] fs ks i a b c = absurd (omega arith)
+entry (s ∷ ss) [] ks i a b c = absurd (omega arith)
+entry (s ∷ ss) (f ∷ fs) [] i a b c = absurd (omega arith)
+entry (s ∷ ss) (f ∷ fs) (k ∷ ks) zero a b c =
+    record { behind = forms ss fs ks; is = refl; later = λ m. let e : suc zero + m ≡ suc m = omega arith in rw e }
+entry (s ∷ ss) (f ∷ fs) (k ∷ ks) (suc i) a b c =
+    let w = entry ss fs ks i (omega arith) (omega arith) (omega arith) in
+    record { behind = w .behind; is = w .is; later = λ m. let e : suc (suc i) + m ≡ suc (suc i + m) = omega arith in w .later m ∙ rw e }
+
+module _ (i : ℕ) (h : i < 48) where
+  here : Entry steps fields skips i
+  unfolding steps fields skips
+  here = entry steps fields skips i h h h
+
+  pub form-or : getD steps i 0 ≡ 0 → form-at i ≡ form-at (i + 1) or form-at (i + 1 + getD skips i 0)
+  unfolding form-at
+  form-or e =
+      let w = here in
+      let a : suc i + 0 ≡ i + 1 = omega arith in
+      let b : suc i + getD skips i 0 ≡ i + 1 + getD skips i 0 = omega arith in
+      w .is ∙ rw (e, w .later 0, w .later (getD skips i 0), a, b)
+
+  pub form-then : getD steps i 0 ≡ 1 → form-at i ≡ field-of (getD fields i 0) then form-at (i + 1)
+  unfolding form-at
+  form-then e = let w = here in let a : suc i + 0 ≡ i + 1 = omega arith in w .is ∙ rw (e, w .later 0, a)
+
+  pub form-last : (getD steps i 0 ≡ 0 → ⊥) → (getD steps i 0 ≡ 1 → ⊥) → form-at i ≡ last (field-of (getD fields i 0))
+  unfolding form-at
+  form-last a b = let w = here in w .is ∙ rw (ne-eqb (getD steps i 0) 0 a, ne-eqb (getD steps i 0) 1 b)
+
+pub form-past : (i : ℕ) → 48 ≤ i → form-at i ≡ no-form
+unfolding form-at forms steps fields skips
+form-past i h = List·getD-eq-default (forms steps fields skips) no-form h
+
+both : (a b : Bool) → a && b ≡ true → (a ≡ true) × (b ≡ true)
+both true b e = (refl, e)
+both false b e = absurd (false≢true e)
+
+-- a rule of the table, proved at all of its entries by one test that computes
+abbrev all-few : ℕ → List ℕ → Bool
+all-few m [] = true
+all-few m (k ∷ ks) = leb k m && all-few m ks
+
+few-at : (m : ℕ) (ks : List ℕ) (i : ℕ) → all-few m ks ≡ true → getD ks i 0 ≤ m
+few-at m [] i e = omega arith
+few-at m (k ∷ ks) zero e = leb-true k m (both (leb k m) (all-few m ks) e .0)
+few-at m (k ∷ ks) (suc i) e = few-at m ks i (both (leb k m) (all-few m ks) e .1)
+
+pub skip-few : (i : ℕ) → getD skips i 0 ≤ 48
+unfolding skips
+skip-few i = few-at 48 skips i refl
+
+-- ---- the records
+
+pub root-form : form-at 0 ≡ form s-record 0
+unfolding form-at forms steps fields skips field-of
+root-form = refl
+
+pub state-form : (n : ℕ) → form-at 7 ≡ form s-record (suc n)
+unfolding form-at forms steps fields skips field-of
+state-form n = refl
+
+pub variable-form : (n : ℕ) → form-at 14 ≡ form v-record n
+unfolding form-at forms steps fields skips field-of
+variable-form n = refl
+
+pub events-form : (n : ℕ) → form-at 18 ≡ form e-record n
+unfolding form-at forms steps fields skips field-of
+events-form n = refl
+
+pub transition-form : (n : ℕ) → form-at 19 ≡ form t-record n
+unfolding form-at forms steps fields skips field-of
+transition-form n = refl
+
+pub action-form : (n : ℕ) → form-at 39 ≡ form a-record n
+unfolding form-at forms steps fields skips field-of
+action-form n = refl

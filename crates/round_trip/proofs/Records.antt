@@ -1,0 +1,126 @@
+-- The records of chart text both ways, by their forms, which are unambiguous. In the order: the forms; a line that was read; a row that is
+-- written. Assumes nothing.
+use mathlib.Core.Path.{_≡_, refl, sym, ap, _∙_}
+use mathlib.Core.Bool.{Bool, true, false, cond}
+use mathlib.Core.List.{List, [], _∷_}
+use Prim.Native.Nat.{ℕ, zero, suc, _≤_, _<_}
+use native.Mathlib.Omega.{arith}
+use lib.Dec.{eqb}
+use lib.IntN.{ℤ}
+use lib.ListN.{length}
+use borrow.Author.Tests.{eqb-true, lt-ltb}
+use Rattle.sizes.specs.Sizes.{STATES, VARIABLES, TRANSITIONS, ACTIONS, MOST}
+use Rattle.meaning.specs.Grammar.{Record, s-record, v-record, e-record, t-record, a-record, no-record, Form, form, name, most, record-by}
+use Rattle.meaning.specs.Value.{STATE-ROW, VAR-ROW, TRANS-ROW, ACT-ROW, fits}
+use Rattle.meaning.specs.Split.{TAB, LF, fields, joined, tails}
+use Rattle.meaning.specs.Line.{Line, worse, room, line, letter-of, field, rest-of, read-by, line-by, write-by, text-of-row}
+use Rattle.meaning.specs.Text.{record-of}
+use Rattle.round_trip.proofs.Splits.{Free, AllFree, free-byte, free-joined, fields-joined, joined-fields}
+use Rattle.round_trip.proofs.Fields.{Good, worse-good, room-good, numbers-at, at-self, letter-field, other-letters, dash-number, place-history, place-state, history-state}
+use Rattle.round_trip.proofs.Forms.{size, Clear, LineKept, form-kept, form-reads, form-free, within, form-short}
+
+-- ---- the forms
+
+abbrev pub row-size : Record → ℕ
+row-size s-record = STATE-ROW
+row-size v-record = VAR-ROW
+row-size e-record = 1
+row-size t-record = TRANS-ROW
+row-size a-record = ACT-ROW
+row-size no-record = 1
+
+pub sized : (r : Record) (n : ℕ) → size (form r n) ≡ row-size r
+sized s-record zero = refl
+sized s-record (suc n) = refl
+sized v-record n = refl
+sized e-record n = refl
+sized t-record n = refl
+sized a-record n = refl
+sized no-record n = refl
+
+abbrev target-clear : Clear Rattle.meaning.specs.Grammar.target
+target-clear = (tt, ((tt, (tt, (history-state, refl))), ((place-history, place-state), refl)))
+
+pub clear : (r : Record) (n : ℕ) → Clear (form r n)
+unfolding Rattle.meaning.specs.Lists.has
+clear s-record zero = (tt, (tt, ((refl, tt), ((refl, tt), (other-letters refl, refl)))))
+clear s-record (suc n) = (tt, (tt, ((refl, tt), ((refl, tt), (other-letters refl, refl)))))
+clear v-record n = (tt, (tt, (tt, tt)))
+clear e-record n = refl
+clear t-record n = (tt, (tt, (tt, ((tt, (tt, (tt, target-clear))), ((tt, (refl, (tt, target-clear))), (dash-number, refl))))))
+clear a-record n = (refl, (tt, ((refl, (tt, tt)), ((refl, (tt, tt)), (other-letters refl, refl)))))
+clear no-record n = tt
+
+few : (r : Record) (n : ℕ) → n < most r → n ≤ MOST
+few s-record n h = omega arith
+few v-record n h = omega arith
+few e-record n h = omega arith
+few t-record n h = omega arith
+few a-record n h = omega arith
+few no-record n h = omega arith
+
+letter-above : (r : Record) (n : ℕ) → n < most r → 45 ≤ name r
+letter-above s-record n h = omega arith
+letter-above v-record n h = omega arith
+letter-above e-record n h = omega arith
+letter-above t-record n h = omega arith
+letter-above a-record n h = omega arith
+letter-above no-record n h = absurd (omega arith)
+
+-- ---- a line that was read
+
+-- its row: its written form is the line, a text can state it, how many numbers it has, and that there is room for it
+pub record RowKept (r : Record) (n : ℕ) (l : List ℕ) (row : List ℤ) : Type 0 where
+  pub same : text-of-row r n row ≡ l
+  pub ok : fits (form r n) 0 row ≡ true
+  pub long : length row ≡ row-size r
+  pub fits : n < most r
+
+first-and-rest : (k : ℕ) (fs : List (List ℕ)) → 0 < k → letter-of (field fs 0) ≡ k → (k ∷ []) ∷ rest-of fs ≡ fs
+first-and-rest k [] h e = absurd (omega arith)
+first-and-rest k (f ∷ fs) h e = ap (λ (g : List ℕ). g ∷ fs) (letter-field f k h e)
+
+pub row-kept : (r : Record) (n : ℕ) (l : List ℕ) → letter-of (field (fields l) 0) ≡ name r → Good (line-by r n (fields l) .mark)
+    → RowKept r n l (line-by r n (fields l) .row)
+unfolding line-by text-of-row
+row-kept r n l e g =
+    let w = worse-good (room n (most r)) (read-by (form r n) n (rest-of (fields l)) .mark) g in
+    let h = room-good n (most r) (w .0) in
+    let a = letter-above r n h in
+    let k = form-kept (form r n) n (rest-of (fields l)) (clear r n) (w .1) in
+    let s = at-self (read-by (form r n) n (rest-of (fields l)) .row) in
+    record {
+      same = ap (λ (fs : List (List ℕ)). joined ((name r ∷ []) ∷ fs)) (k .text 0 (read-by (form r n) n (rest-of (fields l)) .row) s)
+          ∙ ap joined (first-and-rest (name r) (fields l) (omega arith) e) ∙ joined-fields l;
+      ok = k .ok 0 (read-by (form r n) n (rest-of (fields l)) .row) s;
+      long = k .long ∙ sized r n;
+      fits = h;
+    }
+
+-- ---- a row that is written
+
+module _ (r : Record) (n : ℕ) (row : List ℤ) (ok : fits (form r n) 0 row ≡ true) (room-for : n < most r) where
+  all-free : (sep : ℕ) → sep < 45 → AllFree sep ((name r ∷ []) ∷ write-by (form r n) n 0 row)
+  unfolding AllFree
+  all-free sep s = (free-byte sep (name r) s (letter-above r n room-for), form-free sep s (form r n) n 0 row (clear r n) ok)
+
+  pub row-free : Free LF (text-of-row r n row)
+  unfolding text-of-row
+  row-free = free-joined ((name r ∷ []) ∷ write-by (form r n) n 0 row) (all-free LF (omega arith))
+
+  pub row-short : (m : ℕ) → within (form r n) m ≡ true → length (text-of-row r n row) ≤ suc m
+  unfolding text-of-row joined
+  row-short m h = let l = form-short (form r n) m n 0 row h (clear r n) (few r n room-for) ok in omega arith
+
+  its-fields : fields (text-of-row r n row) ≡ (name r ∷ []) ∷ write-by (form r n) n 0 row
+  unfolding text-of-row
+  its-fields = fields-joined (name r ∷ []) (write-by (form r n) n 0 row) (all-free TAB (omega arith))
+
+  pub row-named : record-of (fields (text-of-row r n row)) ≡ record-by (name r)
+  row-named = rw its-fields
+
+  pub row-reads : length row ≡ row-size r → line-by r n (fields (text-of-row r n row)) ≡ line 0 row
+  unfolding line-by room worse
+  row-reads long =
+      rw (its-fields, form-reads (form r n) n 0 row (clear r n) (few r n room-for) ok, lt-ltb n (most r) room-for, sized r n, ← long)
+      (ap (λ (zs : List ℤ). line 0 zs) (numbers-at 0 row row (at-self row)))
