@@ -14,10 +14,10 @@ use Rattle.meaning.specs.Value.{chart-of}
 use Rattle.meaning.specs.declared.State.{State}
 use Rattle.meaning.specs.declared.plan.Compiled.{Compiled}
 use Rattle.promises.specs.Promises.{Discarded, PlanDiscarded, PlanPosted, PlanRan, PlanStarted, Posted, Ran, Started}
-use Rattle.engine.proofs.start.Reads as start-reads
-use Rattle.engine.proofs.run.Reads as run-reads
-use Rattle.engine.proofs.post.Reads as post-reads
-use Rattle.engine.proofs.discard.Reads as discard-reads
+use Rattle.chart_engine.proofs.start.Reads as start-reads
+use Rattle.chart_engine.proofs.run.Reads as run-reads
+use Rattle.chart_engine.proofs.post.Reads as post-reads
+use Rattle.chart_engine.proofs.discard.Reads as discard-reads
 use Rattle.plan_engine.proofs.plans.compile.Reads as compile-reads
 use Rattle.plan_engine.proofs.planned.start.Reads as plan-start-reads
 use Rattle.plan_engine.proofs.planned.run.Reads as plan-run-reads

@@ -22,8 +22,8 @@ ghost use Rattle.promises.specs.Host.{HostPlanStarted, HostPlanRan, HostPlanPos
 pub extern "C" fn qh_check(chart: &[i32], report: &mut [i32; 2]) -> i32
     ensures { λ r. ⌜ HostChecked (now (chart .entry)) r (now (report .exit)) ⌝ }
 {
-    let answer = engine::check(chart);
-    tell(answer, 0, report)
+    let checked = engine::check(chart);
+    tell(checked, 0, report)
 }
 
 // Reads a chart's text into a chart's numbers.
@@ -31,8 +31,8 @@ pub extern "C" fn qh_check(chart: &[i32], report: &mut [i32; 2]) -> i32
 pub extern "C" fn qh_read(text: &[u8], chart: &mut [i32], report: &mut [i32; 2]) -> i32
     ensures { λ r. ⌜ HostRead (now (text .entry)) (now (chart .entry)) r (now (report .exit)) (now (chart .exit)) ⌝ }
 {
-    let answer = engine::read(text, chart);
-    tell(answer, 0, report)
+    let read = engine::read(text, chart);
+    tell(read, 0, report)
 }
 
 // Writes a chart's text; the count is its length in bytes.
@@ -60,8 +60,8 @@ pub extern "C" fn qh_compile(chart: &[i32], plan: &mut [i32], report: &mut [i32;
 pub extern "C" fn qh_examine(plan: &[i32], report: &mut [i32; 2]) -> i32
     ensures { λ r. ⌜ HostExamined (now (plan .entry)) r (now (report .exit)) ⌝ }
 {
-    let answer = engine::plans::examine(plan);
-    tell(answer, 0, report)
+    let examined = engine::plans::examine(plan);
+    tell(examined, 0, report)
 }
 
 // A widget not yet started.
@@ -70,7 +70,7 @@ pub extern "C" fn qh_unstarted(widget: &mut [i32], report: &mut [i32; 2]) -> i32
     ensures { λ r. ⌜ HostUnstarted (now (widget .entry)) r (now (report .exit)) (now (widget .exit)) ⌝ }
 {
     let state = engine::unstarted();
-    if widget.len() < STATE_NUMBERS {
+    if widget.len() < STATE_NUMBERS { // 6 alone
         let foreign = Answer {
             number: FOREIGN,
             place: 0,

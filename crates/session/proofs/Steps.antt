@@ -20,7 +20,7 @@ use Rattle.meaning.specs.Value.{chart-of}
 use Rattle.meaning.specs.Calls.{Outcome, called, lent, outcome, refused, start, post, run, start-of, run-of}
 use Rattle.meaning.specs.Program.{ROOM, report, reported, turn, after-post}
 use Rattle.promises.specs.Promises.{Accepted, Started, Ran}
-use Rattle.engine.proofs.ByRules.{start-on, run-on}
+use Rattle.chart_engine.proofs.ByRules.{start-on, run-on}
 use Rattle.console.specs.declared.scan.Scan.{Scan}
 use Rattle.console.specs.Scan.{empty, fed, line-at, began}
 use Rattle.console.specs.Session.{Turns, by-end, by-began, passed, finished}

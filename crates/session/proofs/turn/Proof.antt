@@ -4,7 +4,7 @@ use Prim.Native.Nat.{_<_, _^_}
 use lib.Signed.{mag}
 use Rattle.numbers.proofs.Laws.{back32}
 use Rattle.meaning.specs.Calls.{called}
-use Rattle.engine.proofs.ByRules.{post-on}
+use Rattle.chart_engine.proofs.ByRules.{post-on}
 use Rattle.session.proofs.Steps.{turn-wrong, turn-refused, turn-ran}
 use borrow.Author.Needs.{needs}
 use Rattle.session.proofs.turn.Statement.{statement}
