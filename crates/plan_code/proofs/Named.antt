@@ -86,6 +86,7 @@ module _ (k : Counts) (sized : Sized k) (left : ℕ) (near : left ≤ INSTRUCTIO
   code-named (suc (suc (suc (suc (suc zero))))) e = (state (and-left _ _ e), skips a-state e)
   code-named (suc (suc (suc (suc (suc (suc zero)))))) e = (
     state (and-left _ _ e),
+    below (k .states) STATES (num row 2) (sized .states) (second a-state a-state a-skip e),
     skip left (num row 3) near
         (third a-state a-state a-skip e),
   )

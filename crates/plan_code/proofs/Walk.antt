@@ -14,11 +14,11 @@ use Rattle.meaning.specs.declared.plan.Instr.{Instr}
 use Rattle.meaning.specs.Steps.{Res, ok, refuse, Step, bind, each}
 use Rattle.meaning.specs.Widget.{Ctx}
 use Rattle.meaning.specs.Machine.{Mach, passing, exec-now, exec-at, exec, run-code, end-code, run-block}
-use Rattle.widget.specs.View.{Lent, ctx, tracing, said, went, Did, Owes}
+use Rattle.widget.specs.View.{Lent, ctx, said, went, Did, Owes}
 use Rattle.widget.specs.declared.Went.{Went}
 use Rattle.widget.proofs.Going as going
 use Rattle.plan_code.specs.declared.Moved.{Moved}
-use Rattle.plan_code.specs.Code.{moved-by, moved, Execs, Ran, Passed}
+use Rattle.plan_code.specs.Code.{moved-by, moved, Execs, Ran}
 
 -- ---- passing over
 
@@ -95,20 +95,6 @@ module _ {vs : List VarRow} {a : ℤ} {code : List Instr} {end from : ℕ} {befo
       did = going.owes-none (w .owes) (ap (λ is. run-block vs a is (ctx after next)) (left-none code end i l)
           ∙ block-none vs a (ctx after next));
       slotted = λ z. w .slotted;
-    }
-
-    -- past instructions that act on nothing
-    pub walking-past : {j : ℕ} → Passed code end i (after .active) j → Walking vs a code end from before at j after next
-    unfolding ctx tracing
-    walking-past p = record {
-      owes = record {
-        gives = λ h. sym (p .same vs a (ctx after next) refl) ∙ w .owes .gives h;
-        fits = w .owes .fits;
-        kept = w .owes .kept;
-        whole = w .owes .whole;
-      };
-      onward = omega (arith, w .onward, p .onward);
-      slotted = w .slotted;
     }
 
     module _ {ins : Instr} {r : Moved} {after₂ : Lent} (l : i < end) (m : i < length code) (q : getD code i ins ≡ ins)

@@ -1,5 +1,4 @@
 -- `skip_fits` is the test for a count. Assumes nothing.
-use native.Mathlib.Omega.{arith}
 use Rattle.meaning.specs.Value.{count-fits}
 use Rattle.chart_rows.proofs.Said.{said-own}
 use borrow.Author.Needs.{needs}
