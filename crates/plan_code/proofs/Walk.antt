@@ -1,7 +1,7 @@
 -- Running a block as a walk (01, "pass over n"), over plain variables: with n instructions to be passed over, what is run is what stands n
 -- further on; so a block is its first instruction and then what stands so far on as that says. Assumes nothing.
 use mathlib.Core.Path.{_≡_, refl, sym, ap, _∙_, subst}
-use Prim.Native.Nat.{ℕ, zero, suc, _+_, _-_, _≤_, _<_}
+use Prim.Native.Nat.{ℕ, zero, suc, _+_, _-_, _*_, _≤_, _<_}
 use native.Mathlib.Omega.{arith}
 use native.Mathlib.Numerals.{add-one}
 use mathlib.Core.List.{List, [], _∷_}
@@ -11,6 +11,7 @@ use lib.IntN.{ℤ}
 use Rattle.sizes.specs.Sizes.{INSTRUCTIONS}
 use Rattle.meaning.specs.declared.chart.VarRow.{VarRow}
 use Rattle.meaning.specs.declared.plan.Instr.{Instr}
+use Rattle.meaning.specs.WellFormed.{INSTR-ROW}
 use Rattle.meaning.specs.Steps.{Res, ok, refuse, Step, bind, each}
 use Rattle.meaning.specs.Widget.{Ctx}
 use Rattle.meaning.specs.Machine.{Mach, passing, exec-now, exec-at, exec, run-code, end-code, run-block}
@@ -155,6 +156,13 @@ module _ {vs : List VarRow} {a : ℤ} {code : List Instr} {end from : ℕ} {befo
         onward = omega (arith, w .onward);
         slotted = d .slotted z ∙ w .slotted;
       }
+
+-- the same at the place where the row of an instruction begins, where the rows of the plan begin at base
+pub record Standing (vs : List VarRow) (a : ℤ) (code : List Instr) (base end from : ℕ) (before : Lent) (at row : ℕ) (after : Lent)
+    (next : ℕ) : Type 0 where
+  pub i : ℕ
+  pub here : row ≡ base + i * INSTR-ROW
+  pub walking : Walking vs a code end from before at i after next
 
 -- a block from its start on, by its length
 pub block-by : (vs : List VarRow) (a : ℤ) (code : List Instr)
