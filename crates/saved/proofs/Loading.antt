@@ -1,8 +1,8 @@
 -- What the functions that load a state cite: the marks tested and read one by one, numbers that state no widget, a widget part by part.
 -- Assumes nothing.
 use mathlib.Core.Path.{_≡_, refl, sym, ap, _∙_}
-use mathlib.Core.Bool.{Bool, true, false, not, true≢false}
-use mathlib.Core.List.{List, [], _∷_, map}
+use mathlib.Core.Bool.{Bool, true, false, not, _&&_, true≢false}
+use mathlib.Core.List.{List, [], _∷_, _++_, map}
 use Prim.Native.Nat.{ℕ, _+_, _<_, _≤_}
 use native.Mathlib.Numerals.{add-one}
 use native.Mathlib.Omega.{arith}
@@ -24,26 +24,24 @@ use Rattle.saved.proofs.Pasted.{paste-front, paste-whole}
 
 -- ---- the marks
 
--- one more is tested
-pub marked-more : (ns : List ℤ) (i : ℕ) → i < length ns → every is-mark (take i ns) ≡ true
-    → within (pos 0) (getD ns i (pos 0)) (pos 1) ≡ true → every is-mark (take (i + 1) ns) ≡ true
-unfolding is-mark every
-marked-more ns i h e f =
-    rw (add-one, take-suc ns i (pos 0) h)
-    (every-append is-mark (take i ns) (getD ns i (pos 0) ∷ []) e (and-both (is-mark (getD ns i (pos 0))) true f refl))
-
--- one of them is no mark
-pub marked-not : (ns : List ℤ) (i : ℕ) → MARKS ≤ length ns → i < MARKS → within (pos 0) (getD ns i (pos 0)) (pos 1) ≡ false
-    → false ≡ every is-mark (take MARKS ns)
-unfolding is-mark
-marked-not ns i l h f = go (every is-mark (take MARKS ns)) refl
+every-last : {A : Type 0} (p : A → Bool) (xs : List A) (x : A) → every p xs && p x ≡ every p (xs ++ (x ∷ []))
+unfolding every
+every-last p [] x = go (p x)
   where
-    go : (t : Bool) → every is-mark (take MARKS ns) ≡ t → false ≡ t
-    go false e = refl
-    go true e =
-        let k = length-take-le MARKS ns l in
-        let m = every-at is-mark (take MARKS ns) e i (omega arith) (pos 0) in
-        absurd (true≢false (sym (rw (getD-take MARKS ns i (pos 0) h) at m) ∙ f))
+    go : (b : Bool) → b ≡ b && true
+    go true = refl
+    go false = refl
+every-last p (y ∷ xs) x = go (p y) ∙ ap (λ b. p y && b) (every-last p xs x)
+  where
+    go : (b : Bool) → (b && every p xs) && p x ≡ b && (every p xs && p x)
+    go true = refl
+    go false = refl
+
+-- one more is tested
+pub marked-more : (ns : List ℤ) (i : ℕ) {fit m : Bool} → i < length ns → fit ≡ every is-mark (take i ns)
+    → m ≡ within (pos 0) (getD ns i (pos 0)) (pos 1) → fit && m ≡ every is-mark (take (i + 1) ns)
+unfolding is-mark
+marked-more ns i h e f = rw (e, f, add-one, take-suc ns i (pos 0) h) (every-last is-mark (take i ns) (getD ns i (pos 0)))
 
 part-long : (ns : List ℤ) → MARKS ≤ length ns → length (map is-set (part 1 STATES ns)) ≡ STATES
 unfolding part

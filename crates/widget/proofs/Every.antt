@@ -25,6 +25,22 @@ module _ {A : Type 0} (p : A → Bool) (xs : List A) (i : ℕ) where
   unfolding every
   every-done e h = sym (ap (every p) (drop-of-length-le xs h)) ∙ e
 
+  -- a loop that looks at each, and keeps whether all before i passed
+  pub every-and : {g : Bool} (ok : Bool) (d : A) → ok && every p (drop i xs) ≡ g → i < length xs → (ok && p (getD xs i d)) && every p (drop (i + 1) xs) ≡ g
+  every-and ok d e h = go ok (p (getD xs i d)) ∙ sym (ap (λ b. ok && b) (every-at d h)) ∙ e
+    where
+      go : (a b : Bool) → (a && b) && every p (drop (i + 1) xs) ≡ a && (b && every p (drop (i + 1) xs))
+      go true b = refl
+      go false b = refl
+
+  pub every-all : {g ok : Bool} → ok && every p (drop i xs) ≡ g → length xs ≤ i → ok ≡ g
+  unfolding every
+  every-all {g} {ok} e h = go ok ∙ sym (ap (λ ys. ok && every p ys) (drop-of-length-le xs h)) ∙ e
+    where
+      go : (a : Bool) → a ≡ a && true
+      go true = refl
+      go false = refl
+
 -- ---- the numbers from 0 to below n
 
 pub length-from : (a n : ℕ) → length (from a n) ≡ n
