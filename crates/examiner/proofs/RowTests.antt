@@ -1,8 +1,8 @@
 -- The tests of a row, number by number, against code that reads the numbers one by one from the place b where the row begins.
 -- Assumes nothing.
 use Prim.Native.Nat.{ℕ, zero, suc, _+_}
-use mathlib.Core.Path.{_≡_, refl}
-use mathlib.Core.Bool.{false, _&&_}
+use mathlib.Core.Path.{_≡_, refl, _∙_}
+use mathlib.Core.Bool.{Bool, false, _&&_}
 use mathlib.Core.List.{List}
 use native.Mathlib.Omega.{arith}
 use lib.IntN.{ℤ, pos}
@@ -20,11 +20,8 @@ use Rattle.meaning.specs.declared.plan.Counts.{Counts}
 use Rattle.meaning.specs.Rules.{row-fits}
 use Rattle.meaning.specs.Value.{count-fits, var-by, var-statable}
 use Rattle.meaning.specs.WellFormed.{HEAD-ROW, var-keeps, one-of, span-fits, head-guard-fits, head-fits}
-use Rattle.meaning.specs.WellFormed.{FORMS, no-form, field-fits, form-fits, instr-fits}
+use Rattle.meaning.specs.WellFormed.{Field, FORMS, no-form, form, field-fits, form-fits, instr-fits}
 use Rattle.chart_rows.proofs.Rows.{num-at}
-use Rattle.examiner.specs.declared.instructions.Field.{Field}
-use Rattle.examiner.specs.declared.instructions.Form.the-variants.{Wrong, Of}
-use Rattle.examiner.specs.Forms.{field-of, form-of}
 
 -- the order of two numbers that were handed over as their bits
 pub order-said : {x y : ℤ} → SFits w32 x → SFits w32 y → leZ (toZ w32 (ofZ w32 x)) (toZ w32 (ofZ w32 y)) ≡ leZ x y
@@ -55,18 +52,20 @@ module _ (k : Counts) (ns : List ℤ) (b : ℕ) where
       )
 
   -- a code that is none
-  pub instr-wrong : (left : ℕ) → form-of Wrong ≡ getD FORMS (ref (getD ns (b + 0) (pos 0))) no-form → instr-fits k left (drop b ns) ≡ false
-  unfolding instr-fits form-fits form-of
+  pub instr-wrong : (left : ℕ) → no-form ≡ getD FORMS (ref (getD ns (b + 0) (pos 0))) no-form → instr-fits k left (drop b ns) ≡ false
+  unfolding instr-fits form-fits
   instr-wrong left e = rw (getD-drop b ns 0 (pos 0), ← e)
 
-  -- a code whose three numbers are known
-  pub instr-read : (left : ℕ) (f g h : Field) → form-of (Of f g h) ≡ getD FORMS (ref (getD ns (b + 0) (pos 0))) no-form
-      → instr-fits k left (drop b ns)
-      ≡ field-fits k left (field-of f) (getD ns (b + 1) (pos 0))
-      && (field-fits k left (field-of g) (getD ns (b + 2) (pos 0)) && field-fits k left (field-of h) (getD ns (b + 3) (pos 0)))
-  unfolding instr-fits form-fits form-of
-  instr-read left f g h e =
-      rw (getD-drop b ns 0 (pos 0), ← e, getD-drop b ns 1 (pos 0), getD-drop b ns 2 (pos 0), getD-drop b ns 3 (pos 0))
+  -- the code n, whose three numbers were tested
+  pub instr-read : (left n : ℕ) (f g h : Field) {p q s r : Bool} → getD FORMS n no-form ≡ form f g h
+      → ref (getD ns (b + 0) (pos 0)) ≡ n
+      → p ≡ field-fits k left f (getD ns (b + 1) (pos 0))
+      → q ≡ field-fits k left g (getD ns (b + 2) (pos 0))
+      → s ≡ field-fits k left h (getD ns (b + 3) (pos 0))
+      → r ≡ p && (q && s) → r ≡ instr-fits k left (drop b ns)
+  unfolding instr-fits form-fits
+  instr-read left n f g h t e u v w o =
+      o ∙ rw (u, v, w, getD-drop b ns 0 (pos 0), e, t, getD-drop b ns 1 (pos 0), getD-drop b ns 2 (pos 0), getD-drop b ns 3 (pos 0))
 
 -- a number that is no code has no form
 pub no-code : (n : ℕ) → (n ≡ 1 → ⊥) → (n ≡ 2 → ⊥) → (n ≡ 3 → ⊥) → (n ≡ 4 → ⊥) → (n ≡ 5 → ⊥) → (n ≡ 6 → ⊥) → (n ≡ 7 → ⊥) → (n ≡ 8 → ⊥)

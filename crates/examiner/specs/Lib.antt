@@ -1,2 +1,1 @@
-pub mod Forms
 pub mod Examined

@@ -1,4 +1,4 @@
-// The instructions of a plan, block by block: what each number of an instruction is, and whether it fits.
+// The instructions of a plan, block by block: whether the numbers of an instruction fit, by its code.
 use super::fits::count_fits;
 use super::fits::one_of;
 use meaning::plan::Counts;
@@ -16,92 +16,72 @@ use plan_rows::layout::THIRD;
 use plan_rows::named;
 use plan_rows::read;
 ghost use mathlib.Core.Path.{_≡_};
-ghost use mathlib.Core.Bool.{true};
+ghost use mathlib.Core.Bool.{true, _&&_, _||_};
 ghost use Prim.Native.Nat.{_+_, _*_, _≤_};
-ghost use lib.ListN.{length, drop, getD};
+ghost use lib.ListN.{length, drop};
+ghost use lib.IntN.{negsuc};
 ghost use Rattle.sizes.specs.Sizes.{INSTRUCTIONS};
-ghost use Rattle.meaning.specs.WellFormed.{INSTR-ROW, FORMS, no-form, field-fits, instr-fits, left-after-each, left-in-blocks};
+ghost use Rattle.numbers.specs.Equal.{eqZ};
+ghost use Rattle.meaning.specs.Value.{count-fits};
+ghost use Rattle.meaning.specs.WellFormed.{INSTR-ROW, one-of, instr-fits, left-after-each, left-in-blocks};
 ghost use Rattle.meaning.specs.WellFormed.{code-at, code-fits, all-blocks-fill};
 ghost use Rattle.plan_rows.specs.Rows.{Sized};
 ghost use Rattle.examiner.specs.Examined.{Whole};
-ghost use Rattle.examiner.specs.Forms.{field-of, form-of};
 
-// What a number of an instruction is.
-pub enum Field {
-    State,
-    Parent,
-    Variable,
-    Event,
-    Constant,
-    Skip,
-    Unused,
-}
-
-// The three numbers after the code, or a code that is none.
-pub enum Form {
-    Wrong,
-    Of(Field, Field, Field),
-}
-
-// Codes are 1 to 11.
-fn form_by(code: usize) -> Form
-    ensures { λ r. ⌜ form-of r ≡ getD FORMS code no-form ⌝ }
+// "p may be -1".
+fn parent_fits(k: Counts, z: i32) -> bool
+    ensures { λ r. ⌜ r ≡ eqZ z (negsuc 0) || one-of (k .states) z ⌝ }
 {
-    match code {
-        1 => Form::Of(Field::State, Field::Unused, Field::Unused),
-        2 => Form::Of(Field::State, Field::Parent, Field::Unused),
-        3 => Form::Of(Field::State, Field::Skip, Field::Unused),
-        4 => Form::Of(Field::State, Field::Skip, Field::Unused),
-        5 => Form::Of(Field::State, Field::Skip, Field::Unused),
-        6 => Form::Of(Field::State, Field::State, Field::Skip),
-        7 => Form::Of(Field::Variable, Field::Constant, Field::Unused),
-        8 => Form::Of(Field::Variable, Field::Constant, Field::Unused),
-        9 => Form::Of(Field::Variable, Field::Unused, Field::Unused),
-        10 => Form::Of(Field::Event, Field::Constant, Field::Unused),
-        11 => Form::Of(Field::Constant, Field::Unused, Field::Unused),
-        _ => Form::Wrong,
+    if same(z, -1) {
+        return true;
     }
+    one_of(k.states, z)
 }
 
-// What is named exists, p may be -1, constants are in range, unused numbers are 0, and a skip stays within its block, of
-// which so many instructions follow.
-fn field_fits(k: Counts, left: usize, field: Field, z: i32) -> bool
-    requires { ⌜ Sized k × (left ≤ INSTRUCTIONS) ⌝ }
-    ensures { λ r. ⌜ r ≡ field-fits k left (field-of field) z ⌝ }
+// A skip stays within its block, of which so many instructions follow.
+fn skip_fits(left: usize, z: i32) -> bool
+    requires { ⌜ left ≤ INSTRUCTIONS ⌝ }
+    ensures { λ r. ⌜ r ≡ count-fits 0 left z ⌝ }
 {
-    match field {
-        Field::State => one_of(k.states, z),
-        Field::Parent => {
-            if same(z, -1) {
-                return true;
-            }
-            one_of(k.states, z)
-        }
-        Field::Variable => one_of(k.vars, z),
-        Field::Event => count_fits(1, k.events, z),
-        Field::Constant => in_range(z),
-        Field::Skip => count_fits(0, left, z),
-        Field::Unused => same(z, 0),
-    }
+    count_fits(0, left, z)
 }
 
-// The instruction whose row begins at this place.
+// The three numbers of an instruction all fit.
+fn all_three(first: bool, second: bool, third: bool) -> bool
+    ensures { λ r. ⌜ r ≡ first && (second && third) ⌝ }
+{
+    if !first {
+        return false;
+    }
+    if !second {
+        return false;
+    }
+    third
+}
+
+// The instruction whose row begins at this place, by its code, 1 to 11: what is named exists, constants are in range, unused
+// numbers are 0.
 fn instr_fits(plan: &[i32], k: Counts, left: usize, at: usize) -> bool
     requires { ⌜ Sized k × (left ≤ INSTRUCTIONS) × (at + INSTR-ROW ≤ length (now plan)) ⌝ }
     ensures { λ r. ⌜ r ≡ instr-fits k left (drop at (now (plan .entry))) ⌝ }
 {
-    let form = form_by(named(plan, at + CODE));
-    match form {
-        Form::Wrong => false,
-        Form::Of(first, second, third) => {
-            if !field_fits(k, left, first, read(plan, at + FIRST)) {
-                return false;
-            }
-            if !field_fits(k, left, second, read(plan, at + SECOND)) {
-                return false;
-            }
-            field_fits(k, left, third, read(plan, at + THIRD))
-        }
+    let code = named(plan, at + CODE);
+    let x = read(plan, at + FIRST);
+    let y = read(plan, at + SECOND);
+    let z = read(plan, at + THIRD);
+    match code {
+        1 => all_three(one_of(k.states, x), same(y, 0), same(z, 0)),
+        2 => all_three(one_of(k.states, x), parent_fits(k, y), same(z, 0)),
+        3 => all_three(one_of(k.states, x), skip_fits(left, y), same(z, 0)),
+        4 => all_three(one_of(k.states, x), skip_fits(left, y), same(z, 0)),
+        5 => all_three(one_of(k.states, x), skip_fits(left, y), same(z, 0)),
+        6 => all_three(one_of(k.states, x), one_of(k.states, y), skip_fits(left, z)),
+        7 => all_three(one_of(k.vars, x), in_range(y), same(z, 0)),
+        8 => all_three(one_of(k.vars, x), in_range(y), same(z, 0)),
+        9 => all_three(one_of(k.vars, x), same(y, 0), same(z, 0)),
+        10 => all_three(count_fits(1, k.events, x), in_range(y), same(z, 0)),
+        11 => all_three(in_range(x), same(y, 0), same(z, 0)),
+        _ => false,
     }
 }
 

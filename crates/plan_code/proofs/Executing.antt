@@ -12,7 +12,6 @@ use Rattle.numbers.specs.Place.{placeOf}
 use Rattle.numbers.specs.declared.Place.{Place as Slot}
 use Rattle.numbers.specs.declared.Place.the-variants.{Empty as empty, At as holds}
 use Rattle.meaning.specs.declared.chart.VarRow.{VarRow}
-use Rattle.meaning.specs.declared.chart.Act.{Act}
 use Rattle.meaning.specs.declared.chart.Act.the-variants.{SetTo as set-to, AddTo as add-to, TakeTo as take-to, Send as send, Tell as tell}
 use Rattle.meaning.specs.declared.plan.Instr.{Instr}
 use Rattle.meaning.specs.declared.plan.Instr.the-variants.{In as go-in, Out as go-out, SkipOut as skip-out, SkipEmpty as skip-empty}
@@ -20,22 +19,22 @@ use Rattle.meaning.specs.declared.plan.Instr.the-variants.{SkipFull as skip-ful
 use Rattle.meaning.specs.Steps.{Res, ok, refuse, Step, bind, _then_, require}
 use Rattle.meaning.specs.Chart.{no-var}
 use Rattle.meaning.specs.Tree.{var-row}
-use Rattle.meaning.specs.Effects.{mark-left, mark-entered, act-on, act-var, perform, store-in}
+use Rattle.meaning.specs.Effects.{mark-left, mark-entered, assign, act-on, act-var, perform, store-in}
 use Rattle.meaning.specs.Widget.{Ctx, ENTRY, is-active, slot, is-empty, is-filled}
-use Rattle.meaning.specs.Widget.{set-active, set-slot, change, written, emit, numbers, left}
+use Rattle.meaning.specs.Widget.{set-active, set-slot, change, written, emit, numbers, left, told}
 use Rattle.meaning.specs.Machine.{Mach, passing, go-on, on-if, holds-it, exec-now}
 use Rattle.meaning.specs.Value.{VAR-ROW, var-by}
-use Rattle.meaning.specs.WellFormed.{SIX, counts-of, plan-by, well-formed}
+use Rattle.meaning.specs.WellFormed.{SIX, counts-of, plan-by}
 use Rattle.plan_rows.specs.Rows.{row}
 use Rattle.plan_rows.proofs.Rows.{sized, var-of-plan, var-there}
 use Rattle.plan_choice.proofs.Facts.{passes}
-use Rattle.widget.specs.Acts.{Named}
+use Rattle.widget.specs.Acts.{adding, sending}
 use Rattle.queue.specs.Numbers.{QUEUE-NUMBERS}
 use Rattle.widget.specs.View.{Lent, with-active, with-slots, with-trace, ctx, tracing, said, went, Did}
 use Rattle.widget.proofs.Going.{said-ok}
 use Rattle.widget.specs.declared.Went.{Went}
 use Rattle.plan_code.specs.declared.Moved.{Moved}
-use Rattle.plan_code.specs.Code.{Acts, moved-by, moved, Execs, Slotted}
+use Rattle.plan_code.specs.Code.{Varied, moved-by, moved, Execs, Slotted}
 
 -- ---- an effect
 
@@ -71,12 +70,30 @@ module _ {vs : List VarRow} {a : ℤ} {before after : Lent} {at : ℕ} {w : Went
   unfolding exec-now
   leaves {i} {s} {p} q d h = effect (go-out s p) q (mark-left p s) (λ k. refl) d h
 
-  pub acts : {i : Instr} {x : Act} (b : VarRow) → i ≡ does x → ((y : ℤ) → act-on b y x ≡ perform vs y x)
-      → Did (act-on b a x) before at w after
+  pub sets : {i : Instr} (v : ℕ) (x : ℤ) → i ≡ does (set-to v x) → Did (assign (var-row vs v) v x) before at w after
       → after .slots ≡ before .slots → Execs vs a i before at r after
-  unfolding exec-now
-  acts {i} {x} b q f d h =
-      effect (does x) q (perform vs a x) (λ k. refl) (subst (λ D. Did D before at w after) (f a) d) (λ z. ap length h)
+  unfolding exec-now perform act-on act-var
+  sets v x q d h = effect (does (set-to v x)) q (assign (var-row vs v) v x) (λ k. refl) d (λ z. ap length h)
+
+  pub adds : {i : Instr} (v : ℕ) (x : ℤ) → i ≡ does (add-to v x) → Did (adding (var-row vs v) v x) before at w after
+      → after .slots ≡ before .slots → Execs vs a i before at r after
+  unfolding exec-now perform act-on act-var adding
+  adds v x q d h = effect (does (add-to v x)) q (adding (var-row vs v) v x) (λ k. refl) d (λ z. ap length h)
+
+  pub takes : {i : Instr} (v : ℕ) → i ≡ does (take-to v) → Did (assign (var-row vs v) v a) before at w after
+      → after .slots ≡ before .slots → Execs vs a i before at r after
+  unfolding exec-now perform act-on act-var
+  takes v q d h = effect (does (take-to v)) q (assign (var-row vs v) v a) (λ k. refl) d (λ z. ap length h)
+
+  pub sends : {i : Instr} (e : ℕ) (x : ℤ) → i ≡ does (send e x) → Did (sending e x) before at w after
+      → after .slots ≡ before .slots → Execs vs a i before at r after
+  unfolding exec-now perform act-on sending
+  sends e x q d h = effect (does (send e x)) q (sending e x) (λ k. refl) d (λ z. ap length h)
+
+  pub tells : {i : Instr} (x : ℤ) → i ≡ does (tell x) → Did (emit (told x)) before at w after
+      → after .slots ≡ before .slots → Execs vs a i before at r after
+  unfolding exec-now perform act-on
+  tells x q d h = effect (does (tell x)) q (emit (told x)) (λ k. refl) d (λ z. ap length h)
 
 -- leaving a state keeps the count of slots
 Long : ℕ → Res Ctx → Type 0
@@ -106,6 +123,10 @@ left-slots p s {a} {a₁} {sl} {sl₁} {t} {t₁} {at} {w} d z =
     subst (Long (length sl)) (sym e) (left-long p s (ctx before at))
 
 -- ---- a test
+
+pub passed-over : {b : Bool} {at n m : ℕ} → b ≡ false → n ≡ m
+    → _≡_ {A = Moved} (record { number = 0; at = at; over = n }) (record { number = 0; at = at; over = cond b 0 m })
+passed-over e f = rw (e, f)
 
 on-if-moves : (b : Bool) (n : ℕ) (k : Ctx) → moved-by 0 (cond b 0 n) k ≡ on-if b n k
 unfolding moved-by on-if
@@ -192,21 +213,16 @@ pub holds-at : {p : Slot} (d : ℕ) {s : ℕ} → p ≡ holds s → eqb d s ≡ 
 unfolding holds-it
 holds-at d e = rw e
 
--- ---- acts
+-- ---- variables
 
--- what the row of its variable is to an act
-module _ (ns : List ℤ) (f : well-formed ns ≡ true) (v : ℕ) (l : v < counts-of ns .vars) where
+-- the row of a variable of the plan
+module _ (ns : List ℤ) (v : ℕ) (h : Varied ns v) where
   pub row-there : SIX + (v + 1) * VAR-ROW ≤ length ns
-  row-there = var-there ns (counts-of ns) (passes (record { formed = f; counted = refl }) .whole) v l
+  row-there = var-there ns (counts-of ns) (passes (record { formed = h .0; counted = refl }) .whole) v (h .1)
 
-  pub row-acts : {r : VarRow} (x : Act) → r ≡ var-by (row VAR-ROW SIX v ns) → act-var x ≡ v → (a : ℤ)
-      → act-on r a x ≡ perform (plan-by ns .vars) a x
-  unfolding perform var-row
-  row-acts {r} x q e a = ap (λ y. act-on y a x) (q ∙ sym (var-of-plan ns v no-var l) ∙ ap (λ i. getD (plan-by ns .vars) i no-var) (sym e))
+  pub row-is : {r : VarRow} → r ≡ var-by (row VAR-ROW SIX v ns) → r ≡ var-row (plan-by ns .vars) v
+  unfolding var-row
+  row-is q = q ∙ sym (var-of-plan ns v no-var (h .1))
 
-pub acts-named : (ns : List ℤ) (x : Act) → Acts (counts-of ns .vars) x → Named x
-acts-named ns (set-to v x) h = omega (arith, sized ns .vars, h)
-acts-named ns (add-to v x) h = omega (arith, sized ns .vars, h)
-acts-named ns (take-to v) h = omega (arith, sized ns .vars, h)
-acts-named ns (send e x) h = h
-acts-named ns (tell x) h = tt
+  pub var-below : v < VARIABLES
+  var-below = omega (arith, sized ns .vars, h .1)

@@ -1,4 +1,4 @@
 pub mod Walk
 pub mod Named
 pub mod Executing
-pub mod Skipping
+pub mod Reading

@@ -12,16 +12,16 @@ use lib.IntN.{negsuc, pos, ℤ}
 use lib.Signed.{leZ}
 use lib.Dec.{leb, ltb}
 use borrow.Author.Tests.{leb-true, ltb-true}
-use Rattle.sizes.specs.Sizes.{EVENTS, INSTRUCTIONS, STATES, VARIABLES}
+use Rattle.sizes.specs.Sizes.{EVENTS, INSTRUCTIONS, STATES, TRANSITIONS, VARIABLES}
 use Rattle.numbers.specs.Equal.{eqZ}
 use Rattle.numbers.specs.Place.{placeOf as as-slot}
 use Rattle.numbers.specs.Reference.{NOWHERE, ref}
 use Rattle.laws.proofs.Lists.{and-left, and-right}
 use Rattle.meaning.specs.Lists.{concat-map}
-use Rattle.meaning.specs.Value.{count-fits, num}
+use Rattle.meaning.specs.Value.{VAR-ROW, count-fits, num}
 use Rattle.meaning.specs.declared.plan.Counts.{Counts}
 use Rattle.meaning.specs.declared.plan.Instr.{Instr}
-use Rattle.meaning.specs.WellFormed.{FORMS, Field, HEAD-ROW, INSTR-ROW, a-parent, a-skip}
+use Rattle.meaning.specs.WellFormed.{FORMS, Field, SIX, HEAD-ROW, INSTR-ROW, a-parent, a-skip}
 use Rattle.meaning.specs.WellFormed.{a-state, form, unused, counts-of, heads-at, code-at, head-rows}
 use Rattle.meaning.specs.WellFormed.{head-by, instr-of, instr-act-by, instr-by, plan-by}
 use Rattle.meaning.specs.WellFormed.{all-blocks-fill, blocks-fill, field-fits, form-fits, instr-fits}
@@ -86,6 +86,7 @@ module _ (k : Counts) (sized : Sized k) (left : ℕ) (near : left ≤ INSTRUCTIO
   code-named (suc (suc (suc (suc (suc zero))))) e = (state (and-left _ _ e), skips a-state e)
   code-named (suc (suc (suc (suc (suc (suc zero)))))) e = (
     state (and-left _ _ e),
+    below (k .states) STATES (num row 2) (sized .states) (second a-state a-state a-skip e),
     skip left (num row 3) near
         (third a-state a-state a-skip e),
   )
@@ -139,6 +140,14 @@ in-block k (suc n) l e (suc j) h =
     let f = sym (code-next k n (left-after-each n) l (code-first k n (left-after-each n) l e)) ∙ e in
     rw z (subst (λ m. instr-fits k (n - j - 1) m ≡ true) (drop-drop (j * INSTR-ROW) INSTR-ROW l ∙ ap (λ m. drop m l) y)
     (in-block k n (drop INSTR-ROW l) f j (omega arith)))
+
+-- no plan is so long that the place where its block ends were past 64 bits
+pub block-near : {ns : List ℤ} {k : Counts} {start len : ℕ} → Block ns k start len → {base : ℕ} → base ≡ code-at k
+    → base + (start + len) * INSTR-ROW ≤ SIX + VARIABLES * VAR-ROW + TRANSITIONS * HEAD-ROW + INSTRUCTIONS * INSTR-ROW
+unfolding code-at heads-at
+block-near b p =
+    let s = counts-sized (b .examined) in
+    omega (arith, s .vars, s .heads, s .instructions, b .within, p)
 
 module _ {ns : List ℤ} {k : Counts} {start len : ℕ} (b : Block ns k start len) {base : ℕ} (p : base ≡ code-at k) (i : ℕ) (l : start ≤ i)
     (h : i < start + len) where

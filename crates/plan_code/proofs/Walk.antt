@@ -1,7 +1,7 @@
 -- Running a block as a walk (01, "pass over n"), over plain variables: with n instructions to be passed over, what is run is what stands n
 -- further on; so a block is its first instruction and then what stands so far on as that says. Assumes nothing.
 use mathlib.Core.Path.{_≡_, refl, sym, ap, _∙_, subst}
-use Prim.Native.Nat.{ℕ, zero, suc, _+_, _-_, _≤_, _<_}
+use Prim.Native.Nat.{ℕ, zero, suc, _+_, _-_, _*_, _≤_, _<_}
 use native.Mathlib.Omega.{arith}
 use native.Mathlib.Numerals.{add-one}
 use mathlib.Core.List.{List, [], _∷_}
@@ -11,14 +11,15 @@ use lib.IntN.{ℤ}
 use Rattle.sizes.specs.Sizes.{INSTRUCTIONS}
 use Rattle.meaning.specs.declared.chart.VarRow.{VarRow}
 use Rattle.meaning.specs.declared.plan.Instr.{Instr}
+use Rattle.meaning.specs.WellFormed.{INSTR-ROW}
 use Rattle.meaning.specs.Steps.{Res, ok, refuse, Step, bind, each}
 use Rattle.meaning.specs.Widget.{Ctx}
 use Rattle.meaning.specs.Machine.{Mach, passing, exec-now, exec-at, exec, run-code, end-code, run-block}
-use Rattle.widget.specs.View.{Lent, ctx, tracing, said, went, Did, Owes}
+use Rattle.widget.specs.View.{Lent, ctx, said, went, Did, Owes}
 use Rattle.widget.specs.declared.Went.{Went}
 use Rattle.widget.proofs.Going as going
 use Rattle.plan_code.specs.declared.Moved.{Moved}
-use Rattle.plan_code.specs.Code.{moved-by, moved, Execs, Ran, Passed}
+use Rattle.plan_code.specs.Code.{moved-by, moved, Execs, Ran}
 
 -- ---- passing over
 
@@ -97,20 +98,6 @@ module _ {vs : List VarRow} {a : ℤ} {code : List Instr} {end from : ℕ} {befo
       slotted = λ z. w .slotted;
     }
 
-    -- past instructions that act on nothing
-    pub walking-past : {j : ℕ} → Passed code end i (after .active) j → Walking vs a code end from before at j after next
-    unfolding ctx tracing
-    walking-past p = record {
-      owes = record {
-        gives = λ h. sym (p .same vs a (ctx after next) refl) ∙ w .owes .gives h;
-        fits = w .owes .fits;
-        kept = w .owes .kept;
-        whole = w .owes .whole;
-      };
-      onward = omega (arith, w .onward, p .onward);
-      slotted = w .slotted;
-    }
-
     module _ {ins : Instr} {r : Moved} {after₂ : Lent} (l : i < end) (m : i < length code) (q : getD code i ins ≡ ins)
         (d : Execs vs a ins after next r after₂) where
       moved-on : (n o : ℕ) (k : Ctx) → n ≡ 0 → (F : Mach → Res Ctx) → bind (moved-by n o k) F ≡ F (passing o k)
@@ -169,6 +156,13 @@ module _ {vs : List VarRow} {a : ℤ} {code : List Instr} {end from : ℕ} {befo
         onward = omega (arith, w .onward);
         slotted = d .slotted z ∙ w .slotted;
       }
+
+-- the same at the place where the row of an instruction begins, where the rows of the plan begin at base
+pub record Standing (vs : List VarRow) (a : ℤ) (code : List Instr) (base end from : ℕ) (before : Lent) (at row : ℕ) (after : Lent)
+    (next : ℕ) : Type 0 where
+  pub i : ℕ
+  pub here : row ≡ base + i * INSTR-ROW
+  pub walking : Walking vs a code end from before at i after next
 
 -- a block from its start on, by its length
 pub block-by : (vs : List VarRow) (a : ℤ) (code : List Instr)

@@ -2,13 +2,13 @@
 -- (01, "The plan"): what an instruction names, what one instruction gives over what is
 -- lent, and a block of a plan that was examined. Assumes nothing.
 use mathlib.Core.Path.{_≡_}
-use Prim.Native.Nat.{ℕ, zero, suc, _+_, _-_, _*_, _<_, _≤_}
-use mathlib.Core.Bool.{Bool, true}
+use Prim.Native.Nat.{ℕ, zero, suc, _+_, _*_, _<_, _≤_}
+use mathlib.Core.Bool.{true}
 use mathlib.Core.List.{List}
-use lib.ListN.{length, take, drop}
-use lib.IntN.{ℤ}
-use Rattle.sizes.specs.Sizes.{STATES, VARIABLES, INSTRUCTIONS}
-use Rattle.numbers.specs.Reference.{NOWHERE}
+use lib.ListN.{length, getD, take, drop}
+use lib.IntN.{ℤ, pos}
+use Rattle.sizes.specs.Sizes.{STATES, INSTRUCTIONS}
+use Rattle.numbers.specs.Reference.{ref, NOWHERE}
 use Rattle.meaning.specs.declared.chart.Act.{Act}
 use Rattle.meaning.specs.declared.chart.Act.the-variants.{SetTo as set-to, AddTo as add-to, TakeTo as take-to, Send as send, Tell as tell}
 use Rattle.meaning.specs.declared.chart.VarRow.{VarRow}
@@ -19,7 +19,7 @@ use Rattle.meaning.specs.declared.plan.Instr.the-variants.{SkipFull as skip-ful
 use Rattle.meaning.specs.Steps.{Res, ok, refuse, Step}
 use Rattle.meaning.specs.Widget.{Ctx}
 use Rattle.meaning.specs.Machine.{Mach, passing, exec-now, run-block}
-use Rattle.meaning.specs.WellFormed.{INSTR-ROW, counts-of, code-at, instr-by, plan-by, left-after-each, code-fits}
+use Rattle.meaning.specs.WellFormed.{INSTR-ROW, counts-of, code-at, instr-by, plan-by, left-after-each, code-fits, well-formed}
 use Rattle.widget.specs.Acts.{Below}
 use Rattle.widget.specs.View.{Lent, Whole, ctx, Did}
 use Rattle.widget.specs.declared.Went.{Went}
@@ -43,8 +43,28 @@ Runs vars (go-out s p) = (s < STATES) × Below STATES p
 Runs vars (skip-out s n) = (s < STATES) × (n ≤ INSTRUCTIONS)
 Runs vars (skip-empty s n) = (s < STATES) × (n ≤ INSTRUCTIONS)
 Runs vars (skip-full s n) = (s < STATES) × (n ≤ INSTRUCTIONS)
-Runs vars (skip-not s d n) = (s < STATES) × (n ≤ INSTRUCTIONS)
+Runs vars (skip-not s d n) = (s < STATES) × (d < STATES) × (n ≤ INSTRUCTIONS)
 Runs vars (does x) = Acts vars x
+
+-- ---- the row of an instruction
+
+-- the instruction whose row begins at a place
+abbrev pub instr-from : List ℤ → ℕ → Instr
+instr-from ns at = instr-by (take INSTR-ROW (drop at ns))
+
+-- its row is there, and what it names is there, in a plan that was examined
+pub record Row (ns : List ℤ) (at : ℕ) : Type 0 where
+  pub formed : well-formed ns ≡ true
+  pub whole : at + INSTR-ROW ≤ length ns
+  pub runs : Runs (counts-of ns .vars) (instr-from ns at)
+
+-- a number that is there and names something
+abbrev pub Names : List ℤ → ℕ → Type 0
+Names ns i = (i < length ns) × (ref (getD ns i (pos 0)) < NOWHERE)
+
+-- a variable of a plan that was examined
+abbrev pub Varied : List ℤ → ℕ → Type 0
+Varied ns v = (well-formed ns ≡ true) × (v < counts-of ns .vars)
 
 -- ---- one instruction
 
@@ -81,7 +101,7 @@ pub record Ran (D : Step Ctx) (before : Lent) (at : ℕ) (r : Went) (after : Len
 
 -- instruction i
 abbrev pub instr-at : List ℤ → ℕ → ℕ → Instr
-instr-at ns base i = instr-by (take INSTR-ROW (drop (base + i * INSTR-ROW) ns))
+instr-at ns base i = instr-from ns (base + i * INSTR-ROW)
 
 -- so many instructions from a place on are a block of the plan
 pub record Block (ns : List ℤ) (k : Counts) (start len : ℕ) : Type 0 where
@@ -92,9 +112,3 @@ pub record Block (ns : List ℤ) (k : Counts) (start len : ℕ) : Type 0 where
 -- what running it is
 abbrev pub block-of : List ℤ → ℤ → ℕ → ℕ → Step Ctx
 block-of ns a start len = run-block (plan-by ns .vars) a (take len (drop start (plan-by ns .code)))
-
--- where these states are active, what is run from one place of a block up to its end is what is run from another, further on
-pub record Passed (code : List Instr) (end from : ℕ) (active : List Bool) (to : ℕ) : Type 0 where
-  pub onward : from ≤ to
-  pub same : (vs : List VarRow) (a : ℤ) (k : Ctx) → k .state .active ≡ active
-      → run-block vs a (take (end - from) (drop from code)) k ≡ run-block vs a (take (end - to) (drop to code)) k

@@ -74,19 +74,17 @@ fn slots_fit(states: usize, slots: [i32; STATES]) -> bool
     true
 }
 
-// The other slots are empty.
+// The other slots are empty. Each is looked at, with no way out before the last: so the compiler tests many at once.
 fn rest_empty(states: usize, slots: [i32; STATES]) -> bool
     ensures { λ r. ⌜ r ≡ every (eqZ (negsuc 0)) (drop states slots) ⌝ }
 {
-    let mut fits = true;
+    let mut fit = true;
     let mut s = states;
     while s < STATES {
-        if !same(-1, slots[s]) {
-            fits = false;
-        }
+        fit = fit & same(-1, slots[s]);
         s += 1;
     }
-    fits
+    fit
 }
 
 // Whether a started state is one that the plan machine runs; else answer 6.

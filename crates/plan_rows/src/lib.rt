@@ -5,12 +5,9 @@ pub mod layout;
 
 use chart_rows::number_at;
 use decode::head_guard_by;
-use decode::instr_of;
 use layout::BLOCK_LENGTH;
 use layout::BLOCK_START;
-use layout::CODE;
 use layout::EVENT_COUNT;
-use layout::FIRST;
 use layout::GUARD_CONSTANT;
 use layout::GUARD_SIGN;
 use layout::GUARD_VAR;
@@ -19,13 +16,11 @@ use layout::HEAD_ROW;
 use layout::HEADER;
 use layout::INSTR_COUNT;
 use layout::INSTR_ROW;
-use layout::SECOND;
 use layout::SOURCE;
 use layout::SPAN_FIRST;
 use layout::SPAN_LAST;
 use layout::START_LENGTH;
 use layout::STATE_COUNT;
-use layout::THIRD;
 use layout::TRANSITION;
 use layout::TRIGGER;
 use layout::VAR_COUNT;
@@ -37,7 +32,6 @@ use meaning::chart::Guard;
 use meaning::chart::VarRow;
 use meaning::plan::Counts;
 use meaning::plan::Head;
-use meaning::plan::Instr;
 use numbers::reference;
 use sizes::EVENTS;
 use sizes::INSTRUCTIONS;
@@ -50,8 +44,7 @@ ghost use lib.ListN.{getD, length, take, drop};
 ghost use lib.IntN.{pos};
 ghost use Rattle.numbers.specs.Reference.{ref};
 ghost use Rattle.meaning.specs.Value.{size-by, var-by, VAR-ROW};
-ghost use Rattle.meaning.specs.WellFormed.{SIX, HEAD-ROW, INSTR-ROW, counts-of, heads-at, code-at, plan-end, head-by};
-ghost use Rattle.meaning.specs.WellFormed.{instr-by};
+ghost use Rattle.meaning.specs.WellFormed.{SIX, HEAD-ROW, counts-of, heads-at, code-at, plan-end, head-by};
 ghost use Rattle.plan_rows.specs.Rows.{Sized, row};
 
 // The count at i, 0 where it does not keep its size.
@@ -174,18 +167,4 @@ pub fn head_row(plan: &[i32], base: usize, h: usize) -> Head
         start: block_start(plan, at),
         length: block_length(plan, at),
     }
-}
-
-// Instruction i, where the instructions begin at base.
-pub fn instr(plan: &[i32], base: usize, i: usize) -> Instr
-    requires { ⌜ base + (i + 1) * INSTR-ROW ≤ length (now plan) ⌝ }
-    ensures { λ r. ⌜ r ≡ instr-by (row INSTR-ROW base i (now (plan .entry))) ⌝ }
-{
-    let at = base + i * INSTR_ROW;
-    instr_of(
-        read(plan, at + CODE),
-        read(plan, at + FIRST),
-        read(plan, at + SECOND),
-        read(plan, at + THIRD),
-    )
 }

@@ -1,8 +1,7 @@
 -- What the functions that load a state cite: the marks tested and read one by one, numbers that state no widget, a widget part by part.
 -- Assumes nothing.
 use mathlib.Core.Path.{_≡_, refl, sym, ap, _∙_}
-use mathlib.Core.Bool.{Bool, true, false, not, _&&_}
-use mathlib.Core.Logic.{_⊎_, inl, inr}
+use mathlib.Core.Bool.{Bool, true, false, not, _&&_, true≢false}
 use mathlib.Core.List.{List, [], _∷_, _++_, map}
 use Prim.Native.Nat.{ℕ, _+_, _<_, _≤_}
 use native.Mathlib.Numerals.{add-one}
@@ -25,35 +24,24 @@ use Rattle.saved.proofs.Pasted.{paste-front, paste-whole}
 
 -- ---- the marks
 
-and-true : (a : Bool) → (a && true) ≡ a
-and-true true = refl
-and-true false = refl
-
-and-false : (a : Bool) → (a && false) ≡ false
-and-false true = refl
-and-false false = refl
-
-and-both-ways : (a b c : Bool) → (a && (b && c)) ≡ ((a && b) && c)
-and-both-ways true b c = refl
-and-both-ways false b c = refl
-
-last-mark : (ns : List ℤ) (n : ℤ) → every is-mark (ns ++ (n ∷ [])) ≡ (every is-mark ns && is-mark n)
+every-last : {A : Type 0} (p : A → Bool) (xs : List A) (x : A) → every p xs && p x ≡ every p (xs ++ (x ∷ []))
 unfolding every
-last-mark [] n = and-true (is-mark n)
-last-mark (x ∷ ns) n = ap (λ b. is-mark x && b) (last-mark ns n) ∙ and-both-ways (is-mark x) (every is-mark ns) (is-mark n)
-
--- one more is tested: f says whether those before it are marks, f' whether it is one too
-pub marked-more : (ns : List ℤ) (i : ℕ) (f f' : Bool) → i < length ns → f ≡ every is-mark (take i ns)
-    → ((within (pos 0) (getD ns i (pos 0)) (pos 1) ≡ false) × (f' ≡ false)) ⊎ ((within (pos 0) (getD ns i (pos 0)) (pos 1) ≡ true) × (f' ≡ f))
-    → f' ≡ every is-mark (take (i + 1) ns)
-unfolding is-mark
-marked-more ns i f f' h e came =
-    rw (add-one, take-suc ns i (pos 0) h) (by-way came ∙ sym (last-mark (take i ns) (getD ns i (pos 0))))
+every-last p [] x = go (p x)
   where
-    by-way : ((is-mark (getD ns i (pos 0)) ≡ false) × (f' ≡ false)) ⊎ ((is-mark (getD ns i (pos 0)) ≡ true) × (f' ≡ f))
-        → f' ≡ (every is-mark (take i ns) && is-mark (getD ns i (pos 0)))
-    by-way (inl w) = w .1 ∙ sym (ap (λ b. every is-mark (take i ns) && b) (w .0) ∙ and-false (every is-mark (take i ns)))
-    by-way (inr w) = w .1 ∙ e ∙ sym (ap (λ b. every is-mark (take i ns) && b) (w .0) ∙ and-true (every is-mark (take i ns)))
+    go : (b : Bool) → b ≡ b && true
+    go true = refl
+    go false = refl
+every-last p (y ∷ xs) x = go (p y) ∙ ap (λ b. p y && b) (every-last p xs x)
+  where
+    go : (b : Bool) → (b && every p xs) && p x ≡ b && (every p xs && p x)
+    go true = refl
+    go false = refl
+
+-- one more is tested
+pub marked-more : (ns : List ℤ) (i : ℕ) {fit m : Bool} → i < length ns → fit ≡ every is-mark (take i ns)
+    → m ≡ within (pos 0) (getD ns i (pos 0)) (pos 1) → fit && m ≡ every is-mark (take (i + 1) ns)
+unfolding is-mark
+marked-more ns i h e f = rw (e, f, add-one, take-suc ns i (pos 0) h) (every-last is-mark (take i ns) (getD ns i (pos 0)))
 
 part-long : (ns : List ℤ) → MARKS ≤ length ns → length (map is-set (part 1 STATES ns)) ≡ STATES
 unfolding part

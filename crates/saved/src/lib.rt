@@ -76,20 +76,19 @@ fn copy(from: &[i32], at: usize, to: &mut [i32], place: usize, count: usize)
 
 // ---- numbers to a state
 
-// Whether the started mark and every active mark is 0 or 1.
+// Whether the started mark and every active mark is 0 or 1. Each is looked at, with no way out before the last: so the compiler tests many
+// at once.
 fn marked(numbers: &[i32]) -> bool
     requires { ⌜ marks ≤ length (now numbers) ⌝ }
     ensures { λ r. ⌜ r ≡ every is-mark (take marks (now (numbers .entry))) ⌝ }
 {
-    let mut fits = true;
+    let mut fit = true;
     let mut i: usize = 0;
     while i < MARKS {
-        if !numbers::between(0, numbers[i], 1) {
-            fits = false;
-        }
+        fit = fit & numbers::between(0, numbers[i], 1);
         i += 1;
     }
-    fits
+    fit
 }
 
 // Whether the numbers state a widget. A queue longer than its places is stated: the calls refuse it themselves.

@@ -19,7 +19,7 @@ use Rattle.meaning.specs.declared.chart.Act.the-variants.{SetTo as set-to, AddT
 use Rattle.meaning.specs.Effects.{held, assign, act-on, take-queue, enqueue, store-in, mark-left, mark-entered}
 use Rattle.widget.specs.declared.Went.{Went}
 use Rattle.widget.specs.View.{Lent, Whole, with-active, with-slots, with-vars, with-queue, with-trace, tracing, ctx, said, went, Noted, Did}
-use Rattle.widget.specs.Acts.{stored, sending}
+use Rattle.widget.specs.Acts.{stored, adding, sending}
 use Rattle.widget.proofs.Noting.{emit-notes}
 use Rattle.widget.proofs.Going.{then-on, then-stop, same-step, said-ok}
 
@@ -118,20 +118,26 @@ module _ {k : Lent} {at : ℕ} {w : Went} {t′ : List ℤ} where
 
 -- ---- the acts
 
+module _ {k : Lent} {at : ℕ} {r : Went} {k₁ : Lent} (row : VarRow) (v : ℕ) (x : ℤ) where
+  pub assigned : Did (stored v (holdZ x (row .low) (row .high))) k at r k₁ → Did (assign row v x) k at r k₁
+  unfolding assign held stored
+  assigned d = d
+
+  pub added : Did (stored v (holdZ (getD (k .vars) v (pos 0) +ℤ x) (row .low) (row .high))) k at r k₁ → Did (adding row v x) k at r k₁
+  unfolding adding assign held stored look value-of ctx tracing
+  added d = same-step (adding row v x) refl d
+
 module _ {k : Lent} {at : ℕ} {r : Went} {k₁ : Lent} (row : VarRow) (arg : ℤ) {act : Act} where
-  pub act-set : {v : ℕ} {x : ℤ} → act ≡ set-to v x → Did (stored v (holdZ x (row .low) (row .high))) k at r k₁
-      → Did (act-on row arg act) k at r k₁
-  unfolding act-on assign held stored
+  pub act-set : {v : ℕ} {x : ℤ} → act ≡ set-to v x → Did (assign row v x) k at r k₁ → Did (act-on row arg act) k at r k₁
+  unfolding act-on
   act-set e d = rw e d
 
-  pub act-add : {v : ℕ} {x : ℤ} → act ≡ add-to v x → Did (stored v (holdZ (getD (k .vars) v (pos 0) +ℤ x) (row .low) (row .high))) k at r k₁
-      → Did (act-on row arg act) k at r k₁
-  unfolding act-on assign held stored look value-of ctx tracing
-  act-add {v} {x} e d = rw e (same-step (act-on row arg (add-to v x)) refl d)
+  pub act-add : {v : ℕ} {x : ℤ} → act ≡ add-to v x → Did (adding row v x) k at r k₁ → Did (act-on row arg act) k at r k₁
+  unfolding act-on adding
+  act-add e d = rw e d
 
-  pub act-take : {v : ℕ} → act ≡ take-to v → Did (stored v (holdZ arg (row .low) (row .high))) k at r k₁
-      → Did (act-on row arg act) k at r k₁
-  unfolding act-on assign held stored
+  pub act-take : {v : ℕ} → act ≡ take-to v → Did (assign row v arg) k at r k₁ → Did (act-on row arg act) k at r k₁
+  unfolding act-on
   act-take e d = rw e d
 
   pub act-send : {e : ℕ} {x : ℤ} → act ≡ send e x → Did (sending e x) k at r k₁ → Did (act-on row arg act) k at r k₁

@@ -4,20 +4,11 @@ use mathlib.Core.Path.{_≡_, refl, sym, ap, _∙_}
 use Prim.Native.Nat.{ℕ, zero, suc, _+_, _-_, _≤_, _<_}
 use mathlib.Core.Bool.{Bool, true, false, not, cond, _&&_}
 use mathlib.Core.List.{List, [], _∷_}
-use mathlib.Core.Logic.{_⊎_, inl, inr}
 use native.Mathlib.Omega.{arith}
 use native.Mathlib.Numerals.{add-one}
 use lib.ListN.{length, getD, take, drop, drop-of-length-le}
 use lib.Seq.{drop-cons}
 use Rattle.meaning.specs.Lists.{every, keep, from}
-
-never : (f : Bool) → (f && false) ≡ false
-never true = refl
-never false = refl
-
-and-true : (f : Bool) → (f && true) ≡ f
-and-true true = refl
-and-true false = refl
 
 module _ {A : Type 0} (p : A → Bool) (xs : List A) (i : ℕ) where
   every-at : (d : A) → i < length xs → every p (drop i xs) ≡ (p (getD xs i d) && every p (drop (i + 1) xs))
@@ -34,19 +25,21 @@ module _ {A : Type 0} (p : A → Bool) (xs : List A) (i : ℕ) where
   unfolding every
   every-done e h = sym (ap (every p) (drop-of-length-le xs h)) ∙ e
 
--- The same loop without leaving it early: f says whether all elements before i passed.
-module _ {A : Type 0} (p : A → Bool) (xs : List A) (i : ℕ) where
-  -- one more element: f' is false where it fails, and else what f was
-  pub all-more : {f f' g : Bool} (d : A) → (f && every p (drop i xs)) ≡ g → i < length xs → ((p (getD xs i d) ≡ false) × (f' ≡ false)) ⊎ ((p (getD xs i d) ≡ true) × (f' ≡ f))
-      → (f' && every p (drop (i + 1) xs)) ≡ g
-  all-more {f = f} d e h (inl w) =
-      ap (λ b. b && every p (drop (i + 1) xs)) (w .1) ∙ sym (never f) ∙ ap (λ b. f && b) (sym (every-at p xs i d h ∙ ap (λ b. b && every p (drop (i + 1) xs)) (w .0))) ∙ e
-  all-more {f = f} d e h (inr w) =
-      ap (λ b. b && every p (drop (i + 1) xs)) (w .1) ∙ ap (λ b. f && b) (sym (every-at p xs i d h ∙ ap (λ b. b && every p (drop (i + 1) xs)) (w .0))) ∙ e
+  -- a loop that looks at each, and keeps whether all before i passed
+  pub every-and : {g : Bool} (ok : Bool) (d : A) → ok && every p (drop i xs) ≡ g → i < length xs → (ok && p (getD xs i d)) && every p (drop (i + 1) xs) ≡ g
+  every-and ok d e h = go ok (p (getD xs i d)) ∙ sym (ap (λ b. ok && b) (every-at d h)) ∙ e
+    where
+      go : (a b : Bool) → (a && b) && every p (drop (i + 1) xs) ≡ a && (b && every p (drop (i + 1) xs))
+      go true b = refl
+      go false b = refl
 
-  pub all-done : {f g : Bool} → (f && every p (drop i xs)) ≡ g → length xs ≤ i → f ≡ g
+  pub every-all : {g ok : Bool} → ok && every p (drop i xs) ≡ g → length xs ≤ i → ok ≡ g
   unfolding every
-  all-done {f = f} e h = sym (ap (λ b. f && b) (ap (every p) (drop-of-length-le xs h)) ∙ and-true f) ∙ e
+  every-all {g} {ok} e h = go ok ∙ sym (ap (λ ys. ok && every p ys) (drop-of-length-le xs h)) ∙ e
+    where
+      go : (a : Bool) → a ≡ a && true
+      go true = refl
+      go false = refl
 
 -- ---- the numbers from 0 to below n
 

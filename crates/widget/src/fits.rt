@@ -62,16 +62,14 @@ fn waiting_fit(events: usize, queue: Queue) -> bool
 fn rest_free(queue: Queue) -> bool
     ensures { λ r. ⌜ r ≡ every is-none (drop (queue .len) (queue .items)) ⌝ }
 {
-    let mut fits = true;
+    let mut fit = true;
     let mut i = queue.len;
     while i < QUEUE {
         let item = queue.items[i];
-        if !is_free(item) {
-            fits = false;
-        }
+        fit = fit & is_free(item);
         i += 1;
     }
-    fits
+    fit
 }
 
 // 01, answer 6: queue over 16 or with a wrong event or argument, or a free place that holds something.
@@ -87,17 +85,15 @@ pub fn queue_fits(events: usize, queue: Queue) -> bool
     rest_free(queue)
 }
 
-// 01, answer 6: a state that there is not is not active.
+// 01, answer 6: a state that there is not is not active. Every mark is looked at, with no way out before the last: so the compiler tests many at once.
 pub fn marks_fit(states: usize, active: [bool; STATES]) -> bool
     ensures { λ r. ⌜ r ≡ every not (drop states active) ⌝ }
 {
-    let mut fits = true;
+    let mut fit = true;
     let mut i = states;
     while i < STATES {
-        if active[i] {
-            fits = false;
-        }
+        fit = fit & !active[i];
         i += 1;
     }
-    fits
+    fit
 }

@@ -24,9 +24,9 @@ ghost use lib.IntN.{pos};
 ghost use Rattle.sizes.specs.Sizes.{STATES as states, VARIABLES as variables};
 ghost use Rattle.numbers.specs.Reference.{NOWHERE};
 ghost use Rattle.meaning.specs.Widget.{emit as emits, taken, told};
-ghost use Rattle.meaning.specs.Effects.{act-on, mark-left, mark-entered};
+ghost use Rattle.meaning.specs.Effects.{assign as assigns, act-on, mark-left, mark-entered};
 ghost use Rattle.widget.specs.View.{Lent, with-active, with-slots, with-vars, with-queue, with-trace, Noted, Within, Did};
-ghost use Rattle.widget.specs.Acts.{stored, sending, Named, Below};
+ghost use Rattle.widget.specs.Acts.{stored, adding, sending, Named, Below};
 
 // How many numbers an entry has.
 const ENTRY: usize = 3;
@@ -131,8 +131,39 @@ pub fn send(
     wrote
 }
 
-// 01, acts s, a, k, q, o, with the row of the act's variable and the event's argument: set, add and take hold the value at
-// the nearer end of the variable's range.
+// 01, acts s and k: the variable takes the value, held at the nearer end of its range.
+pub fn assign(
+    row: VarRow,
+    v: usize,
+    x: i32,
+    vars: &mut [i32; VARIABLES],
+    trace: &mut [i32],
+    at: usize,
+) -> Went
+    requires { ⌜ (v < variables) × (at ≤ length (now trace)) ⌝ }
+    ensures { λ r. ⌜ Within (now (trace .entry)) r (now (trace .exit)) × ((k : Lent) → Did (assigns row v x) (with-vars (now (vars .entry)) (with-trace (now (trace .entry)) k)) at r (with-vars (now (vars .exit)) (with-trace (now (trace .exit)) k))) ⌝ }
+{
+    let value = hold(wide(x), row.low, row.high);
+    store(v, value, vars, trace, at)
+}
+
+// 01, act a: the same with the sum of its value and x.
+pub fn add(
+    row: VarRow,
+    v: usize,
+    x: i32,
+    vars: &mut [i32; VARIABLES],
+    trace: &mut [i32],
+    at: usize,
+) -> Went
+    requires { ⌜ (v < variables) × (at ≤ length (now trace)) ⌝ }
+    ensures { λ r. ⌜ Within (now (trace .entry)) r (now (trace .exit)) × ((k : Lent) → Did (adding row v x) (with-vars (now (vars .entry)) (with-trace (now (trace .entry)) k)) at r (with-vars (now (vars .exit)) (with-trace (now (trace .exit)) k))) ⌝ }
+{
+    let value = add_held(vars[v], x, row.low, row.high);
+    store(v, value, vars, trace, at)
+}
+
+// 01, acts s, a, k, q, o, with the row of the act's variable and the event's argument.
 pub fn perform(
     row: VarRow,
     arg: i32,
@@ -146,18 +177,9 @@ pub fn perform(
     ensures { λ r. ⌜ Within (now (trace .entry)) r (now (trace .exit)) × ((k : Lent) → Did (act-on row arg act) (with-vars (now (vars .entry)) (with-queue (now (queue .entry)) (with-trace (now (trace .entry)) k))) at r (with-vars (now (vars .exit)) (with-queue (now (queue .exit)) (with-trace (now (trace .exit)) k)))) ⌝ }
 {
     match act {
-        Act::SetTo(v, x) => {
-            let value = hold(wide(x), row.low, row.high);
-            store(v, value, vars, trace, at)
-        }
-        Act::AddTo(v, x) => {
-            let value = add_held(vars[v], x, row.low, row.high);
-            store(v, value, vars, trace, at)
-        }
-        Act::TakeTo(v) => {
-            let value = hold(wide(arg), row.low, row.high);
-            store(v, value, vars, trace, at)
-        }
+        Act::SetTo(v, x) => assign(row, v, x, vars, trace, at),
+        Act::AddTo(v, x) => add(row, v, x, vars, trace, at),
+        Act::TakeTo(v) => assign(row, v, arg, vars, trace, at),
         Act::Send(e, x) => send(e, x, queue, trace, at),
         Act::Tell(x) => tell(x, trace, at),
     }

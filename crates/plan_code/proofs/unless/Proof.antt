@@ -1,4 +1,6 @@
 -- `unless` passes over n where the test fails. Assumes nothing.
+use Rattle.plan_code.proofs.Executing.{passed-over}
+use borrow.Author.Needs.{needs}
 use Rattle.plan_code.proofs.unless.Statement.{statement}
 use Rattle.plan_code.proofs.unless.Tie as tie
 
@@ -6,7 +8,7 @@ returns : tie.Need-returns
 returns c = rw (c .if1 .taken)
 
 returns-2 : tie.Need-returns-2
-returns-2 c = rw (c .if1 .left)
+returns-2 c = passed-over (c .before .if1 .left) (c .index .ensures)
 
 pub unless-spec : {M : Type 1} → statement M
-unless-spec = tie.close (tie.spec returns returns-2)
+unless-spec = tie.close (tie.spec returns (λ c κs. search needs) returns-2)

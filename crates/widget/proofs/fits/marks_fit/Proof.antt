@@ -1,6 +1,5 @@
 -- `marks_fit` looks at every mark from `states` on. Assumes nothing.
-use mathlib.Core.Path.{_≡_, refl, sym, ap, _∙_}
-use mathlib.Core.Logic.{⊎-elim, inl, inr}
+use mathlib.Core.Path.{_≡_, refl}
 use native.Mathlib.Omega.{arith}
 use borrow.Author.Needs.{needs}
 use Prim.Native.Nat.{_-_}
@@ -8,28 +7,27 @@ use mathlib.Core.Bool.{not, false, _&&_}
 use lib.ListN.{drop, length}
 use Rattle.sizes.specs.Sizes.{STATES}
 use Rattle.meaning.specs.Lists.{every}
-use Rattle.widget.proofs.Every.{all-more, all-done}
+use Rattle.widget.proofs.Every.{every-and, every-all}
 use Rattle.widget.proofs.fits.marks_fit.Statement.{statement}
 use Rattle.widget.proofs.fits.marks_fit.Tie as tie
 
 abbrev Inv-loop : tie.InvT-loop
-Inv-loop states active fits₀ i₀ fits i = ((fits && every not (drop i active)) ≡ every not (drop states active))
+Inv-loop states active fit₀ i₀ fit i = fit && every not (drop i active) ≡ every not (drop states active)
 
 abbrev μ-loop : tie.MeasureT-loop
-μ-loop states active fits₀ i₀ fits i = STATES - i
+μ-loop states active fit₀ i₀ fit i = STATES - i
 
 long : (c : tie.Start Inv-loop μ-loop) → length (c .args .t2) ≡ STATES
 long c = search needs
 
 loop-again : tie.Need-loop-again Inv-loop μ-loop
 loop-again c =
-    let start = c .before .before .before in
-    all-more not (start .args .t2) (c .before .before .loop .i) false (c .before .before .loop .inv) (omega (arith, long start))
-    (⊎-elim (λ w. inl (ap not (w .0 .taken), w .1)) (λ w. inr (ap not (w .0 .left), w .1)) (c .if1 .came))
+    every-and not (c .before .before .args .t2) (c .before .loop .i) (c .before .loop .fit) false (c .before .loop .inv)
+    (omega (arith, long (c .before .before)))
 
 returns : tie.Need-returns Inv-loop μ-loop
 returns c =
-    all-done not (c .before .before .args .t2) (c .before .loop .i) (c .before .loop .inv) (omega (arith, long (c .before .before)))
+    every-all not (c .before .before .args .t2) (c .before .loop .i) (c .before .loop .inv) (omega (arith, long (c .before .before)))
 
 pub marks-fit-spec : {M : Type 1} → statement M
 marks-fit-spec =
