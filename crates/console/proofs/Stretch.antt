@@ -47,7 +47,8 @@ module _ (f : Turns) where
 
 -- ---- the bytes between two places
 
-pub slice-next : (part : List ℕ) (from i : ℕ) → from ≤ i → i < length part → slice from (i + 1) part ≡ slice from i part ++ (getD part i 0 ∷ [])
+pub slice-next : (part : List ℕ) (from i : ℕ) → from ≤ i → i < length part
+    → slice from (i + 1) part ≡ slice from i part ++ (getD part i 0 ∷ [])
 slice-next part from i h k =
     ap (λ n. slice from n part) (add-one i)
     ∙ ap (drop from) (take-suc part i 0 k)

@@ -225,7 +225,8 @@ module _ (f : Turns) (part : List ℕ) (from : ℕ) (u : Seen) (before : List �
   module _ (i : ℕ) (out : List ℕ) (here : Under) (w : Walking i out here) (c : Collected) (e : roomy (pen out (here .at)) ≡ true)
       (k : Collects part i (here .scan) c) where
     pub walk-ends : c .upto ≡ length part
-        → Walks f part from u before at out (record { upto = c .upto; under = record { state = here .state; scan = c .scan; at = here .at } })
+        → Walks f part from u before at out
+        (record { upto = c .upto; under = record { state = here .state; scan = c .scan; at = here .at } })
     walk-ends h = walk-done (c .upto) out (record { state = here .state; scan = c .scan; at = here .at })
         (walk-inside i out here w c e k) (omega arith)
 

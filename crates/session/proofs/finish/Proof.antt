@@ -11,7 +11,8 @@ returns : tie.Need-returns
 returns c =
     let test = c .before .before .before .before .before .before in
     let began = test .before in
-    end-begun (turn (chart-of (began .before .before .before .args .chart .now))) _ _ _ _ _ _ (c .before .before .before .line-ends .ensures)
+    end-begun (turn (chart-of (began .before .before .before .args .chart .now))) _ _ _ _ _ _
+    (c .before .before .before .line-ends .ensures)
     (sym (began .began .ensures) ∙ test .if1 .taken)
 
 returns-2 : tie.Need-returns-2

@@ -13,7 +13,9 @@ run-session-requires c κs =
     (opens-ruled _ _ _ _ _ _ (opened .begin .ensures) (test .if1 .taken), omega arith, omega arith, search needs)
 
 print-requires : tie.Need-print-requires
-print-requires c κs = let w = opens-whole _ _ _ _ _ _ (c .before .before .before .before .before .begin .ensures) (omega arith) in omega arith
+print-requires c κs =
+    let w = opens-whole _ _ _ _ _ _ (c .before .before .before .before .before .begin .ensures) (omega arith) in
+    omega arith
 
 pub main-spec : {M : Type 1} → statement M
 main-spec =

@@ -9,7 +9,8 @@ use Rattle.trace.proofs.read_all.Statement.{statement}
 use Rattle.trace.proofs.read_all.Tie as tie
 
 abbrev Inv-loop : tie.InvT-loop
-Inv-loop chart out₀ trace₀ now₀ parts₀ out trace now parts = (length out ≡ length out₀) × (now .at + LARGEST ≤ length out) × (length trace ≡ ROOM)
+Inv-loop chart out₀ trace₀ now₀ parts₀ out trace now parts =
+    (length out ≡ length out₀) × (now .at + LARGEST ≤ length out) × (length trace ≡ ROOM)
 
 abbrev μ-loop : tie.MeasureT-loop
 μ-loop chart out₀ trace₀ now₀ parts₀ out trace now parts = parts
