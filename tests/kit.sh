@@ -10,6 +10,8 @@ build_program() { # ROOT NAME
     loader=$tools/lib/ld-linux-x86-64.so.2
     emulator=$tools/bin/qemu-x86_64
     [ -x "$emulator" ] || emulator=''
+    # under the emulator glibc copies and clears large blocks byte by byte unless told otherwise
+    [ -z "$emulator" ] || [ "$(uname -m)" = x86_64 ] || export GLIBC_TUNABLES=glibc.cpu.hwcaps=-ERMS,-FSRM
     for word in $(env | sed -n 's/^\(QEMU_[A-Za-z0-9_]*\)=.*/\1/p'); do unset "$word"; done
     program=$1/target/bin/$2
     mkdir -p "$1/target"

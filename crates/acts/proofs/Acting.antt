@@ -1,11 +1,10 @@
 -- The laws by which `perform_all`, `enter` and `leave` meet their promises: one turn of the loop over the action rows, what R7 says of an
 -- act, and one step after another where a refusal ends it. Assumes nothing.
 use mathlib.Core.Path.{_≡_, refl, sym, ap, subst, _∙_}
-use Prim.Native.Nat.{ℕ, _+_, _≤_, _<_}
+use Prim.Native.Nat.{ℕ, suc, _≤_, _<_}
 use mathlib.Core.Bool.{Bool, true, false, false≢true, _&&_}
 use mathlib.Core.List.{List, [], _∷_}
 use native.Mathlib.Omega.{arith}
-use native.Mathlib.Numerals.{add-one}
 use lib.ListN.{length, getD, drop, drop-of-length-le}
 use lib.Seq.{drop-cons}
 use lib.IntN.{ℤ, pos, negsuc}
@@ -35,19 +34,16 @@ use Rattle.widget.proofs.Going.{owes-all}
 use Rattle.widget.proofs.Loops.{each-none, each-next, each-ends}
 use Rattle.tree_walks.specs.Walks.{Ruled}
 use Rattle.tree_walks.proofs.Passing.{sound, rules-passed}
+use Rattle.acts.specs.Index.{before-first, row-from}
+use Rattle.acts.proofs.Finding.{owner-one, first-own, first-from, acts-onward, later-from}
 
 -- ---- an owner's acts, row by row
 
 module _ (rows : List ActRow) (o : Owner) (i : ℕ) where
-  acts-skip : i < length rows → same-owner o (getD rows i no-action .owner) ≡ false
-      → acts-in (drop i rows) o ≡ acts-in (drop (i + 1) rows) o
-  unfolding acts-in
-  acts-skip h e = rw (drop-cons rows i no-action h, e, add-one i)
-
   acts-take : i < length rows → same-owner o (getD rows i no-action .owner) ≡ true
-      → acts-in (drop i rows) o ≡ getD rows i no-action .act ∷ acts-in (drop (i + 1) rows) o
+      → acts-in (drop i rows) o ≡ getD rows i no-action .act ∷ acts-in (drop (suc i) rows) o
   unfolding acts-in
-  acts-take h e = rw (drop-cons rows i no-action h, e, add-one i)
+  acts-take h e = rw (drop-cons rows i no-action h, e)
 
   acts-end : length rows ≤ i → acts-in (drop i rows) o ≡ []
   unfolding acts-in
@@ -82,14 +78,9 @@ row-named v r i h row e = subst
     (λ x. Named (x .act)) (sym e) (named (chart-of v) (vars-most v) (events-most v r) (getD (chart-of v .actions) i no-action .act)
     (sound v r .acts i h))
 
--- the row of an action that is the owner's
-pub owned : (o : Owner) {row whole : ActRow} {b : Bool} → row ≡ whole → b ≡ same-owner o (whole .owner) → b ≡ true → same-owner o
-    (row .owner) ≡ true
-owned o e f t = ap (λ x. same-owner o (x .owner)) e ∙ sym f ∙ t
-
 -- ---- the loop over the rows
 
--- what is still to be done from row i on
+-- what is still to be done from row i on, which is one of the owner's rows or past them all
 unfoldable pub acts-from : List ℤ → ℤ → Owner → ℕ → Step Ctx
 acts-from v arg o i = each (perform (chart-of v .vars) arg) (acts-in (drop i (chart-of v .actions)) o)
 
@@ -101,6 +92,7 @@ pub record Acting (v : List ℤ) (arg : ℤ) (o : Owner) (vars q t : List ℤ) (
   pub going : w .number ≡ 0
   pub fits : w .at ≤ length t₁
   pub kept : length t₁ ≡ length t
+  pub own : before-first o (drop i (chart-of v .actions)) ≡ 0
   pub owes : (k : Lent)
       → Owes (perform-all (chart-of v) arg o) (acts-lent vars q t k) at (acts-from v arg o i) (acts-lent vars₁ q₁ t₁ k) (w .at)
 
@@ -109,9 +101,19 @@ abbrev Does : Step Ctx → List ℤ → List ℤ → List ℤ → ℕ → Went �
 Does D vars q t at r vars₁ q₁ t₁ = Within t r t₁ × ((k : Lent) → Did D (acts-lent vars q t k) at r (acts-lent vars₁ q₁ t₁ k))
 
 module _ {v : List ℤ} {arg : ℤ} {o : Owner} {vars q t : List ℤ} {at : ℕ} where
-  pub acting-begin : at ≤ length t → Acting v arg o vars q t at 0 vars q t (record { number = 0; at = at })
+  pub acting-begin : (i : ℕ) → i ≡ row-from (chart-of v) o 0 → at ≤ length t
+      → Acting v arg o vars q t at i vars q t (record { number = 0; at = at })
   unfolding acts-from perform-all acts-of
-  acting-begin h = record { going = refl; fits = h; kept = refl; owes = λ k. owes-all h }
+  acting-begin i e h = record {
+    going = refl;
+    fits = h;
+    kept = refl;
+    own = ap (λ n. before-first o (drop n (chart-of v .actions))) e ∙ first-from o (chart-of v) 0;
+    owes = λ k.
+        subst (λ xs. Owes (perform-all (chart-of v) arg o) (acts-lent vars q t k) at (each (perform (chart-of v .vars) arg) xs)
+        (acts-lent vars q t k) at)
+        (sym (ap (λ n. acts-in (drop n (chart-of v .actions)) o) e ∙ acts-onward o (chart-of v) 0)) (owes-all h);
+  }
 
   module _ {i : ℕ} {vars₁ q₁ t₁ : List ℤ} {w : Went} (h : Acting v arg o vars q t at i vars₁ q₁ t₁ w) where
     ended : length (chart-of v .actions) ≤ i → (n : ℕ) → n ≡ 0
@@ -137,25 +139,30 @@ module _ {v : List ℤ} {arg : ℤ} {o : Owner} {vars q t : List ℤ} {at : ℕ}
           (acts-lent vars₁ q₁ t₁ k) (w .at)) f
           (h .owes k)
 
-      pub acting-skip : same-owner o (row .owner) ≡ false → Acting v arg o vars q t at (i + 1) vars₁ q₁ t₁ w
-      unfolding acts-from
-      acting-skip d = record {
-        going = h .going;
-        fits = h .fits;
-        kept = h .kept;
-        owes = λ k. again k (acts-skip (chart-of v .actions) o i l (ap (λ x. same-owner o (x .owner)) (sym e) ∙ d));
-      }
+      -- the row is the owner's
+      its : same-owner o (row .owner) ≡ true
+      its = first-own o row (drop (suc i) (chart-of v .actions))
+          (ap (λ r. before-first o (r ∷ drop (suc i) (chart-of v .actions))) e
+          ∙ ap (before-first o) (sym (drop-cons (chart-of v .actions) i no-action l)) ∙ h .own)
 
-      -- the row is the owner's: its act is next
-      due : same-owner o (row .owner) ≡ true → (k : Lent)
+      -- and the next one of the row's owner is the next one of this owner
+      onward : (i₂ : ℕ) → i₂ ≡ row-from (chart-of v) (getD (chart-of v .actions) i no-action .owner) (suc i)
+          → i₂ ≡ row-from (chart-of v) o (suc i)
+      onward i₂ f = f ∙ ap (λ x. row-from (chart-of v) x (suc i)) (ap (λ r. r .owner) (sym e) ∙ sym (owner-one o (row .owner) its))
+
+      pub acting-later : (i₂ : ℕ) → i₂ ≡ row-from (chart-of v) (getD (chart-of v .actions) i no-action .owner) (suc i) → i < i₂
+      acting-later i₂ f = omega (arith, later-from (getD (chart-of v .actions) i no-action .owner) (chart-of v) (suc i))
+
+      -- its act is next
+      due : (k : Lent)
           → Owes (perform-all (chart-of v) arg o) (acts-lent vars q t k) at
-          (each (perform (chart-of v .vars) arg) (row .act ∷ acts-in (drop (i + 1) (chart-of v .actions)) o)) (acts-lent vars₁ q₁ t₁ k)
+          (each (perform (chart-of v .vars) arg) (row .act ∷ acts-in (drop (suc i) (chart-of v .actions)) o)) (acts-lent vars₁ q₁ t₁ k)
           (w .at)
-      due d k = again k
-          (acts-take (chart-of v .actions) o i l (ap (λ x. same-owner o (x .owner)) (sym e) ∙ d)
-          ∙ ap (λ x. x .act ∷ acts-in (drop (i + 1) (chart-of v .actions)) o) (sym e))
+      due k = again k
+          (acts-take (chart-of v .actions) o i l (ap (λ x. same-owner o (x .owner)) (sym e) ∙ its)
+          ∙ ap (λ x. x .act ∷ acts-in (drop (suc i) (chart-of v .actions)) o) (sym e))
 
-      module _ {n : ℕ} {of : VarRow} {r : Went} {vars₂ q₂ t₂ : List ℤ} (d : same-owner o (row .owner) ≡ true) (f : n ≡ act-var (row .act))
+      module _ {n : ℕ} {of : VarRow} {r : Went} {vars₂ q₂ t₂ : List ℤ} (f : n ≡ act-var (row .act))
           (g : of ≡ var-row (chart-of v .vars) n) (p : Does (act-on of arg (row .act)) vars₁ q₁ t₁ (w .at) r vars₂ q₂ t₂) where
         performed : (k : Lent)
             → Did (perform (chart-of v .vars) arg (row .act)) (acts-lent vars₁ q₁ t₁ k) (w .at) r (acts-lent vars₂ q₂ t₂ k)
@@ -166,16 +173,23 @@ module _ {v : List ℤ} {arg : ℤ} {o : Owner} {vars q t : List ℤ} {at : ℕ}
         pub acting-stop : (r .number ≡ 0 → ⊥) → Does (perform-all (chart-of v) arg o) vars q t at r vars₂ q₂ t₂
         acting-stop z = (
           record { fits = p .0 .fits; kept = p .0 .kept ∙ h .kept },
-          λ k. each-ends (perform (chart-of v .vars) arg) (row .act) (acts-in (drop (i + 1) (chart-of v .actions)) o) (due d k)
+          λ k. each-ends (perform (chart-of v .vars) arg) (row .act) (acts-in (drop (suc i) (chart-of v .actions)) o) (due k)
               (performed k) z,
         )
 
-        pub acting-on : r .number ≡ 0 → Acting v arg o vars q t at (i + 1) vars₂ q₂ t₂ r
+        pub acting-on : r .number ≡ 0 → (i₂ : ℕ)
+            → i₂ ≡ row-from (chart-of v) (getD (chart-of v .actions) i no-action .owner) (suc i)
+            → Acting v arg o vars q t at i₂ vars₂ q₂ t₂ r
         unfolding acts-from
-        acting-on z = record {
+        acting-on z i₂ f = record {
           going = z;
           fits = p .0 .fits;
           kept = p .0 .kept ∙ h .kept;
-          owes = λ k. each-next (perform (chart-of v .vars) arg) (row .act) (acts-in (drop (i + 1) (chart-of v .actions)) o) (due d k)
-              (performed k) z;
+          own = ap (λ m. before-first o (drop m (chart-of v .actions))) (onward i₂ f) ∙ first-from o (chart-of v) (suc i);
+          owes = λ k.
+              subst (λ xs. Owes (perform-all (chart-of v) arg o) (acts-lent vars q t k) at (each (perform (chart-of v .vars) arg) xs)
+              (acts-lent vars₂ q₂ t₂ k) (r .at))
+              (sym (ap (λ m. acts-in (drop m (chart-of v .actions)) o) (onward i₂ f) ∙ acts-onward o (chart-of v) (suc i)))
+              (each-next (perform (chart-of v .vars) arg) (row .act) (acts-in (drop (suc i) (chart-of v .actions)) o) (due k)
+              (performed k) z);
         }

@@ -1,3 +1,3 @@
-pub mod Owners
+pub mod Finding
 pub mod Acting
 pub mod Marking

@@ -1,1 +1,1 @@
-pub mod Owners
+pub mod Index

@@ -3,10 +3,10 @@
 use super::kids::kids_within;
 use super::pieces::put_stored;
 use super::pieces::put_visit;
+use acts::index::INDEX;
 use chart_rows::state_count;
 use chart_rows::tree::is_child;
 use emitter::WIDTH;
-use emitter::index::INDEX;
 use emitter::put_instr;
 use meaning::plan::Instr;
 use tree_walks::end_below;
@@ -19,7 +19,7 @@ ghost use Rattle.meaning.specs.Entry.{below, by-defaults};
 ghost use Rattle.meaning.specs.Lists.{concat-map};
 ghost use Rattle.meaning.specs.Value.{chart-of};
 ghost use Rattle.emitter.specs.Pen.{pen, emits, Room};
-ghost use Rattle.emitter.specs.Index.{Ready};
+ghost use Rattle.acts.specs.Index.{Ready};
 
 // Below s everything by default.
 pub fn put_defaults(

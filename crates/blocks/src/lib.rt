@@ -4,6 +4,7 @@ pub mod arms;
 pub mod kids;
 pub mod pieces;
 
+use acts::index::INDEX;
 use arms::put_arms;
 use arms::put_defaults;
 use chart_rows::state_count;
@@ -11,7 +12,6 @@ use chart_rows::trans_row;
 use chart_rows::tree::is_child;
 use emitter::WIDTH;
 use emitter::actions::put_acts;
-use emitter::index::INDEX;
 use kids::kids_within;
 use meaning::chart::Owner;
 use meaning::chart::Target;
@@ -32,7 +32,7 @@ ghost use Rattle.meaning.specs.Tree.{kind-of as kind-in, descendants};
 ghost use Rattle.meaning.specs.Value.{chart-of};
 ghost use Rattle.ways.specs.Ways.{goal-way, defaulting, visit-as, Inside};
 ghost use Rattle.emitter.specs.Pen.{pen, emits, Room};
-ghost use Rattle.emitter.specs.Index.{Ready};
+ghost use Rattle.acts.specs.Index.{Ready};
 ghost use Rattle.blocks.specs.Parts.{goal-code, move-code};
 
 // "for each state of the span, falling": those below s.

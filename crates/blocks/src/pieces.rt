@@ -1,12 +1,12 @@
 // What a block has for one state (01, "A block"): leaving it, entering it, with its parent's default actions where due, and entering it
 // again in a restore.
+use acts::index::INDEX;
 use chart_rows::kind_of;
 use chart_rows::parent_of;
 use chart_rows::tree::is_o;
 use chart_rows::tree::o_parent;
 use emitter::actions::act_count;
 use emitter::actions::put_acts;
-use emitter::index::INDEX;
 use emitter::put_instr;
 use meaning::chart::Owner;
 use meaning::plan::Instr;
@@ -20,7 +20,7 @@ ghost use Rattle.meaning.specs.Tree.{kind-of as kind-in};
 ghost use Rattle.meaning.specs.Value.{chart-of};
 ghost use Rattle.ways.specs.Ways.{way-by, defaulting, visit-as};
 ghost use Rattle.emitter.specs.Pen.{pen, emits, Room};
-ghost use Rattle.emitter.specs.Index.{Ready};
+ghost use Rattle.acts.specs.Index.{Ready};
 
 // "SKIPOUT s k+1, OUT s, the actions"
 pub fn put_exit(

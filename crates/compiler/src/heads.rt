@@ -1,8 +1,8 @@
 // The heads (01, "The plan"): ten numbers for each transition in choosing order, with where its block begins and how long it is.
+use acts::index::INDEX;
 use blocks::block_length;
 use chart_rows::trans_row;
 use choice::span_of;
-use emitter::index::INDEX;
 use emitter::put_four;
 use emitter::put_three;
 use meaning::chart::Guard;
@@ -20,7 +20,7 @@ ghost use Rattle.meaning.specs.Value.{chart-of};
 ghost use Rattle.tree_walks.specs.Walks.{Ruled};
 ghost use Rattle.choice.specs.Choice.{Reads};
 ghost use Rattle.emitter.specs.Pen.{pen, puts};
-ghost use Rattle.emitter.specs.Index.{Ready};
+ghost use Rattle.acts.specs.Index.{Ready};
 ghost use Rattle.compiler.specs.Plans.{In-order};
 
 // "sign (0 none, 1 =, 2 <, 3 >)"

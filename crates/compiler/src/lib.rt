@@ -3,6 +3,8 @@
 pub mod heads;
 pub mod order;
 
+use acts::index::INDEX;
+use acts::index::index_of;
 use blocks::put_block;
 use blocks::put_start;
 use chart_rows::event_count;
@@ -10,8 +12,6 @@ use chart_rows::state_count;
 use chart_rows::var_count;
 use chart_rows::var_row;
 use emitter::WIDTH;
-use emitter::index::INDEX;
-use emitter::index::index_of;
 use emitter::put_three;
 use heads::put_heads;
 use meaning::Answer;
@@ -32,7 +32,7 @@ ghost use Rattle.meaning.specs.Plan.{var-numbers, six};
 ghost use Rattle.meaning.specs.Value.{chart-of};
 ghost use Rattle.tree_walks.specs.Walks.{Ruled};
 ghost use Rattle.emitter.specs.Pen.{pen, puts, emits, Room};
-ghost use Rattle.emitter.specs.Index.{Ready};
+ghost use Rattle.acts.specs.Index.{Ready};
 ghost use Rattle.compiler.specs.Plans.{In-order, Compiles};
 
 // "the blocks in head order"

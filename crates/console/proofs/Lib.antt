@@ -4,3 +4,4 @@ pub mod ReportLaws
 pub mod Room
 pub mod Session
 pub mod Lent
+pub mod Stretch

@@ -31,7 +31,7 @@ turns-same f g h u [] = refl
 turns-same f g h u (l ∷ ls) = rw (h u (line-of (fields l)), turns-same f g h (g u (line-of (fields l)) .state) ls)
 
 -- one byte more
-scan-snoc : (s : Scan) (bs : List ℕ) (b : ℕ) → scan-on s (bs ++ (b ∷ [])) ≡ fed (scan-on s bs) b
+pub scan-snoc : (s : Scan) (bs : List ℕ) (b : ℕ) → scan-on s (bs ++ (b ∷ [])) ≡ fed (scan-on s bs) b
 unfolding scan-on
 scan-snoc s [] b = refl
 scan-snoc s (d ∷ bs) b = scan-snoc (fed s d) bs b

@@ -1,3 +1,4 @@
 pub mod Scan
 pub mod Shown
 pub mod Session
+pub mod Stretch

@@ -12,5 +12,7 @@ pub use printed::ENTRY;
 pub use printed::HEAD;
 pub use printed::LINE;
 pub use printed::report;
+pub use scan::Collected;
 pub use scan::Part;
 pub use scan::Scan;
+pub use scan::collect;

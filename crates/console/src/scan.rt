@@ -1,5 +1,6 @@
 // The input line under way (01: "lines of event, tab, argument"), by value: each byte is fed to it once, and at the line's end it says
 // what the line is. A number of any length is held at one past the range, so that no number of digits overflows.
+use fields::LF;
 use fields::TAB;
 use meaning::Line;
 use meaning::Num;
@@ -7,11 +8,13 @@ use sizes::MOST;
 ghost use mathlib.Core.Path.{_≡_};
 ghost use mathlib.Core.Option.{some};
 ghost use Prim.Native.Nat.{_≤_};
+ghost use lib.ListN.{length};
 ghost use Rattle.meaning.specs.declared.Num.the-variants.{Is};
 ghost use Rattle.meaning.specs.Number.{capped, plain, minus};
 ghost use Rattle.meaning.specs.Program.{line-by};
 ghost use Rattle.console.specs.declared.scan.Part.the-variants.{Plain, Negative};
 ghost use Rattle.console.specs.Scan.{grown, if-digit, part-fed, part-number, empty, began, fed, line-at};
+ghost use Rattle.console.specs.Stretch.{Collects};
 
 // One past the range: it stands for every number beyond.
 const BEYOND: u64 = (MOST as u64) + 1;
@@ -35,6 +38,12 @@ pub enum Scan {
     Event(Part),
     Argument(Part, Part),
     More,
+}
+
+// A line under way after the bytes of a part up to a place.
+pub struct Collected {
+    pub upto: usize,
+    pub scan: Scan,
 }
 
 // The value with one digit more.
@@ -219,5 +228,25 @@ fn posts(event: i32, argument: Num) -> Line
         Num::Is(a) => Line::Posts(event, a),
         Num::Beyond => Line::Posts(event, POSTED),
         Num::Not => Line::Wrong,
+    }
+}
+
+// The line after what a part of the input has of it from a place on: up to its LF, or to the part's end.
+pub fn collect(part: &[u8], from: usize, scan: Scan) -> Collected
+    requires { ⌜ from ≤ length (now part) ⌝ }
+    ensures { λ r. ⌜ Collects (now (part .entry)) from scan r ⌝ }
+{
+    let mut line = scan;
+    let mut i = from;
+    while i < part.len() {
+        if part[i] == LF {
+            break;
+        }
+        line = line.feed(part[i]);
+        i += 1;
+    }
+    Collected {
+        upto: i,
+        scan: line,
     }
 }

@@ -1,9 +1,9 @@
 // An owner's actions as instructions (01, "An owner's actions run in line order"), found by the index.
 use super::WIDTH;
-use super::index::INDEX;
-use super::index::OWNERS;
-use super::index::key_of;
 use super::put_instr;
+use acts::index::INDEX;
+use acts::index::first_row;
+use acts::index::next_row;
 use chart_rows::action_count;
 use chart_rows::action_row;
 use meaning::chart::Owner;
@@ -12,8 +12,8 @@ ghost use mathlib.Core.Path.{_≡_};
 ghost use lib.ListN.{length};
 ghost use Rattle.meaning.specs.Compile.{code-acts};
 ghost use Rattle.meaning.specs.Value.{chart-of};
+ghost use Rattle.acts.specs.Index.{Fits, Ready};
 ghost use Rattle.emitter.specs.Pen.{pen, emits, Room};
-ghost use Rattle.emitter.specs.Index.{Fits, Ready};
 
 // The actions of an owner.
 pub fn put_acts(
@@ -27,14 +27,13 @@ pub fn put_acts(
     ensures { λ r. ⌜ pen (now (plan .exit)) r ≡ emits (code-acts (chart-of (now (chart .entry))) owner) (pen (now (plan .entry)) at) ⌝ }
 {
     let n = action_count(chart);
-    let key = key_of(owner);
-    let mut i = index[key];
+    let mut i = first_row(chart, index, owner);
     let mut p = at;
     while i < n {
         let row = action_row(chart, i);
         let act = row.act;
         p = put_instr(plan, p, Instr::Does(act));
-        i = index[OWNERS + i];
+        i = next_row(chart, index, i);
     }
     p
 }

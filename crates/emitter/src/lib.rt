@@ -2,7 +2,6 @@
 // place counts on. So each contract is one equation with no condition, the room is asked once, and a length is learnt by writing into
 // a slice that has no room.
 pub mod actions;
-pub mod index;
 
 use meaning::chart::Act;
 use meaning::plan::Instr;

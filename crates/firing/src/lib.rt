@@ -1,5 +1,6 @@
 // Firing one transition (01, "Firing"): entry 1 of the trace, the active states of the span left, the transition's actions,
 // and the way down to the target or the history; a reaction in place leaves and enters nothing.
+use acts::index::INDEX;
 use acts::perform_all;
 use chart_rows::trans_row;
 use leave_enter::entering::towards;
@@ -16,10 +17,11 @@ use widget::mark_taken;
 ghost use mathlib.Core.Path.{_≡_};
 ghost use Prim.Native.Nat.{_≤_, _<_};
 ghost use lib.ListN.{length};
+ghost use Rattle.sizes.specs.Sizes.{TRANSITIONS as transitions};
 ghost use Rattle.queue.specs.Numbers.{QUEUE-NUMBERS as all};
 ghost use Rattle.meaning.specs.Reaction.{fire as fires};
 ghost use Rattle.meaning.specs.Value.{chart-of};
-ghost use Rattle.tree_walks.specs.Walks.{Ruled};
+ghost use Rattle.acts.specs.Index.{Ready};
 ghost use Rattle.widget.specs.View.{all-lent, Did};
 ghost use Rattle.ways.specs.Ways.{Inside, Led};
 ghost use Rattle.firing.specs.Moving.{moving};
@@ -27,6 +29,7 @@ ghost use Rattle.firing.specs.Moving.{moving};
 // The states below the scope are left, then the transition's actions, then the way down to the goal.
 fn move_to(
     chart: &[i32],
+    index: &[usize; INDEX],
     arg: i32,
     t: usize,
     goal: Goal,
@@ -38,20 +41,32 @@ fn move_to(
     trace: &mut [i32],
     at: usize,
 ) -> Went
-    requires { ⌜ Ruled (now chart) × Inside (chart-of (now chart)) goal × (top < length (chart-of (now chart) .states)) × Led (chart-of (now chart)) (now slots) × (length (now queue) ≡ all) × (at ≤ length (now trace)) ⌝ }
+    requires { ⌜ Ready (now chart) (now index) × Inside (chart-of (now chart)) goal × (top < length (chart-of (now chart) .states)) × Led (chart-of (now chart)) (now slots) × (length (now queue) ≡ all) × (at ≤ length (now trace)) × (t < transitions) ⌝ }
     ensures { λ r. ⌜ Did (moving (chart-of (now (chart .entry))) arg t goal top) (all-lent (now (active .entry)) (now (slots .entry)) (now (vars .entry)) (now (queue .entry)) (now (trace .entry))) at r (all-lent (now (active .exit)) (now (slots .exit)) (now (vars .exit)) (now (queue .exit)) (now (trace .exit))) ⌝ }
 {
-    let gone = leave_below(chart, arg, top, active, slots, vars, queue, trace, at);
+    let gone = leave_below(
+        chart,
+        index,
+        arg,
+        top,
+        active,
+        slots,
+        vars,
+        queue,
+        trace,
+        at,
+    );
     if gone.number != 0 {
         return gone;
     }
     let owner = Owner::TransitionOf(t);
-    let went = perform_all(chart, arg, owner, vars, queue, trace, gone.at);
+    let went = perform_all(chart, index, arg, owner, vars, queue, trace, gone.at);
     if went.number != 0 {
         return went;
     }
     towards(
         chart,
+        index,
         arg,
         goal,
         top,
@@ -67,6 +82,7 @@ fn move_to(
 // 01, "Firing": the transition t is taken.
 pub fn fire(
     chart: &[i32],
+    index: &[usize; INDEX],
     arg: i32,
     t: usize,
     active: &mut [bool; STATES],
@@ -76,7 +92,7 @@ pub fn fire(
     trace: &mut [i32],
     at: usize,
 ) -> Went
-    requires { ⌜ Ruled (now chart) × (t < length (chart-of (now chart) .transitions)) × Led (chart-of (now chart)) (now slots) × (length (now queue) ≡ all) × (at ≤ length (now trace)) ⌝ }
+    requires { ⌜ Ready (now chart) (now index) × (t < length (chart-of (now chart) .transitions)) × Led (chart-of (now chart)) (now slots) × (length (now queue) ≡ all) × (at ≤ length (now trace)) ⌝ }
     ensures { λ r. ⌜ Did (fires (chart-of (now (chart .entry))) arg t) (all-lent (now (active .entry)) (now (slots .entry)) (now (vars .entry)) (now (queue .entry)) (now (trace .entry))) at r (all-lent (now (active .exit)) (now (slots .exit)) (now (vars .exit)) (now (queue .exit)) (now (trace .exit))) ⌝ }
 {
     let taken = mark_taken(t, trace, at);
@@ -92,6 +108,7 @@ pub fn fire(
             let then = taken.at;
             move_to(
                 chart,
+                index,
                 arg,
                 t,
                 goal,
@@ -110,6 +127,7 @@ pub fn fire(
             let then = taken.at;
             move_to(
                 chart,
+                index,
                 arg,
                 t,
                 goal,
@@ -124,7 +142,7 @@ pub fn fire(
         }
         Target::InPlace => {
             let owner = Owner::TransitionOf(t);
-            perform_all(chart, arg, owner, vars, queue, trace, taken.at)
+            perform_all(chart, index, arg, owner, vars, queue, trace, taken.at)
         }
     }
 }

@@ -1,4 +1,5 @@
 // Leaving the states of a span (01, "Firing").
+use acts::index::INDEX;
 use acts::leave;
 use queue::lent::QUEUE_NUMBERS;
 use sizes::STATES;
@@ -10,12 +11,13 @@ ghost use lib.ListN.{length};
 ghost use Rattle.meaning.specs.Reaction.{leave-all};
 ghost use Rattle.meaning.specs.Tree.{descendants};
 ghost use Rattle.meaning.specs.Value.{chart-of};
-ghost use Rattle.tree_walks.specs.Walks.{Ruled};
+ghost use Rattle.acts.specs.Index.{Ready};
 ghost use Rattle.widget.specs.View.{all-lent, Did};
 
 // "The active states of the span are left, highest number first": those below s.
 pub fn leave_below(
     chart: &[i32],
+    index: &[usize; INDEX],
     arg: i32,
     s: usize,
     active: &mut [bool; STATES],
@@ -25,7 +27,7 @@ pub fn leave_below(
     trace: &mut [i32],
     at: usize,
 ) -> Went
-    requires { ⌜ Ruled (now chart) × (s < length (chart-of (now chart) .states)) × (at ≤ length (now trace)) ⌝ }
+    requires { ⌜ Ready (now chart) (now index) × (s < length (chart-of (now chart) .states)) × (at ≤ length (now trace)) ⌝ }
     ensures { λ r. ⌜ Did (leave-all (chart-of (now (chart .entry))) arg (descendants (chart-of (now (chart .entry))) s)) (all-lent (now (active .entry)) (now (slots .entry)) (now (vars .entry)) (now (queue .entry)) (now (trace .entry))) at r (all-lent (now (active .exit)) (now (slots .exit)) (now (vars .exit)) (now (queue .exit)) (now (trace .exit))) ⌝ }
 {
     let mut next = at;
@@ -35,7 +37,18 @@ pub fn leave_below(
         if !active[d] {
             continue;
         }
-        let went = leave(chart, arg, d, active, slots, vars, queue, trace, next);
+        let went = leave(
+            chart,
+            index,
+            arg,
+            d,
+            active,
+            slots,
+            vars,
+            queue,
+            trace,
+            next,
+        );
         if went.number != 0 {
             return went;
         }

@@ -1,6 +1,8 @@
 // A run on a chart that passes the rules (01, "One reaction"): the tests 7, 6 and 8, the front event's step, null steps.
 use super::steps::settle;
 use super::steps::step;
+use acts::index::INDEX;
+use acts::index::index_of;
 use ends::finish;
 use ends::refuse;
 use meaning::Called;
@@ -23,11 +25,13 @@ ghost use Rattle.meaning.specs.Calls.{called, lent, run as runs};
 ghost use Rattle.meaning.specs.Value.{chart-of};
 ghost use Rattle.tree_walks.specs.Walks.{Ruled};
 ghost use Rattle.widget.specs.View.{all-lent, Did};
+ghost use Rattle.acts.specs.Index.{Indexed};
 ghost use Rattle.reaction.specs.Ready.{Ready};
 
 // One step with the event, then null steps.
 fn react(
     chart: &[i32],
+    index: &[usize; INDEX],
     event: usize,
     arg: i32,
     active: &mut [bool; STATES],
@@ -36,14 +40,25 @@ fn react(
     queue: &mut [i32; QUEUE_NUMBERS],
     trace: &mut [i32],
 ) -> Went
-    requires { ⌜ Ready (now chart) (all-lent (now active) (now slots) (now vars) (now queue) (now trace)) 0 ⌝ }
+    requires { ⌜ Ready (now chart) (all-lent (now active) (now slots) (now vars) (now queue) (now trace)) 0 × Indexed (chart-of (now chart)) (now index) ⌝ }
     ensures { λ r. ⌜ Did (one-step (chart-of (now (chart .entry))) event arg then settles (chart-of (now (chart .entry)))) (all-lent (now (active .entry)) (now (slots .entry)) (now (vars .entry)) (now (queue .entry)) (now (trace .entry))) 0 r (all-lent (now (active .exit)) (now (slots .exit)) (now (vars .exit)) (now (queue .exit)) (now (trace .exit))) ⌝ }
 {
-    let went = step(chart, event, arg, active, slots, vars, queue, trace, 0);
+    let went = step(
+        chart,
+        index,
+        event,
+        arg,
+        active,
+        slots,
+        vars,
+        queue,
+        trace,
+        0,
+    );
     if went.number != 0 {
         return went;
     }
-    settle(chart, active, slots, vars, queue, trace, went.at)
+    settle(chart, index, active, slots, vars, queue, trace, went.at)
 }
 
 // "A run removes the front event and makes one step with it. Then null steps follow."
@@ -69,8 +84,10 @@ pub fn run_ruled(chart: &[i32], state: State, trace: &mut [i32]) -> Called
     let mut vars = state.vars;
     let left = removed.queue;
     let mut waiting = lend(left);
+    let index = index_of(chart);
     let went = react(
         chart,
+        &index,
         event,
         front.arg,
         &mut active,

@@ -1,6 +1,8 @@
 // A start on a chart that passes the rules (01, "One reaction"): a fresh widget, the root and its defaults, null steps.
 use super::steps::settle;
 use acts::enter;
+use acts::index::INDEX;
+use acts::index::index_of;
 use chart_rows::var_count;
 use chart_rows::var_row;
 use ends::finish;
@@ -20,6 +22,7 @@ ghost use Rattle.meaning.specs.Calls.{called, lent, fresh, start-steps, start a
 ghost use Rattle.meaning.specs.Value.{chart-of};
 ghost use Rattle.tree_walks.specs.Walks.{Ruled};
 ghost use Rattle.widget.specs.View.{all-lent, Did};
+ghost use Rattle.acts.specs.Index.{Indexed};
 ghost use Rattle.reaction.specs.Ready.{Ready};
 
 // "all variables at their first value"; places not in use are 0.
@@ -42,24 +45,25 @@ pub fn first_values(chart: &[i32]) -> [i32; VARIABLES]
 // "enters the root and its defaults .., then makes null steps".
 fn begin(
     chart: &[i32],
+    index: &[usize; INDEX],
     active: &mut [bool; STATES],
     slots: &mut [i32; STATES],
     vars: &mut [i32; VARIABLES],
     queue: &mut [i32; QUEUE_NUMBERS],
     trace: &mut [i32],
 ) -> Went
-    requires { ⌜ Ready (now chart) (all-lent (now active) (now slots) (now vars) (now queue) (now trace)) 0 ⌝ }
+    requires { ⌜ Ready (now chart) (all-lent (now active) (now slots) (now vars) (now queue) (now trace)) 0 × Indexed (chart-of (now chart)) (now index) ⌝ }
     ensures { λ r. ⌜ Did (start-steps (chart-of (now (chart .entry)))) (all-lent (now (active .entry)) (now (slots .entry)) (now (vars .entry)) (now (queue .entry)) (now (trace .entry))) 0 r (all-lent (now (active .exit)) (now (slots .exit)) (now (vars .exit)) (now (queue .exit)) (now (trace .exit))) ⌝ }
 {
-    let root = enter(chart, 0, 0, active, vars, queue, trace, 0);
+    let root = enter(chart, index, 0, 0, active, vars, queue, trace, 0);
     if root.number != 0 {
         return root;
     }
-    let down = by_defaults(chart, 0, 0, active, vars, queue, trace, root.at);
+    let down = by_defaults(chart, index, 0, 0, active, vars, queue, trace, root.at);
     if down.number != 0 {
         return down;
     }
-    settle(chart, active, slots, vars, queue, trace, down.at)
+    settle(chart, index, active, slots, vars, queue, trace, down.at)
 }
 
 // "Start, with argument 0 and whatever the state held .. It tests neither 7 nor 6."
@@ -71,6 +75,15 @@ pub fn start_ruled(chart: &[i32], state: State, trace: &mut [i32]) -> Called
     let mut slots: [i32; STATES] = [-1; STATES];
     let mut vars = first_values(chart);
     let mut queue = lend(Queue::empty());
-    let went = begin(chart, &mut active, &mut slots, &mut vars, &mut queue, trace);
+    let index = index_of(chart);
+    let went = begin(
+        chart,
+        &index,
+        &mut active,
+        &mut slots,
+        &mut vars,
+        &mut queue,
+        trace,
+    );
     finish(state, went, active, slots, vars, queue, trace)
 }

@@ -1,4 +1,5 @@
 // Steps (01, "One reaction"): all chosen transitions fire, in their order; null steps follow until none is enabled.
+use acts::index::INDEX;
 use choice::choose;
 use firing::fire;
 use meaning::answers::UNSETTLED;
@@ -12,12 +13,14 @@ ghost use Rattle.meaning.specs.Steps.{each};
 ghost use Rattle.meaning.specs.Reaction.{fire as fires, step as one-step, settle as settles};
 ghost use Rattle.meaning.specs.Value.{chart-of};
 ghost use Rattle.widget.specs.View.{all-lent, Did};
+ghost use Rattle.acts.specs.Index.{Indexed};
 ghost use Rattle.choice.specs.Choice.{picked};
 ghost use Rattle.reaction.specs.Ready.{Ready, Fires};
 
 // "They fire in that order": the chosen, one after the other.
 fn fire_all(
     chart: &[i32],
+    index: &[usize; INDEX],
     arg: i32,
     count: usize,
     picks: &[usize; TRANSITIONS],
@@ -28,14 +31,25 @@ fn fire_all(
     trace: &mut [i32],
     at: usize,
 ) -> Went
-    requires { ⌜ Ready (now chart) (all-lent (now active) (now slots) (now vars) (now queue) (now trace)) at × Fires (chart-of (now chart)) count (now picks) ⌝ }
+    requires { ⌜ Ready (now chart) (all-lent (now active) (now slots) (now vars) (now queue) (now trace)) at × Fires (chart-of (now chart)) count (now picks) × Indexed (chart-of (now chart)) (now index) ⌝ }
     ensures { λ r. ⌜ Did (each (fires (chart-of (now (chart .entry))) arg) (picked count (now (picks .entry)))) (all-lent (now (active .entry)) (now (slots .entry)) (now (vars .entry)) (now (queue .entry)) (now (trace .entry))) at r (all-lent (now (active .exit)) (now (slots .exit)) (now (vars .exit)) (now (queue .exit)) (now (trace .exit))) ⌝ }
 {
     let mut next = at;
     let mut j: usize = 0;
     while j < count {
         let t = picks[j];
-        let went = fire(chart, arg, t, active, slots, vars, queue, trace, next);
+        let went = fire(
+            chart,
+            index,
+            arg,
+            t,
+            active,
+            slots,
+            vars,
+            queue,
+            trace,
+            next,
+        );
         if went.number != 0 {
             return went;
         }
@@ -51,6 +65,7 @@ fn fire_all(
 // One step with an event and its argument.
 pub fn step(
     chart: &[i32],
+    index: &[usize; INDEX],
     event: usize,
     arg: i32,
     active: &mut [bool; STATES],
@@ -60,13 +75,14 @@ pub fn step(
     trace: &mut [i32],
     at: usize,
 ) -> Went
-    requires { ⌜ Ready (now chart) (all-lent (now active) (now slots) (now vars) (now queue) (now trace)) at ⌝ }
+    requires { ⌜ Ready (now chart) (all-lent (now active) (now slots) (now vars) (now queue) (now trace)) at × Indexed (chart-of (now chart)) (now index) ⌝ }
     ensures { λ r. ⌜ Did (one-step (chart-of (now (chart .entry))) event arg) (all-lent (now (active .entry)) (now (slots .entry)) (now (vars .entry)) (now (queue .entry)) (now (trace .entry))) at r (all-lent (now (active .exit)) (now (slots .exit)) (now (vars .exit)) (now (queue .exit)) (now (trace .exit))) ⌝ }
 {
     let mut picks = [0; TRANSITIONS];
     let count = choose(chart, event, active, vars, &mut picks);
     fire_all(
         chart,
+        index,
         arg,
         count,
         &picks,
@@ -82,6 +98,7 @@ pub fn step(
 // "null steps follow: trigger 0, argument 0, all chosen fire, until none is enabled"; 12 where a 33rd is needed.
 pub fn settle(
     chart: &[i32],
+    index: &[usize; INDEX],
     active: &mut [bool; STATES],
     slots: &mut [i32; STATES],
     vars: &mut [i32; VARIABLES],
@@ -89,7 +106,7 @@ pub fn settle(
     trace: &mut [i32],
     at: usize,
 ) -> Went
-    requires { ⌜ Ready (now chart) (all-lent (now active) (now slots) (now vars) (now queue) (now trace)) at ⌝ }
+    requires { ⌜ Ready (now chart) (all-lent (now active) (now slots) (now vars) (now queue) (now trace)) at × Indexed (chart-of (now chart)) (now index) ⌝ }
     ensures { λ r. ⌜ Did (settles (chart-of (now (chart .entry)))) (all-lent (now (active .entry)) (now (slots .entry)) (now (vars .entry)) (now (queue .entry)) (now (trace .entry))) at r (all-lent (now (active .exit)) (now (slots .exit)) (now (vars .exit)) (now (queue .exit)) (now (trace .exit))) ⌝ }
 {
     let mut next = at;
@@ -111,6 +128,7 @@ pub fn settle(
         }
         let went = fire_all(
             chart,
+            index,
             0,
             count,
             &picks,

@@ -22,12 +22,13 @@ use Rattle.meaning.specs.Program.{ROOM, report, reported, turn, after-post}
 use Rattle.promises.specs.Promises.{Accepted, Started, Ran}
 use Rattle.chart_engine.proofs.ByRules.{start-on, run-on}
 use Rattle.console.specs.declared.scan.Scan.{Scan}
-use Rattle.console.specs.Scan.{empty, fed, line-at, began}
-use Rattle.console.specs.Session.{Turns, by-end, by-began, passed, finished}
+use Rattle.console.specs.Scan.{empty, line-at, began}
+use Rattle.console.specs.Session.{Turns, ended, by-began, passed, finished}
 use Rattle.console.specs.Session.{Under as Seen}
 use Rattle.console.specs.Shown.{held, shown, largest}
 use Rattle.console.proofs.Lent.{report-lent}
 use Rattle.session.specs.declared.Turned.{Turned}
+use Rattle.session.specs.declared.Under.{Under}
 use Rattle.session.specs.Turned.{Went, Passes, quiet, LARGEST}
 
 -- what `report` gives
@@ -109,41 +110,30 @@ module _ (c : Chart) (u : State) (l : Line) (before after : List ℕ) (at : ℕ)
     unfolding turn called
     turn-ran h w = rw (is, after-done c (post c u e a) (sym (ap (λ x. x .answer .number) posted) ∙ h)) (rw posted at w)
 
--- ---- a byte of the input
-
--- what it does, as a step of the session
+-- ---- a line that ends, as a step of the session
 module _ (f : Turns) (s : Scan) (u : State) (before : List ℕ) (at : ℕ) where
   abbrev under : Seen
   under = record { state = u; scan = s }
 
-  pub byte-ends : (b : ℕ) (after : List ℕ) (l : Line) (k : Scan) (r : Turned) → b ≡ LF → l ≡ line-at s → k ≡ empty
+  pub line-went : (after : List ℕ) (l : Line) (k : Scan) (r : Turned) → l ≡ line-at s → k ≡ empty
       → Went (f u l) before at after r
-      → Passes (passed f under b) before at after (record { state = r .state; scan = k; at = r .at })
-  unfolding passed
-  byte-ends b after l k r h e g w = rw (eq-eqb b LF h) (go (rw e at w))
+      → Passes (ended (f u (line-at s))) before at after (record { state = r .state; scan = k; at = r .at })
+  line-went after l k r e g w = go (rw e at w)
     where
       go : Went (f u (line-at s)) before at after r
-          → Passes (by-end f under b true) before at after (record { state = r .state; scan = k; at = r .at })
+          → Passes (ended (f u (line-at s))) before at after (record { state = r .state; scan = k; at = r .at })
       go w = record { widget = w .widget; line = g; bytes = w .bytes; whole = w .whole }
 
-  pub byte-feeds : (b : ℕ) (k : Scan) → (b ≡ LF → ⊥) → k ≡ fed s b
-      → Passes (passed f under b) before at before (record { state = u; scan = k; at = at })
-  unfolding passed put-all
-  byte-feeds b k h e = rw (ne-eqb b LF h) go
-    where
-      go : Passes (by-end f under b false) before at before (record { state = u; scan = k; at = at })
-      go = record { widget = refl; line = e; bytes = refl; whole = λ h. omega arith }
+  module _ (after : List ℕ) (r : Under) (w : Passes (ended (f u (line-at s))) before at after r) where
+    -- by its LF
+    pub byte-ends : (b : ℕ) → b ≡ LF → Passes (passed f under b) before at after r
+    unfolding passed
+    byte-ends b h = rw (eq-eqb b LF h) w
 
-  -- the end of the input
-  pub end-begun : (after : List ℕ) (l : Line) (k : Scan) (r : Turned) → began s ≡ true → l ≡ line-at s → k ≡ empty
-      → Went (f u l) before at after r
-      → Passes (finished f under) before at after (record { state = r .state; scan = k; at = r .at })
-  unfolding finished
-  end-begun after l k r h e g w = rw h (go (rw e at w))
-    where
-      go : Went (f u (line-at s)) before at after r
-          → Passes (by-began f under true) before at after (record { state = r .state; scan = k; at = r .at })
-      go w = record { widget = w .widget; line = g; bytes = w .bytes; whole = w .whole }
+    -- by the end of the input
+    pub end-begun : began s ≡ true → Passes (finished f under) before at after r
+    unfolding finished
+    end-begun h = rw h w
 
   pub end-none : began s ≡ false → Passes (finished f under) before at before (record { state = u; scan = s; at = at })
   unfolding finished put-all

@@ -2,23 +2,28 @@
 -- Assumes nothing.
 use mathlib.Core.Path.{_≡_, refl, sym, ap, _∙_}
 use mathlib.Core.Bool.{Bool, true, false}
-use mathlib.Core.List.{List, [], _∷_, _++_}
+use mathlib.Core.List.{List, [], _∷_, _++_, append-nil}
 use Prim.Native.Nat.{ℕ, suc, _+_, _-_, _<_, _≤_}
 use borrow.Author.Tests.{leb-true, leb-false, le-leb, lt-leb}
 use native.Mathlib.Omega.{arith}
 use native.Mathlib.Numerals.{add-one}
 use lib.Dec.{leb}
 use lib.ListN.{length, getD, take, drop, length-drop, take-append-drop}
-use lib.Seq.{slice, slice-empty, take-suc, drop-cons, drop-append-le, length-take-le}
+use lib.Seq.{slice, slice-empty, drop-cons, drop-append-le, length-take-le, length-slice, take-take}
 use Rattle.pen.specs.Pen.{Pen, pen, put-all}
 use Rattle.pen.proofs.Laws.{all-append, all-long, all-stood}
-use Rattle.console.specs.Session.{Turns, Passed, passed, passed-all}
+use Rattle.console.specs.Session.{Turns, Passed, ended, passed, passed-all}
 use Rattle.console.specs.Session.{Under as Seen}
+use Rattle.console.specs.declared.scan.Collected.{Collected}
+use Rattle.console.specs.Scan.{fed, line-at, scan-on}
+use Rattle.console.specs.Stretch.{inside, Collects}
 use Rattle.console.proofs.Session.{under-append, printed-append, under-one, printed-one, printed-none}
+use Rattle.console.proofs.Stretch.{further, inside-more, passed-inside, inside-passed, slice-next}
 use Rattle.session.specs.declared.Under.{Under}
 use Rattle.session.specs.declared.Walked.{Walked}
 use Rattle.session.specs.Turned.{Passes, LARGEST, seen}
 use Rattle.session.specs.Walked.{Walks, roomy, reach, one-more, walked}
+use Rattle.session.proofs.Steps.{byte-ends}
 
 -- ---- how far
 
@@ -48,6 +53,18 @@ reach-within f u p (b ∷ bs) =
     go true n h = omega arith
     go false n h = omega arith
 
+-- bytes inside a line print nothing: where there is room for one more report at the first of them, there is at each
+reach-inside : (f : Turns) (u : Seen) (p : Pen) (bs rest : List ℕ) → roomy p ≡ true → inside bs ≡ true
+    → reach f u p (bs ++ rest) ≡ length bs + reach f (further u bs) p rest
+unfolding reach scan-on put-all
+reach-inside f u p [] rest e h = omega arith
+reach-inside f u p (b ∷ bs) rest e h =
+    let next : Seen = record { state = u .state; scan = fed (u .scan) b } in
+    let more = reach-inside f next p bs rest e (inside-more b bs h .1) in
+    reach-more f u p b (bs ++ rest) e
+    ∙ ap (λ q. suc (reach f (q .under) (put-all (q .printed) p) (bs ++ rest))) (passed-inside f u b bs h)
+    ∙ omega arith
+
 -- the test for room
 pub room-none : (out : List ℕ) (at : ℕ) → length out < LARGEST → false ≡ roomy (pen out at)
 room-none out at h = sym (lt-leb (at + LARGEST) (length out) (omega arith))
@@ -64,17 +81,18 @@ room-by out at h = go (leb at (length out - LARGEST)) refl
 drop-next : (part : List ℕ) (i : ℕ) → i < length part → drop i part ≡ getD part i 0 ∷ drop (i + 1) part
 drop-next part i h = drop-cons part i 0 h ∙ ap (λ n. getD part i 0 ∷ drop n part) (sym (add-one i))
 
-slice-next : (part : List ℕ) (from i : ℕ) → from ≤ i → i < length part → slice from (i + 1) part ≡ slice from i part ++ (getD part i 0 ∷ [])
-slice-next part from i h k =
-    ap (λ n. slice from n part) (add-one i)
-    ∙ ap (drop from) (take-suc part i 0 k)
-    ∙ drop-append-le from (take i part) (getD part i 0 ∷ []) (rw (length-take-le i part (omega arith)) h)
-
 -- from a place on: up to another, and then the rest
 pub slice-rest : (part : List ℕ) (from to : ℕ) → from ≤ to → to ≤ length part → slice from to part ++ drop to part ≡ drop from part
 slice-rest part from to h k =
     sym (drop-append-le from (take to part) (drop to part) (rw (length-take-le to part k) h))
     ∙ ap (drop from) (take-append-drop to part)
+
+-- up to a place, and from there up to another
+slice-append : (part : List ℕ) (from i to : ℕ) → from ≤ i → i ≤ to → to ≤ length part
+    → slice from i part ++ slice i to part ≡ slice from to part
+slice-append part from i to h k l =
+    ap (λ bs. drop from bs ++ slice i to part) (sym (take-take i to part k))
+    ∙ slice-rest (take to part) from i h (rw (length-take-le to part l) k)
 
 -- ---- the walk
 
@@ -102,6 +120,55 @@ module _ (f : Turns) (part : List ℕ) (from : ℕ) (u : Seen) (before : List �
 
     pub walk-full : roomy (pen out (here .at)) ≡ false → Walks f part from u before at out (record { upto = i; under = here })
     walk-full e = stopped (reach-full f (seen here) (pen out (here .at)) (drop i part) e)
+
+    -- the bytes inside a line
+    module _ (c : Collected) (e : roomy (pen out (here .at)) ≡ true) (k : Collects part i (here .scan) c) where
+      abbrev then : Under
+      then = record { state = here .state; scan = c .scan; at = here .at }
+
+      abbrev stretch : List ℕ
+      stretch = slice i (c .upto) part
+
+      went-on : seen then ≡ further (seen here) stretch
+      went-on = ap (λ s. record { state = here .state; scan = s }) (k .line)
+
+      reach-then : reach f (seen here) (pen out (here .at)) (drop i part)
+          ≡ (c .upto - i) + reach f (seen then) (pen out (here .at)) (drop (c .upto) part)
+      reach-then =
+          ap (reach f (seen here) (pen out (here .at))) (sym (slice-rest part i (c .upto) (k .order) (k .within)))
+          ∙ reach-inside f (seen here) (pen out (here .at)) stretch (drop (c .upto) part) e (k .none)
+          ∙ ap (λ n. n + reach f (further (seen here) stretch) (pen out (here .at)) (drop (c .upto) part))
+          (length-slice i (c .upto) part (k .within))
+          ∙ ap (λ v. (c .upto - i) + reach f v (pen out (here .at)) (drop (c .upto) part)) (sym went-on)
+
+      joined : slice from i part ++ stretch ≡ slice from (c .upto) part
+      joined = slice-append part from i (c .upto) (w .order) (k .order) (k .within)
+
+      under-then : seen then ≡ walked f u part from (c .upto) .under
+      under-then =
+          went-on
+          ∙ sym (ap (λ p. p .under) (inside-passed f (seen here) stretch (k .none)))
+          ∙ ap (λ v. passed-all f v stretch .under) (w .under)
+          ∙ sym (under-append f u (slice from i part) stretch)
+          ∙ ap (λ l. passed-all f u l .under) joined
+
+      printed-then : walked f u part from i .printed ≡ walked f u part from (c .upto) .printed
+      printed-then =
+          sym (append-nil (walked f u part from i .printed))
+          ∙ ap (λ p. walked f u part from i .printed ++ p .printed) (sym (inside-passed f (seen here) stretch (k .none)))
+          ∙ ap (λ v. walked f u part from i .printed ++ passed-all f v stretch .printed) (w .under)
+          ∙ sym (printed-append f u (slice from i part) stretch)
+          ∙ ap (λ l. passed-all f u l .printed) joined
+
+      pub walk-inside : Walking (c .upto) out then
+      walk-inside = record {
+        order = omega (arith, w .order, k .order);
+        long = w .long;
+        ahead = omega (arith, w .ahead, k .order, reach-then);
+        under = under-then;
+        bytes = w .bytes ∙ ap (λ l. put-all l (pen before at)) printed-then;
+        whole = w .whole;
+      }
 
     -- one byte more
     module _ (after : List ℕ) (next : Under) (h : i < length part) (e : roomy (pen out (here .at)) ≡ true)
@@ -153,6 +220,23 @@ module _ (f : Turns) (part : List ℕ) (from : ℕ) (u : Seen) (before : List �
             (let room : here .at + LARGEST ≤ length out = leb-true (here .at + LARGEST) (length out) e in
             omega (arith, w .long, p .whole room));
       }
+
+  -- a line: its bytes up to the part's end, or up to its LF, which ends it
+  module _ (i : ℕ) (out : List ℕ) (here : Under) (w : Walking i out here) (c : Collected) (e : roomy (pen out (here .at)) ≡ true)
+      (k : Collects part i (here .scan) c) where
+    pub walk-ends : c .upto ≡ length part
+        → Walks f part from u before at out
+        (record { upto = c .upto; under = record { state = here .state; scan = c .scan; at = here .at } })
+    walk-ends h = walk-done (c .upto) out (record { state = here .state; scan = c .scan; at = here .at })
+        (walk-inside i out here w c e k) (omega arith)
+
+    pub walk-line : (c .upto ≡ length part → ⊥) → (after : List ℕ) (next : Under)
+        → Passes (ended (f (here .state) (line-at (c .scan)))) out (here .at) after next → Walking (c .upto + 1) after next
+    walk-line h after next p =
+        let inner : c .upto < length part = omega (arith, k .within) in
+        walk-more (c .upto) out (record { state = here .state; scan = c .scan; at = here .at })
+        (walk-inside i out here w c e k) after next inner e
+        (byte-ends f (c .scan) (here .state) out (here .at) after next p (getD part (c .upto) 0) (k .stop inner))
 
 -- before its first byte
 pub walk-begins : (f : Turns) (part : List ℕ) (from : ℕ) (under : Under) (out : List ℕ)

@@ -1,11 +1,12 @@
 // The trace program's session over a chart that passes the rules (01, the end of "Checked by example"): it starts, then posts and runs
-// each line. The widget and the line under way go by value, what is printed is written into a lent slice, and each byte of the input is
-// one step. What the engine writes of a call goes into numbers of its own, with room for 1,000 entries.
+// each line. The widget and the line under way go by value, and a whole line hands the widget on: the bytes inside a line change the line
+// under way only. What is printed is written into a lent slice, and what the engine writes of a call into lent numbers, with room for 1,000
+// entries, the same for the whole session.
 use console::ENTRY;
 use console::HEAD;
-use console::LF;
 use console::LINE;
 use console::Scan;
+use console::collect;
 use meaning::Line;
 use meaning::State;
 use meaning::answers::WRONG_LINE;
@@ -16,7 +17,8 @@ ghost use Rattle.meaning.specs.Value.{VALUE, chart-of};
 ghost use Rattle.meaning.specs.Calls.{start as starts, run as runs, unstarted as none};
 ghost use Rattle.meaning.specs.Text.{read};
 ghost use Rattle.meaning.specs.Program.{ROOM as Room, reported, turn as turn-of};
-ghost use Rattle.console.specs.Session.{passed, finished};
+ghost use Rattle.console.specs.Scan.{line-at};
+ghost use Rattle.console.specs.Session.{ended, finished};
 ghost use Rattle.pen.specs.Pen.{pen};
 ghost use Rattle.session.specs.Turned.{Went, Passes, Opens, quiet, seen};
 ghost use Rattle.session.specs.Walked.{Walks, roomy};
@@ -24,7 +26,7 @@ ghost use Rattle.session.specs.Walked.{Walks, roomy};
 // "With room for 1,000 entries", three numbers each.
 const ENTRIES: usize = 1000;
 
-const ROOM: usize = ENTRY * ENTRIES;
+pub const ROOM: usize = ENTRY * ENTRIES;
 
 // Free room in a slice of bytes that is enough for the report of any call.
 pub const LARGEST: usize = HEAD + LINE * ENTRIES;
@@ -68,14 +70,13 @@ pub fn refusal(number: usize, state: State, out: &mut [u8], at: usize) -> Turned
 }
 
 // "it starts"
-pub fn started(chart: &[i32], out: &mut [u8], at: usize) -> Turned
-    requires { ⌜ Accepted (now chart) ⌝ }
+pub fn started(chart: &[i32], out: &mut [u8], at: usize, trace: &mut [i32]) -> Turned
+    requires { ⌜ Accepted (now chart) × (length (now trace) ≡ Room) ⌝ }
     ensures { λ r. ⌜ Went (reported (starts (chart-of (now (chart .entry))) none Room)) (now (out .entry)) at (now (out .exit)) r ⌝ }
 {
-    let mut trace = [0; ROOM];
-    let called = engine::checked::start_checked(chart, engine::unstarted(), &mut trace);
+    let called = engine::checked::start_checked(chart, engine::unstarted(), trace);
     let answer = called.answer;
-    let place = console::report(out, at, answer.number, &trace, called.entries);
+    let place = console::report(out, at, answer.number, trace, called.entries);
     let after = called.state;
     Turned {
         state: after,
@@ -84,8 +85,14 @@ pub fn started(chart: &[i32], out: &mut [u8], at: usize) -> Turned
 }
 
 // "A refused chart prints the same and ends the program"; else the widget starts.
-pub fn begin(bytes: &[u8], chart: &mut [i32], out: &mut [u8], at: usize) -> Opened
-    requires { ⌜ length (now chart) ≡ VALUE ⌝ }
+pub fn begin(
+    bytes: &[u8],
+    chart: &mut [i32],
+    out: &mut [u8],
+    at: usize,
+    trace: &mut [i32],
+) -> Opened
+    requires { ⌜ (length (now chart) ≡ VALUE) × (length (now trace) ≡ Room) ⌝ }
     ensures { λ r. ⌜ Opens (read (now (bytes .entry)) VALUE) (now (chart .exit)) (now (out .entry)) at (now (out .exit)) r ⌝ }
 {
     let answer = engine::read(bytes, chart);
@@ -98,7 +105,7 @@ pub fn begin(bytes: &[u8], chart: &mut [i32], out: &mut [u8], at: usize) -> Open
             at: t.at,
         };
     }
-    let t = started(chart, out, at);
+    let t = started(chart, out, at, trace);
     let state = t.state;
     Opened {
         going: true,
@@ -108,14 +115,13 @@ pub fn begin(bytes: &[u8], chart: &mut [i32], out: &mut [u8], at: usize) -> Open
 }
 
 // "runs each line": the run of the front event.
-fn ran(chart: &[i32], state: State, out: &mut [u8], at: usize) -> Turned
-    requires { ⌜ Accepted (now chart) ⌝ }
+fn ran(chart: &[i32], state: State, out: &mut [u8], at: usize, trace: &mut [i32]) -> Turned
+    requires { ⌜ Accepted (now chart) × (length (now trace) ≡ Room) ⌝ }
     ensures { λ r. ⌜ Went (reported (runs (chart-of (now (chart .entry))) state Room)) (now (out .entry)) at (now (out .exit)) r ⌝ }
 {
-    let mut trace = [0; ROOM];
-    let called = engine::checked::run_checked(chart, state, &mut trace);
+    let called = engine::checked::run_checked(chart, state, trace);
     let answer = called.answer;
-    let place = console::report(out, at, answer.number, &trace, called.entries);
+    let place = console::report(out, at, answer.number, trace, called.entries);
     let after = called.state;
     Turned {
         state: after,
@@ -124,8 +130,15 @@ fn ran(chart: &[i32], state: State, out: &mut [u8], at: usize) -> Turned
 }
 
 // A line: "Of posts only a refused one prints: R, number, 0; it is not run"; "A line of another form prints `R 1 0`".
-pub fn turn(chart: &[i32], state: State, line: Line, out: &mut [u8], at: usize) -> Turned
-    requires { ⌜ Accepted (now chart) ⌝ }
+pub fn turn(
+    chart: &[i32],
+    state: State,
+    line: Line,
+    out: &mut [u8],
+    at: usize,
+    trace: &mut [i32],
+) -> Turned
+    requires { ⌜ Accepted (now chart) × (length (now trace) ≡ Room) ⌝ }
     ensures { λ r. ⌜ Went (turn-of (chart-of (now (chart .entry))) state line) (now (out .entry)) at (now (out .exit)) r ⌝ }
 {
     match line {
@@ -137,33 +150,30 @@ pub fn turn(chart: &[i32], state: State, line: Line, out: &mut [u8], at: usize) 
             if number != 0 {
                 return refusal(number, after, out, at);
             }
-            ran(chart, after, out, at)
+            ran(chart, after, out, at, trace)
         }
         Line::Wrong => refusal(WRONG_LINE, state, out, at),
     }
 }
 
-// One byte of the input: LF ends the line.
-pub fn feed(chart: &[i32], under: Under, b: u8, out: &mut [u8]) -> Under
-    requires { ⌜ Accepted (now chart) ⌝ }
-    ensures { λ r. ⌜ Passes (passed (turn-of (chart-of (now (chart .entry)))) (seen under) b) (now (out .entry)) (under .at) (now (out .exit)) r ⌝ }
+// The end of a line: its turn, and the next line has not begun.
+fn line_ends(
+    chart: &[i32],
+    state: State,
+    scan: Scan,
+    out: &mut [u8],
+    at: usize,
+    trace: &mut [i32],
+) -> Under
+    requires { ⌜ Accepted (now chart) × (length (now trace) ≡ Room) ⌝ }
+    ensures { λ r. ⌜ Passes (ended (turn-of (chart-of (now (chart .entry))) state (line-at scan))) (now (out .entry)) at (now (out .exit)) r ⌝ }
 {
-    let state = under.state;
-    let scan = under.scan;
-    let at = under.at;
-    if b == LF {
-        let ended = turn(chart, state, scan.line(), out, at);
-        let after = ended.state;
-        return Under {
-            state: after,
-            scan: Scan::empty(),
-            at: ended.at,
-        };
-    }
+    let ended = turn(chart, state, scan.line(), out, at, trace);
+    let after = ended.state;
     Under {
-        state: state,
-        scan: scan.feed(b),
-        at: at,
+        state: after,
+        scan: Scan::empty(),
+        at: ended.at,
     }
 }
 
@@ -178,9 +188,17 @@ fn has_room(out: &[u8], at: usize) -> bool
     at <= n - LARGEST
 }
 
-// The bytes of a part of the input from a place on: the walk stops at the part's end, or where there might not be room for one more report.
-pub fn walk(chart: &[i32], part: &[u8], from: usize, under: Under, out: &mut [u8]) -> Walked
-    requires { ⌜ Accepted (now chart) ⌝ }
+// The bytes of a part of the input from a place on, line by line: the walk stops at the part's end, where the line may go on in the next
+// part, or where there might not be room for one more report.
+pub fn walk(
+    chart: &[i32],
+    part: &[u8],
+    from: usize,
+    under: Under,
+    out: &mut [u8],
+    trace: &mut [i32],
+) -> Walked
+    requires { ⌜ Accepted (now chart) × (length (now trace) ≡ Room) ⌝ }
     ensures { λ r. ⌜ Walks (turn-of (chart-of (now (chart .entry)))) (now (part .entry)) from (seen under) (now (out .entry)) (under .at) (now (out .exit)) r ⌝ }
 {
     let mut now = under;
@@ -189,8 +207,22 @@ pub fn walk(chart: &[i32], part: &[u8], from: usize, under: Under, out: &mut [u8
         if !has_room(out, now.at) {
             break;
         }
-        now = feed(chart, now, part[i], out);
-        i += 1;
+        let scan = now.scan;
+        let line = collect(part, i, scan);
+        let state = now.state;
+        let collected = line.scan;
+        let at = now.at;
+        if line.upto == part.len() {
+            now = Under {
+                state: state,
+                scan: collected,
+                at: at,
+            };
+            i = line.upto;
+            break;
+        }
+        now = line_ends(chart, state, collected, out, at, trace);
+        i = line.upto + 1;
     }
     Walked {
         upto: i,
@@ -199,21 +231,14 @@ pub fn walk(chart: &[i32], part: &[u8], from: usize, under: Under, out: &mut [u8
 }
 
 // The end of the input: "The last line may lack its LF".
-pub fn finish(chart: &[i32], under: Under, out: &mut [u8]) -> Under
-    requires { ⌜ Accepted (now chart) ⌝ }
+pub fn finish(chart: &[i32], under: Under, out: &mut [u8], trace: &mut [i32]) -> Under
+    requires { ⌜ Accepted (now chart) × (length (now trace) ≡ Room) ⌝ }
     ensures { λ r. ⌜ Passes (finished (turn-of (chart-of (now (chart .entry)))) (seen under)) (now (out .entry)) (under .at) (now (out .exit)) r ⌝ }
 {
     let state = under.state;
     let scan = under.scan;
-    let at = under.at;
     if scan.began() {
-        let t = turn(chart, state, scan.line(), out, at);
-        let after = t.state;
-        return Under {
-            state: after,
-            scan: Scan::empty(),
-            at: t.at,
-        };
+        return line_ends(chart, state, scan, out, under.at, trace);
     }
     under
 }

@@ -10,11 +10,13 @@ use libc::STDIN_FILENO;
 use libc::STDOUT_FILENO;
 use meaning::State;
 use session::LARGEST;
+use session::ROOM;
 use session::Under;
+ghost use mathlib.Core.Path.{_≡_};
 ghost use Prim.Native.Nat.{_+_, _≤_};
 ghost use lib.ListN.{length};
 ghost use Rattle.meaning.specs.Value.{chart-of};
-ghost use Rattle.meaning.specs.Program.{turn};
+ghost use Rattle.meaning.specs.Program.{ROOM as Room, turn};
 ghost use Rattle.promises.specs.Promises.{Accepted};
 ghost use Rattle.session.specs.Turned.{LARGEST as Largest, seen};
 ghost use Rattle.session.specs.Walked.{Fed};
@@ -45,14 +47,14 @@ fn with_room(out: &[u8], at: usize) -> usize
 }
 
 // All bytes of a part of the input, in as many walks as the room needs: what was collected is written between them.
-fn feed_all(chart: &[i32], part: &[u8], under: Under, out: &mut [u8]) -> Under
-    requires { ⌜ Accepted (now chart) × (under .at + Largest ≤ length (now out)) ⌝ }
+fn feed_all(chart: &[i32], part: &[u8], under: Under, out: &mut [u8], trace: &mut [i32]) -> Under
+    requires { ⌜ Accepted (now chart) × (under .at + Largest ≤ length (now out)) × (length (now trace) ≡ Room) ⌝ }
     ensures { λ r. ⌜ Fed (turn (chart-of (now (chart .entry)))) (now (part .entry)) (seen under) (now (out .exit)) r ⌝ }
 {
     let mut now = under;
     let mut i = 0;
     while i < part.len() {
-        let walked = session::walk(chart, part, i, now, out);
+        let walked = session::walk(chart, part, i, now, out, trace);
         let next = walked.under;
         let state = next.state;
         let scan = next.scan;
@@ -67,8 +69,8 @@ fn feed_all(chart: &[i32], part: &[u8], under: Under, out: &mut [u8]) -> Under
 }
 
 // One part of the input.
-fn read_some(chart: &[i32], under: Under, out: &mut [u8]) -> Part
-    requires { ⌜ Accepted (now chart) × (under .at + Largest ≤ length (now out)) ⌝ }
+fn read_some(chart: &[i32], under: Under, out: &mut [u8], trace: &mut [i32]) -> Part
+    requires { ⌜ Accepted (now chart) × (under .at + Largest ≤ length (now out)) × (length (now trace) ≡ Room) ⌝ }
     ensures { λ r. ⌜ r .under .at + Largest ≤ length (now (out .exit)) ⌝ }
 {
     let mut buffer = io::large_buffer();
@@ -82,19 +84,19 @@ fn read_some(chart: &[i32], under: Under, out: &mut [u8]) -> Part
     let n = io::count(got, &buffer);
     Part {
         more: true,
-        under: feed_all(chart, &buffer[..n], under, out),
+        under: feed_all(chart, &buffer[..n], under, out, trace),
     }
 }
 
 // All of the input. A proved loop has to end, and nothing says that the input does: the count of parts is larger than any.
-fn read_all(chart: &[i32], under: Under, out: &mut [u8]) -> Under
-    requires { ⌜ Accepted (now chart) × (under .at + Largest ≤ length (now out)) ⌝ }
+fn read_all(chart: &[i32], under: Under, out: &mut [u8], trace: &mut [i32]) -> Under
+    requires { ⌜ Accepted (now chart) × (under .at + Largest ≤ length (now out)) × (length (now trace) ≡ Room) ⌝ }
     ensures { λ r. ⌜ r .at + Largest ≤ length (now (out .exit)) ⌝ }
 {
     let mut now = under;
     let mut parts = u64::MAX;
     while parts > 0 {
-        let part = read_some(chart, now, out);
+        let part = read_some(chart, now, out, trace);
         let more = part.more;
         now = part.under;
         if !more {
@@ -106,16 +108,16 @@ fn read_all(chart: &[i32], under: Under, out: &mut [u8]) -> Under
 }
 
 // "then posts and runs each line"
-fn run_session(chart: &[i32], state: State, at: usize, out: &mut [u8])
-    requires { ⌜ Accepted (now chart) × (at ≤ length (now out)) × (Largest ≤ length (now out)) ⌝ }
+fn run_session(chart: &[i32], state: State, at: usize, out: &mut [u8], trace: &mut [i32])
+    requires { ⌜ Accepted (now chart) × (at ≤ length (now out)) × (Largest ≤ length (now out)) × (length (now trace) ≡ Room) ⌝ }
 {
     let first = Under {
         state: state,
         scan: Scan::empty(),
         at: with_room(out, at),
     };
-    let read = read_all(chart, first, out);
-    let last = session::finish(chart, read, out);
+    let read = read_all(chart, first, out, trace);
+    let last = session::finish(chart, read, out, trace);
     print(out, last.at);
 }
 
@@ -124,10 +126,11 @@ fn main() {
     let n = chart_text(&mut bytes);
     let mut chart = [0; VALUE];
     let mut out = io::large_buffer();
-    let opened = session::begin(&bytes[..n], &mut chart, &mut out, 0);
+    let mut trace = [0; ROOM];
+    let opened = session::begin(&bytes[..n], &mut chart, &mut out, 0, &mut trace);
     if opened.going {
         let state = opened.state;
-        run_session(&chart, state, opened.at, &mut out);
+        run_session(&chart, state, opened.at, &mut out, &mut trace);
         return;
     }
     print(&out, opened.at);

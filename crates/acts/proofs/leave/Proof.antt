@@ -13,7 +13,7 @@ o-parent-from-trace2 c = else1-from-trace2 c .before .before .before .before .be
 
 mark-left-requires : tie.Need-mark-left-requires
 mark-left-requires c κs = (
-  o-parent-in _ (c .before .before .before .before .pre .0) _
+  o-parent-in _ (c .before .before .before .before .pre .0 .ruled) _
       (c .before .before .before .o-parent .ensures) (search needs),
   search needs,
   search needs,

@@ -52,7 +52,7 @@ returns c =
 
 move-to-requires : tie.Need-move-to-requires
 move-to-requires c κs =
-    let i = to-inside _ (start-from-move-to-arg5 c .pre .0) _ (start-from-move-to-arg5 c .pre .1) _
+    let i = to-inside _ (start-from-move-to-arg5 c .pre .0 .ruled) _ (start-from-move-to-arg5 c .pre .1) _
     (scope-from-move-to-arg5 c .before .before .before .before .trans-row .ensures) _
     (scope-from-move-to-arg5 c .before .before .target .given .1) in (
       start-from-move-to-arg5 c .pre .0,
@@ -61,11 +61,12 @@ move-to-requires c κs =
       start-from-move-to-arg5 c .pre .2,
       start-from-move-to-arg5 c .pre .3,
       scope-from-move-to-arg5 c .before .before .before .before .before .before .before .before .mark-taken .ensures .0 .fits,
+      omega (arith, start-from-move-to-arg5 c .pre .1, transitions-most (start-from-move-to-arg5 c .args .chart .now)),
     )
 
 move-to-requires-2 : tie.Need-move-to-requires-2
 move-to-requires-2 c κs =
-    let i = history-inside _ (start-from-move-to-arg10 c .pre .0) _ (start-from-move-to-arg10 c .pre .1) _
+    let i = history-inside _ (start-from-move-to-arg10 c .pre .0 .ruled) _ (start-from-move-to-arg10 c .pre .1) _
     (scope2-from-move-to-arg10 c .before .before .before .before .trans-row .ensures) _
     (scope2-from-move-to-arg10 c .before .before .target2 .given .1) in (
       start-from-move-to-arg10 c .pre .0,
@@ -74,6 +75,16 @@ move-to-requires-2 c κs =
       start-from-move-to-arg10 c .pre .2,
       start-from-move-to-arg10 c .pre .3,
       scope2-from-move-to-arg10 c .before .before .before .before .before .before .before .before .mark-taken .ensures .0 .fits,
+      omega (arith, start-from-move-to-arg10 c .pre .1, transitions-most (start-from-move-to-arg10 c .args .chart .now)),
+    )
+
+perform-all-requires : tie.Need-perform-all-requires
+perform-all-requires c κs =
+    let told = c .before .before .before in
+    let top = told .before .before .before .before .before .before .before .before in (
+      top .pre .0,
+      told .before .before .before .before .before .before .mark-taken .ensures .0 .fits,
+      omega (arith, top .pre .1, transitions-most (top .args .chart .now)),
     )
 
 returns-2 : tie.Need-returns-2
@@ -114,5 +125,5 @@ pub fire-spec : {M : Type 1} → statement M
 fire-spec =
     tie.close (tie.spec mark-taken-requires (λ c. search needs) returns (λ c κs. search needs)
     (λ c. search needs) (λ c κs. search needs) move-to-requires (λ c. search needs) (λ c κs. search needs)
-    move-to-requires-2 (λ c. search needs) (λ c κs. search needs) (λ c. search needs) returns-2
+    move-to-requires-2 (λ c. search needs) perform-all-requires (λ c. search needs) returns-2
     (λ c. search needs) returns-3 (λ c. search needs) returns-4)

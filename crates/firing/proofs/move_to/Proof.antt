@@ -45,7 +45,7 @@ towards-requires c κs = (
   start-from-towards-arg5 c .pre .0,
   start-from-towards-arg5 c .pre .1,
   start-from-towards-arg5 c .pre .2,
-  left-led _ (start-from-towards-arg5 c .pre .0) _ _
+  left-led _ (start-from-towards-arg5 c .pre .0 .ruled) _ _
       (else1-from-towards-arg5 c .before .before .before .leave-below .ensures)
       (start-from-towards-arg5 c .pre .4) (else1-from-towards-arg5 c .if1 .left)
       (start-from-towards-arg5 c .pre .3),

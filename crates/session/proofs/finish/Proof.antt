@@ -1,5 +1,7 @@
 -- `finish` is the end of the input. Assumes nothing.
 use mathlib.Core.Path.{sym, _∙_}
+use Rattle.meaning.specs.Value.{chart-of}
+use Rattle.meaning.specs.Program.{turn}
 use Rattle.session.proofs.Steps.{end-begun, end-none}
 use borrow.Author.Needs.{needs}
 use Rattle.session.proofs.finish.Statement.{statement}
@@ -7,11 +9,11 @@ use Rattle.session.proofs.finish.Tie as tie
 
 returns : tie.Need-returns
 returns c =
-    let turned = c .before .before .before .before in
-    let line = turned .before .before in
-    let test = line .before in
-    end-begun _ _ _ _ _ _ _ _ _ (sym (test .before .began .ensures) ∙ test .if1 .taken) (line .line .ensures)
-    (c .empty .ensures) (turned .turn .ensures)
+    let test = c .before .before .before .before .before .before in
+    let began = test .before in
+    end-begun (turn (chart-of (began .before .before .before .args .chart .now))) _ _ _ _ _ _
+    (c .before .before .before .line-ends .ensures)
+    (sym (began .began .ensures) ∙ test .if1 .taken)
 
 returns-2 : tie.Need-returns-2
 returns-2 c = end-none _ _ _ _ _ (sym (c .before .began .ensures) ∙ c .if1 .left)
@@ -22,8 +24,7 @@ finish-spec =
     (tie.spec
     (λ c κs. search needs)
     (λ c κs. search needs)
-    (λ c κs. search needs)
-    (λ c κs. search needs)
+    (λ c. search needs)
     (λ c. search needs)
     returns
     returns-2)

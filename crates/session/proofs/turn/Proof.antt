@@ -19,20 +19,20 @@ returns c =
     let n : mag (said .line .given .0 .1 .0) < 2 ^ 31 = search needs in
     let told = rw (back32 (said .line .given .0 .0) m, back32 (said .line .given .0 .1 .0) n) at (posted .post-checked .ensures .result) in
     turn-refused _ _ _ _ _ _ _ _ _ (said .line .given .1) _
-    (told ∙ ap called (post-on (top .args .chart .now) (top .args .state) (top .pre) _ _))
+    (told ∙ ap called (post-on (top .args .chart .now) (top .args .state) (top .pre .0) _ _))
     (c .before .before .before .before .if1 .taken) (c .before .before .refusal .ensures)
 
 returns-2 : tie.Need-returns-2
 returns-2 c =
-    let posted = c .before .before .before .before .before .before .before in
+    let posted = c .before .before .before .before .before .before .before .before .before in
     let said = posted .before .before in
     let top = said .before .before .before in
     let m : mag (said .line .given .0 .0) < 2 ^ 31 = search needs in
     let n : mag (said .line .given .0 .1 .0) < 2 ^ 31 = search needs in
     let told = rw (back32 (said .line .given .0 .0) m, back32 (said .line .given .0 .1 .0) n) at (posted .post-checked .ensures .result) in
     turn-ran _ _ _ _ _ _ _ _ _ (said .line .given .1) _
-    (told ∙ ap called (post-on (top .args .chart .now) (top .args .state) (top .pre) _ _))
-    (c .before .before .before .before .if1 .left) (c .before .before .ran .ensures)
+    (told ∙ ap called (post-on (top .args .chart .now) (top .args .state) (top .pre .0) _ _))
+    (c .before .before .before .before .before .before .if1 .left) (c .before .before .before .ran .ensures)
 
 returns-3 : tie.Need-returns-3
 returns-3 c = turn-wrong _ _ _ _ _ _ _ (c .before .before .before .before .enum-told .given .1) (c .before .before .refusal2 .ensures)
@@ -49,6 +49,7 @@ turn-spec =
     (λ c κs. search needs)
     (λ c. search needs)
     (λ c κs. search needs)
+    (λ c. search needs)
     (λ c. search needs)
     returns-2
     (λ c. search needs)

@@ -6,7 +6,7 @@ use native.Mathlib.Omega.{arith}
 use lib.ListN.{length}
 use borrow.Author.Needs.{needs}
 use Rattle.meaning.specs.Value.{chart-of}
-use Rattle.meaning.specs.Program.{turn}
+use Rattle.meaning.specs.Program.{ROOM, turn}
 use Rattle.session.specs.Turned.{LARGEST, seen}
 use Rattle.session.proofs.WalkLaws.{walks-on}
 use Rattle.trace.proofs.Feeding.{Feeding, feeding-begins, feeding-on, feeding-done}
@@ -14,33 +14,34 @@ use Rattle.trace.proofs.feed_all.Statement.{statement}
 use Rattle.trace.proofs.feed_all.Tie as tie
 
 abbrev Inv-loop : tie.InvT-loop
-Inv-loop chart part out₀ now₀ i₀ out now i =
+Inv-loop chart part out₀ trace₀ now₀ i₀ out trace now i =
     Feeding (turn (chart-of chart)) part (seen now₀) i (seen now) × (length out ≡ length out₀) × (now .at + LARGEST ≤ length out)
+    × (length trace ≡ ROOM)
 
 abbrev μ-loop : tie.MeasureT-loop
-μ-loop chart part out₀ now₀ i₀ out now i = length part - i
+μ-loop chart part out₀ trace₀ now₀ i₀ out trace now i = length part - i
 
 loop-holds : tie.Need-loop-holds Inv-loop μ-loop
-loop-holds c = (feeding-begins _ _ _, search needs, search needs)
+loop-holds c = (feeding-begins _ _ _, search needs, search needs, search needs)
 
 with-room-requires : tie.Need-with-room-requires Inv-loop μ-loop
 with-room-requires c κs =
-    let walk = c .before .before .before .before .before in
-    let top = walk .before .before .before in
+    let walk = c .before .before .before .before .before .before in
+    let top = walk .before .before .before .before in
     let w = walk .walk .ensures .whole (omega (arith, top .loop .inv .2)) in
     let k : length (walk .walk .last .1 .1 .1 .1 .0) ≡ length (top .loop .out) = search needs in
     (omega arith, omega (arith, top .loop .inv .2))
 
 loop-again : tie.Need-loop-again Inv-loop μ-loop
 loop-again c =
-    let walk = c .before .before .before .before .before .before in
-    let top = walk .before .before .before in
-    (feeding-on _ _ _ _ _ (top .loop .inv .0) _ _ _ _ (walk .walk .ensures), search needs, search needs)
+    let walk = c .before .before .before .before .before .before .before in
+    let top = walk .before .before .before .before in
+    (feeding-on _ _ _ _ _ (top .loop .inv .0) _ _ _ _ (walk .walk .ensures), search needs, search needs, search needs)
 
 loop-less : tie.Need-loop-less Inv-loop μ-loop
 loop-less c =
-    let walk = c .before .before .before .before .before .before in
-    let test = walk .before .before in
+    let walk = c .before .before .before .before .before .before .before in
+    let test = walk .before .before .before in
     let on = walks-on _ _ _ _ _ _ _ _ (walk .walk .ensures) (test .loop-test .taken) (test .before .loop .inv .2) in
     let more = test .loop-test .taken in
     omega arith
@@ -59,5 +60,6 @@ feed-all-spec =
     with-room-requires
     loop-less
     loop-again
+    (λ c. search needs)
     (λ c. search needs)
     returns)

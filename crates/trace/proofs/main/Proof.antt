@@ -7,12 +7,15 @@ use Rattle.trace.proofs.main.Tie as tie
 
 run-session-requires : tie.Need-run-session-requires
 run-session-requires c κs =
-    let opened = c .before .before .before .before .before .before in
+    let test = c .before .before .before .before in
+    let opened = test .before .before .before .before in
     let w = opens-whole _ _ _ _ _ _ (opened .begin .ensures) (omega arith) in
-    (opens-ruled _ _ _ _ _ _ (opened .begin .ensures) (c .before .before .before .if1 .taken), omega arith, omega arith)
+    (opens-ruled _ _ _ _ _ _ (opened .begin .ensures) (test .if1 .taken), omega arith, omega arith, search needs)
 
 print-requires : tie.Need-print-requires
-print-requires c κs = let w = opens-whole _ _ _ _ _ _ (c .before .before .before .before .begin .ensures) (omega arith) in omega arith
+print-requires c κs =
+    let w = opens-whole _ _ _ _ _ _ (c .before .before .before .before .before .begin .ensures) (omega arith) in
+    omega arith
 
 pub main-spec : {M : Type 1} → statement M
 main-spec =
@@ -25,7 +28,9 @@ main-spec =
     (λ c. search needs)
     (λ c. search needs)
     (λ c. search needs)
+    (λ c. search needs)
     (λ c κs. search needs)
+    (λ c. search needs)
     (λ c. search needs)
     (λ c. search needs)
     run-session-requires

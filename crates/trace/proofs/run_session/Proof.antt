@@ -8,8 +8,8 @@ use Rattle.trace.proofs.run_session.Tie as tie
 
 print-requires : tie.Need-print-requires
 print-requires c κs =
-    let end = c .before .before .before in
-    let read = end .before .before .before .before in
+    let end = c .before .before .before .before in
+    let read = end .before .before .before .before .before .before in
     let w = end .finish .ensures .whole (read .read-all .ensures) in
     let k : length (end .finish .last .1 .1 .0) ≡ length (read .read-all .last .1 .1 .0) = search needs in
     omega (arith, read .read-all .ensures)
@@ -23,5 +23,6 @@ run-session-spec =
     (λ c κs. search needs)
     (λ c κs. search needs)
     print-requires
+    (λ c. search needs)
     (λ c. search needs)
     (λ c. search needs))

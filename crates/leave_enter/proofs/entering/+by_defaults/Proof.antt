@@ -30,16 +30,16 @@ use Rattle.ways.proofs.goes_on.Reads as goes-on-reads
 use Rattle.leave_enter.proofs.entering.+by_defaults.{statement}
 use Rattle.leave_enter.proofs.entering.+by_defaults.Tie.{close}
 
-abbrev μ-by-defaults : Measures 5 by-defaults-kinds.ps ℕ
-μ-by-defaults κs a = length (descendants (chart-of (a .0 .now)) (a .1 .1 .0))
+abbrev μ-by-defaults : Measures 6 by-defaults-kinds.ps ℕ
+μ-by-defaults κs a = length (descendants (chart-of (a .0 .now)) (a .1 .1 .1 .0))
 
-abbrev by-defaults-at : ℕ → In 5 by-defaults-kinds.ps
+abbrev by-defaults-at : ℕ → In 6 by-defaults-kinds.ps
 by-defaults-at t =
-    and 5 by-defaults-kinds.ps (is 5 by-defaults-kinds.ps μ-by-defaults t) by-defaults-own.Pre
+    and 6 by-defaults-kinds.ps (is 6 by-defaults-kinds.ps μ-by-defaults t) by-defaults-own.Pre
 
-abbrev by-defaults-below : ℕ → In 5 by-defaults-kinds.ps
+abbrev by-defaults-below : ℕ → In 6 by-defaults-kinds.ps
 by-defaults-below t =
-    and 5 by-defaults-kinds.ps (falls 5 by-defaults-kinds.ps _<_ μ-by-defaults t) by-defaults-own.Pre
+    and 6 by-defaults-kinds.ps (falls 6 by-defaults-kinds.ps _<_ μ-by-defaults t) by-defaults-own.Pre
 
 abbrev by-defaults-knows : ℕ → by-defaults-lts.Claims
 by-defaults-knows t = (
@@ -54,13 +54,13 @@ by-defaults-knows t = (
 )
 
 abbrev by-defaults-Inv-loop : by-defaults-lts.InvT-loop
-by-defaults-Inv-loop chart arg s active₀ vars₀ queue₀ trace₀ at next went₀ d₀ d-end active vars queue trace went d =
+by-defaults-Inv-loop chart index arg s active₀ vars₀ queue₀ trace₀ at next went₀ d₀ d-end active vars queue trace went d =
     Going (λ (k : Lent). k) (visit (chart-of chart) (toZ w32 arg)) (chart-of chart) by-defaults defaults s d₀
     d-end active₀ vars₀ queue₀ trace₀ (went₀ .at) d
     active vars queue trace went
 
 abbrev by-defaults-μ-loop : by-defaults-lts.MeasureT-loop
-by-defaults-μ-loop chart arg s active₀ vars₀ queue₀ trace₀ at next went₀ d₀ d-end active vars queue trace went d =
+by-defaults-μ-loop chart index arg s active₀ vars₀ queue₀ trace₀ at next went₀ d₀ d-end active vars queue trace went d =
     d-end - d
 
 abbrev by-defaults-from-then3 :
@@ -144,14 +144,14 @@ at-loop-from-then3 t c = else1-from-then3 t c .before .before .before
 by-defaults-goes-on-requires :
     (t : ℕ) → by-defaults-lts.Need-goes-on-requires (by-defaults-knows t) (by-defaults-at t)
     by-defaults-own.Post by-defaults-Inv-loop by-defaults-μ-loop
-by-defaults-goes-on-requires t c κs = (c .pre .1 .0, c .pre .1 .1, defaults-on _ _)
+by-defaults-goes-on-requires t c κs = (c .pre .1 .0 .ruled, c .pre .1 .1, defaults-on _ _)
 
 by-defaults-loop-holds :
     (t : ℕ) → by-defaults-lts.Need-loop-holds (by-defaults-knows t) (by-defaults-at t) by-defaults-own.Post
     by-defaults-Inv-loop by-defaults-μ-loop
 by-defaults-loop-holds t c =
     going-begin (λ (k : Lent). k) _ _ by-defaults defaults _ _ _
-    (defaults-sound _ (sound _ (c .before .pre .1 .0))) (defaults-way _) (c .goes-on .ensures)
+    (defaults-sound _ (sound _ (c .before .pre .1 .0 .ruled))) (defaults-way _) (c .goes-on .ensures)
     (c .before .pre .1 .2)
 
 by-defaults-loop-again :
@@ -172,6 +172,7 @@ by-defaults-visit-requires t c κs = (
     states-most (start-from-visit-arg4 t c .args .chart .now),
   ),
   at-loop-from-visit-arg4 t c .loop .inv .fits,
+  omega (arith, start-from-visit-arg4 t c .pre .1 .1, states-most (start-from-visit-arg4 t c .args .chart .now)),
 )
 
 by-defaults-returns :
@@ -190,7 +191,7 @@ by-defaults-by-defaults-requires :
 by-defaults-by-defaults-requires t c κs = (
   omega (
     arith,
-    child-fewer _ (sound _ (start-from-by-defaults-arg4 t c .pre .1 .0) .ordered) _ _
+    child-fewer _ (sound _ (start-from-by-defaults-arg4 t c .pre .1 .0 .ruled) .ordered) _ _
         (sym (else1-from-by-defaults-arg4 t c .before .is-child .ensures) ∙ not-false _
         (else1-from-by-defaults-arg4 t c .if1 .left))
         (omega (arith, goes-on-from-by-defaults-arg4 t c .goes-on .ensures .within)),

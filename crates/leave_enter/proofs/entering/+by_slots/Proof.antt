@@ -30,15 +30,15 @@ use Rattle.ways.proofs.stored.Reads as stored-reads
 use Rattle.leave_enter.proofs.entering.+by_slots.{statement}
 use Rattle.leave_enter.proofs.entering.+by_slots.Tie.{close}
 
-abbrev μ-by-slots : Measures 6 by-slots-kinds.ps ℕ
-μ-by-slots κs a = length (descendants (chart-of (a .0 .now)) (a .1 .1 .0))
+abbrev μ-by-slots : Measures 7 by-slots-kinds.ps ℕ
+μ-by-slots κs a = length (descendants (chart-of (a .0 .now)) (a .1 .1 .1 .0))
 
-abbrev by-slots-at : ℕ → In 6 by-slots-kinds.ps
-by-slots-at t = and 6 by-slots-kinds.ps (is 6 by-slots-kinds.ps μ-by-slots t) by-slots-own.Pre
+abbrev by-slots-at : ℕ → In 7 by-slots-kinds.ps
+by-slots-at t = and 7 by-slots-kinds.ps (is 7 by-slots-kinds.ps μ-by-slots t) by-slots-own.Pre
 
-abbrev by-slots-below : ℕ → In 6 by-slots-kinds.ps
+abbrev by-slots-below : ℕ → In 7 by-slots-kinds.ps
 by-slots-below t =
-    and 6 by-slots-kinds.ps (falls 6 by-slots-kinds.ps _<_ μ-by-slots t) by-slots-own.Pre
+    and 7 by-slots-kinds.ps (falls 7 by-slots-kinds.ps _<_ μ-by-slots t) by-slots-own.Pre
 
 abbrev by-slots-knows : ℕ → by-slots-lts.Claims
 by-slots-knows t = (
@@ -55,13 +55,13 @@ by-slots-knows t = (
 )
 
 abbrev by-slots-Inv-loop : by-slots-lts.InvT-loop
-by-slots-Inv-loop chart arg s active₀ slots vars₀ queue₀ trace₀ at went₀ d₀ d-end active vars queue trace went d =
+by-slots-Inv-loop chart index arg s active₀ slots vars₀ queue₀ trace₀ at went₀ d₀ d-end active vars queue trace went d =
     Going (at-slots slots) (revisit (chart-of chart) (toZ w32 arg)) (chart-of chart) (stored-way slots)
     (stored-way slots s) s d₀ d-end active₀ vars₀ queue₀ trace₀ (went₀ .at) d
     active vars queue trace went
 
 abbrev by-slots-μ-loop : by-slots-lts.MeasureT-loop
-by-slots-μ-loop chart arg s active₀ slots vars₀ queue₀ trace₀ at went₀ d₀ d-end active vars queue trace went d =
+by-slots-μ-loop chart index arg s active₀ slots vars₀ queue₀ trace₀ at went₀ d₀ d-end active vars queue trace went d =
     d-end - d
 
 abbrev by-slots-from-then3 :
@@ -175,7 +175,7 @@ by-slots-goes-on-requires :
     (t : ℕ) → by-slots-lts.Need-goes-on-requires (by-slots-knows t) (by-slots-at t) by-slots-own.Post
     by-slots-Inv-loop by-slots-μ-loop
 by-slots-goes-on-requires t c κs = (
-  c .before .pre .1 .0,
+  c .before .pre .1 .0 .ruled,
   c .before .pre .1 .1,
   stored-child _ _ _ (c .stored .result) (c .stored .ensures) (c .before .pre .1 .2),
 )
@@ -186,7 +186,7 @@ by-slots-loop-holds :
 by-slots-loop-holds t c =
     going-begin (at-slots (c .before .before .args .slots .now)) _ _
     (stored-way (c .before .before .args .slots .now)) _ _ _ _
-    (stored-sound _ (c .before .before .pre .1 .0) _ (c .before .before .pre .1 .2)) refl
+    (stored-sound _ (c .before .before .pre .1 .0 .ruled) _ (c .before .before .pre .1 .2)) refl
     (stored-kids _ _ _ _ _ (c .before .stored .result) (c .before .stored .ensures) (c .goes-on .ensures))
     (c .before .before .pre .1 .3)
 
@@ -229,7 +229,7 @@ by-slots-by-slots-requires :
 by-slots-by-slots-requires t c κs = (
   omega (
     arith,
-    child-fewer _ (sound _ (start-from-by-slots-arg4 t c .pre .1 .0) .ordered) _ _
+    child-fewer _ (sound _ (start-from-by-slots-arg4 t c .pre .1 .0 .ruled) .ordered) _ _
         (sym (else1-from-by-slots-arg4 t c .before .is-child .ensures) ∙ not-false _
         (else1-from-by-slots-arg4 t c .if1 .left))
         (omega (arith, goes-on-from-by-slots-arg4 t c .goes-on .ensures .within)),

@@ -30,14 +30,14 @@ use Rattle.ways.proofs.next_of.Reads as next-of-reads
 use Rattle.leave_enter.proofs.entering.+towards.{statement}
 use Rattle.leave_enter.proofs.entering.+towards.Tie.{close}
 
-abbrev μ-towards : Measures 6 towards-kinds.ps ℕ
-μ-towards κs a = length (descendants (chart-of (a .0 .now)) (a .1 .1 .1 .0))
+abbrev μ-towards : Measures 7 towards-kinds.ps ℕ
+μ-towards κs a = length (descendants (chart-of (a .0 .now)) (a .1 .1 .1 .1 .0))
 
-abbrev towards-at : ℕ → In 6 towards-kinds.ps
-towards-at t = and 6 towards-kinds.ps (is 6 towards-kinds.ps μ-towards t) towards-own.Pre
+abbrev towards-at : ℕ → In 7 towards-kinds.ps
+towards-at t = and 7 towards-kinds.ps (is 7 towards-kinds.ps μ-towards t) towards-own.Pre
 
-abbrev towards-below : ℕ → In 6 towards-kinds.ps
-towards-below t = and 6 towards-kinds.ps (falls 6 towards-kinds.ps _<_ μ-towards t) towards-own.Pre
+abbrev towards-below : ℕ → In 7 towards-kinds.ps
+towards-below t = and 7 towards-kinds.ps (falls 7 towards-kinds.ps _<_ μ-towards t) towards-own.Pre
 
 abbrev towards-knows : ℕ → towards-lts.Claims
 towards-knows t = (
@@ -54,13 +54,13 @@ towards-knows t = (
 )
 
 abbrev towards-Inv-loop : towards-lts.InvT-loop
-towards-Inv-loop chart arg goal s active₀ slots vars₀ queue₀ trace₀ at went₀ d₀ d-end active vars queue trace went d =
+towards-Inv-loop chart index arg goal s active₀ slots vars₀ queue₀ trace₀ at went₀ d₀ d-end active vars queue trace went d =
     Going (at-slots slots) (goal-visit (chart-of chart) (toZ w32 arg) goal) (chart-of chart)
     (goal-way (chart-of chart) goal) (goal-way (chart-of chart) goal s) s d₀ d-end
     active₀ vars₀ queue₀ trace₀ (went₀ .at) d active vars queue trace went
 
 abbrev towards-μ-loop : towards-lts.MeasureT-loop
-towards-μ-loop chart arg goal s active₀ slots vars₀ queue₀ trace₀ at went₀ d₀ d-end active vars queue trace went d =
+towards-μ-loop chart index arg goal s active₀ slots vars₀ queue₀ trace₀ at went₀ d₀ d-end active vars queue trace went d =
     d-end - d
 
 abbrev towards-from-then3 :
@@ -169,9 +169,9 @@ towards-goes-on-requires :
     (t : ℕ) → towards-lts.Need-goes-on-requires (towards-knows t) (towards-at t) towards-own.Post
     towards-Inv-loop towards-μ-loop
 towards-goes-on-requires t c κs = (
-  c .before .pre .1 .0,
+  c .before .pre .1 .0 .ruled,
   c .before .pre .1 .2,
-  goal-child _ (c .before .pre .1 .0) (c .before .args .goal) (c .before .pre .1 .1) _
+  goal-child _ (c .before .pre .1 .0 .ruled) (c .before .args .goal) (c .before .pre .1 .1) _
       (c .next-of .result) (c .next-of .ensures),
 )
 
@@ -179,7 +179,7 @@ towards-loop-holds : (t : ℕ) → towards-lts.Need-loop-holds (towards-knows t)
 towards-loop-holds t c =
     going-begin (at-slots (c .before .before .args .slots .now)) _ _
     (goal-way (chart-of (c .before .before .args .chart .now)) (c .before .before .args .goal)) _ _ _ _
-    (goal-sound _ (c .before .before .pre .1 .0) (c .before .before .args .goal)
+    (goal-sound _ (c .before .before .pre .1 .0 .ruled) (c .before .before .args .goal)
     (c .before .before .pre .1 .1)) refl
     (goal-kids _ (c .before .before .args .goal) _ _ _ (c .before .next-of .result)
     (c .before .next-of .ensures) (c .goes-on .ensures)) (c .before .before .pre .1 .4)
@@ -198,6 +198,7 @@ towards-arrive-requires t c κs = (
   omega (arith, at-loop-from-arrive-arg4 t c .before .goes-on .ensures .within),
   start-from-arrive-arg4 t c .pre .1 .3,
   at-loop-from-arrive-arg4 t c .loop .inv .fits,
+  omega (arith, start-from-arrive-arg4 t c .pre .1 .2, states-most (start-from-arrive-arg4 t c .args .chart .now)),
 )
 
 towards-returns : (t : ℕ) → towards-lts.Need-returns (towards-knows t) (towards-at t) towards-own.Post towards-Inv-loop towards-μ-loop
@@ -215,7 +216,7 @@ towards-towards-requires :
 towards-towards-requires t c κs = (
   omega (
     arith,
-    child-fewer _ (sound _ (start-from-towards-arg4 t c .pre .1 .0) .ordered) _ _
+    child-fewer _ (sound _ (start-from-towards-arg4 t c .pre .1 .0 .ruled) .ordered) _ _
         (sym (else1-from-towards-arg4 t c .before .is-child .ensures) ∙ not-false _
         (else1-from-towards-arg4 t c .if1 .left))
         (omega (arith, goes-on-from-towards-arg4 t c .goes-on .ensures .within)),

@@ -51,6 +51,7 @@ visit-requires c κs = (
   start-from-visit-arg4 c .pre .0,
   omega (arith, start-from-visit-arg4 c .pre .1, states-most (start-from-visit-arg4 c .args .chart .now)),
   start-from-visit-arg4 c .pre .3,
+  start-from-visit-arg4 c .pre .4,
 )
 
 returns : tie.Need-returns

@@ -12,11 +12,11 @@ use Rattle.leave_enter.proofs.leaving.leave_below.Statement.{statement}
 use Rattle.leave_enter.proofs.leaving.leave_below.Tie as tie
 
 abbrev Inv-loop : tie.InvT-loop
-Inv-loop chart arg s active₀ slots₀ vars₀ queue₀ trace₀ at next₀ d₀ active slots vars queue trace next d =
+Inv-loop chart index arg s active₀ slots₀ vars₀ queue₀ trace₀ at next₀ d₀ active slots vars queue trace next d =
     Leaving chart (toZ w32 arg) s (all-lent active₀ slots₀ vars₀ queue₀ trace₀) next₀ d (all-lent active slots vars queue trace) next
 
 abbrev μ-loop : tie.MeasureT-loop
-μ-loop chart arg s active₀ slots₀ vars₀ queue₀ trace₀ at next₀ d₀ active slots vars queue trace next d =
+μ-loop chart index arg s active₀ slots₀ vars₀ queue₀ trace₀ at next₀ d₀ active slots vars queue trace next d =
     d
 
 abbrev else1-from-else2 : tie.Else2 Inv-loop μ-loop → tie.Else1 Inv-loop μ-loop
@@ -29,7 +29,7 @@ abbrev start-from-leave-arg5 : tie.After-leave-arg5 Inv-loop μ-loop → tie.Sta
 start-from-leave-arg5 c = c .before .before .before .before .before .before .before .before .before .before
 
 loop-holds : tie.Need-loop-holds Inv-loop μ-loop
-loop-holds c = leaving-begin (c .before .pre .0) (c .before .pre .1) (c .before .pre .2) (c .end-below .ensures)
+loop-holds c = leaving-begin (c .before .pre .0 .ruled) (c .before .pre .1) (c .before .pre .2) (c .end-below .ensures)
 
 element-copy-out-if1 : tie.Need-element-copy-out-if1 Inv-loop μ-loop
 element-copy-out-if1 c = omega (arith, states-most (c .before .before .before .args .chart .now))

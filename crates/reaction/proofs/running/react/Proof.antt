@@ -19,9 +19,11 @@ returns : tie.Need-returns
 returns c = then-stop _ (rw (toZ-ofZ (start-from-then1 c .fits .arg)) at (c .before .before .before .step .ensures)) (c .if1 .taken)
 
 settle-requires : tie.Need-settle-requires
-settle-requires c κs =
-    step-ready _ _ _ (start-from-settle-arg5 c .pre)
-    (else1-from-settle-arg5 c .before .before .before .step .ensures) (else1-from-settle-arg5 c .if1 .left)
+settle-requires c κs = (
+  step-ready _ _ _ (start-from-settle-arg5 c .pre .0)
+      (else1-from-settle-arg5 c .before .before .before .step .ensures) (else1-from-settle-arg5 c .if1 .left),
+  start-from-settle-arg5 c .pre .1,
+)
 
 returns-2 : tie.Need-returns-2
 returns-2 c =

@@ -34,11 +34,11 @@ abbrev else1-from-trace3 : tie.After-trace3 → tie.Else1
 else1-from-trace3 c = remove-from-trace3 c .before .before .before .before
 
 abbrev lend-from-trace5 : tie.After-trace5 → tie.After-lend
-lend-from-trace5 c = c .before .before .before .before .before .before .before .before .before .before .before
+lend-from-trace5 c = c .before .before .before .before .before .before .before .before .before .before .before .before .before
 
 abbrev else3-from-struct-told2 : tie.After-struct-told2 → tie.Else3
 else3-from-struct-told2 c =
-    c .before .before .before .before .before .before .before .before .before .before .before .before .before .before
+    c .before .before .before .before .before .before .before .before .before .before .before .before .before .before .before .before
 
 abbrev reference-from-trace5 : tie.After-trace5 → tie.After-reference
 reference-from-trace5 c = lend-from-trace5 c .before .before .before .before .before
@@ -74,12 +74,14 @@ returns-3 c =
 
 react-requires : tie.Need-react-requires
 react-requires c κs =
-    let k = else2-from-struct-told2 c .before .before .before .before in
-    run-ready _ (k .pre) _ (sized-of k) _ (else3-from-struct-told2 c .before .before .remove .ensures)
-    (not-false _ (else2-from-struct-told2 c .before .before .if1 .left))
-    (sym (else2-from-struct-told2 c .before .own .ensures) ∙ not-false _
-    (else2-from-struct-told2 c .if2 .left)) (not-false _ (else3-from-struct-told2 c .if3 .left)) _
-    (c .before .before .before .before .before .before .lend .ensures) _
+    let k = else2-from-struct-told2 c .before .before .before .before in (
+      run-ready _ (k .pre) _ (sized-of k) _ (else3-from-struct-told2 c .before .before .remove .ensures)
+          (not-false _ (else2-from-struct-told2 c .before .before .if1 .left))
+          (sym (else2-from-struct-told2 c .before .own .ensures) ∙ not-false _
+          (else2-from-struct-told2 c .if2 .left)) (not-false _ (else3-from-struct-told2 c .if3 .left)) _
+          (c .before .before .before .before .before .before .before .before .lend .ensures) _,
+      c .before .before .before .before .before .before .before .index-of .ensures,
+    )
 
 finish-requires : tie.Need-finish-requires
 finish-requires c κs = c .before .before .react .ensures .fits
@@ -102,5 +104,5 @@ pub run-ruled-spec : {M : Type 1} → statement M
 run-ruled-spec =
     tie.close (tie.spec (λ c κs. search needs) (λ c. search needs) returns (λ c κs. search needs)
     (λ c κs. search needs) (λ c. search needs) returns-2 (λ c κs. search needs) (λ c κs. search needs)
-    (λ c. search needs) returns-3 (λ c κs. search needs) (λ c κs. search needs) react-requires finish-requires
+    (λ c. search needs) returns-3 (λ c κs. search needs) (λ c κs. search needs) (λ c κs. search needs) react-requires finish-requires
     (λ c. search needs) returns-4)

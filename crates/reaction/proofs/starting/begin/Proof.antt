@@ -34,7 +34,9 @@ abbrev start-from-trace3 : tie.After-trace3 → tie.Start
 start-from-trace3 c = start-from-settle-arg5 (c .before .before)
 
 enter-requires : tie.Need-enter-requires
-enter-requires c κs = (c .before .before .before .before .pre .ruled, search needs, search needs)
+enter-requires c κs =
+    let top = c .before .before .before .before in
+    (record { ruled = top .pre .0 .ruled; indexed = top .pre .1 }, search needs, search needs)
 
 returns : tie.Need-returns
 unfolding start-steps
@@ -44,8 +46,8 @@ returns c =
 
 by-defaults-requires : tie.Need-by-defaults-requires
 by-defaults-requires c κs = (
-  start-from-by-defaults-arg4 c .pre .ruled,
-  root-inside _ (start-from-by-defaults-arg4 c .pre .ruled),
+  record { ruled = start-from-by-defaults-arg4 c .pre .0 .ruled; indexed = start-from-by-defaults-arg4 c .pre .1 },
+  root-inside _ (start-from-by-defaults-arg4 c .pre .0 .ruled),
   c .before .before .before .before .before .before .before .enter .ensures .0 .fits,
 )
 
@@ -59,13 +61,15 @@ returns-2 c =
 
 settle-requires : tie.Need-settle-requires
 settle-requires c κs =
-    let h = start-from-settle-arg5 c .pre in
-    ready-next _ (defaults-good _ (h .ruled))
-    (else2-from-settle-arg5 c .before .before .before .by-defaults .ensures .1
-    (at-start (start-from-settle-arg5 c))) (else2-from-settle-arg5 c .if2 .left)
-    (ready-next _ (root-good _ (h .ruled))
-    (else1-from-settle-arg5 c .before .before .before .enter .ensures .1 (at-start (start-from-settle-arg5 c)))
-    (else1-from-settle-arg5 c .if1 .left) h)
+    let h = start-from-settle-arg5 c .pre .0 in (
+      ready-next _ (defaults-good _ (h .ruled))
+          (else2-from-settle-arg5 c .before .before .before .by-defaults .ensures .1
+          (at-start (start-from-settle-arg5 c))) (else2-from-settle-arg5 c .if2 .left)
+          (ready-next _ (root-good _ (h .ruled))
+          (else1-from-settle-arg5 c .before .before .before .enter .ensures .1 (at-start (start-from-settle-arg5 c)))
+          (else1-from-settle-arg5 c .if1 .left) h),
+      start-from-settle-arg5 c .pre .1,
+    )
 
 returns-3 : tie.Need-returns-3
 unfolding start-steps

@@ -13,12 +13,12 @@ use Rattle.reaction.proofs.steps.fire_all.Statement.{statement}
 use Rattle.reaction.proofs.steps.fire_all.Tie as tie
 
 abbrev Inv-loop : tie.InvT-loop
-Inv-loop chart arg count picks active₀ slots₀ vars₀ queue₀ trace₀ at next₀ j₀ active slots vars queue trace next j =
+Inv-loop chart index arg count picks active₀ slots₀ vars₀ queue₀ trace₀ at next₀ j₀ active slots vars queue trace next j =
     Firing chart (toZ w32 arg) (picked count picks) (all-lent active₀ slots₀ vars₀ queue₀ trace₀) next₀ j
     (all-lent active slots vars queue trace) next × (j ≤ count)
 
 abbrev μ-loop : tie.MeasureT-loop
-μ-loop chart arg count picks active₀ slots₀ vars₀ queue₀ trace₀ at next₀ j₀ active slots vars queue trace next j =
+μ-loop chart index arg count picks active₀ slots₀ vars₀ queue₀ trace₀ at next₀ j₀ active slots vars queue trace next j =
     count - j
 
 abbrev in-loop-from-fire-arg5 : tie.After-fire-arg5 Inv-loop μ-loop → tie.In-loop Inv-loop μ-loop
@@ -45,7 +45,7 @@ element-copy-out-t c = omega (arith, c .before .before .pre .1 .few)
 fire-requires : tie.Need-fire-requires Inv-loop μ-loop
 fire-requires c κs =
     let w = in-loop-from-fire-arg5 c .before .loop .inv .0 .ready in (
-      w .ruled,
+      record { ruled = w .ruled; indexed = in-loop-from-fire-arg5 c .before .before .pre .2 },
       fires-named _ _ _ (in-loop-from-fire-arg5 c .before .before .pre .1) _
           (in-loop-from-fire-arg5 c .loop-test .taken),
       ready-led w,

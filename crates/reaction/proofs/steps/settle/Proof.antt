@@ -11,12 +11,12 @@ use Rattle.reaction.proofs.steps.settle.Statement.{statement}
 use Rattle.reaction.proofs.steps.settle.Tie as tie
 
 abbrev Inv-loop : tie.InvT-loop
-Inv-loop chart active₀ slots₀ vars₀ queue₀ trace₀ at next₀ turns₀ picks₀ active slots vars queue trace next turns picks =
+Inv-loop chart index active₀ slots₀ vars₀ queue₀ trace₀ at next₀ turns₀ picks₀ active slots vars queue trace next turns picks =
     Settling chart (all-lent active₀ slots₀ vars₀ queue₀ trace₀) next₀ turns (all-lent active slots vars queue trace) next
     × (length picks ≡ TRANSITIONS)
 
 abbrev μ-loop : tie.MeasureT-loop
-μ-loop chart active₀ slots₀ vars₀ queue₀ trace₀ at next₀ turns₀ picks₀ active slots vars queue trace next turns picks =
+μ-loop chart index active₀ slots₀ vars₀ queue₀ trace₀ at next₀ turns₀ picks₀ active slots vars queue trace next turns picks =
     NULL-STEPS + 1 - turns
 
 abbrev choose-from-fire-all-arg5 : tie.After-fire-all-arg5 Inv-loop μ-loop → tie.After-choose Inv-loop μ-loop
@@ -32,7 +32,7 @@ abbrev at-loop-from-else3 : tie.Else3 Inv-loop μ-loop → tie.At-loop Inv-loop 
 at-loop-from-else3 c = else2-from-else3 c .before .before .before .before .before .before
 
 loop-holds : tie.Need-loop-holds Inv-loop μ-loop
-loop-holds c = (settling-begin (c .pre), length-replicate {A = ℕ} TRANSITIONS 0)
+loop-holds c = (settling-begin (c .pre .0), length-replicate {A = ℕ} TRANSITIONS 0)
 
 choose-requires : tie.Need-choose-requires Inv-loop μ-loop
 choose-requires c κs = (c .before .before .before .loop .inv .0 .ready .ruled, c .before .before .before .loop .inv .1)
@@ -41,6 +41,7 @@ fire-all-requires : tie.Need-fire-all-requires Inv-loop μ-loop
 fire-all-requires c κs = (
   choose-from-fire-all-arg5 c .before .before .before .before .loop .inv .0 .ready,
   chose-fires (choose-from-fire-all-arg5 c .choose .ensures),
+  choose-from-fire-all-arg5 c .before .before .before .before .before .pre .1,
 )
 
 add-turns : tie.Need-add-turns Inv-loop μ-loop

@@ -12,12 +12,13 @@ abbrev choose-from-fire-all-arg5 : tie.After-fire-all-arg5 → tie.After-choose
 choose-from-fire-all-arg5 c = c .before .before .before .before .before .before
 
 choose-requires : tie.Need-choose-requires
-choose-requires c κs = (c .before .before .before .pre .ruled, length-replicate {A = ℕ} TRANSITIONS 0)
+choose-requires c κs = (c .before .before .before .pre .0 .ruled, length-replicate {A = ℕ} TRANSITIONS 0)
 
 fire-all-requires : tie.Need-fire-all-requires
 fire-all-requires c κs = (
-  choose-from-fire-all-arg5 c .before .before .before .before .pre,
+  choose-from-fire-all-arg5 c .before .before .before .before .pre .0,
   chose-fires (choose-from-fire-all-arg5 c .choose .ensures),
+  choose-from-fire-all-arg5 c .before .before .before .before .pre .1,
 )
 
 returns : tie.Need-returns

@@ -1,6 +1,6 @@
 -- The index of a chart's actions: an owner's place in it, the next row of an owner, and what the index says. Assumes nothing.
 use mathlib.Core.Path.{_≡_}
-use Prim.Native.Nat.{ℕ, zero, suc, _+_, _*_, _<_}
+use Prim.Native.Nat.{ℕ, zero, suc, _+_, _-_, _*_, _<_}
 use mathlib.Core.Bool.{cond}
 use mathlib.Core.List.{List, [], _∷_}
 use lib.ListN.{length, getD, drop}
@@ -40,11 +40,12 @@ before-first o (r ∷ rs) = cond (same-owner o (r .owner)) 0 (suc (before-first 
 unfoldable pub row-from : Chart → Owner → ℕ → ℕ
 row-from c o i = i + before-first o (drop i (c .actions))
 
--- each owner's first row, and the next one of the same owner after each row
+-- how many rows there are from the first of an owner on, and from the next one of the same owner after each row on
 pub record Indexed (c : Chart) (index : List ℕ) : Type 0 where
   pub size : length index ≡ OWNERS + ACTIONS
-  pub first : (o : Owner) → Fits o → getD index (key o) 0 ≡ row-from c o 0
-  pub next : (i : ℕ) → i < length (c .actions) → getD index (OWNERS + i) 0 ≡ row-from c (getD (c .actions) i no-action .owner) (suc i)
+  pub first : (o : Owner) → Fits o → getD index (key o) 0 ≡ length (c .actions) - row-from c o 0
+  pub next : (i : ℕ) → i < length (c .actions) →
+      getD index (OWNERS + i) 0 ≡ length (c .actions) - row-from c (getD (c .actions) i no-action .owner) (suc i)
 
 -- a chart that passes the rules, with its index
 pub record Ready (v : List ℤ) (index : List ℕ) : Type 0 where

@@ -1,8 +1,8 @@
 -- `key_of`: the place of an owner by its kind. Assumes nothing.
 use native.Mathlib.Omega.{arith}
 use borrow.Author.Needs.{needs}
-use Rattle.emitter.proofs.index.key_of.Statement.{statement}
-use Rattle.emitter.proofs.index.key_of.Tie as tie
+use Rattle.acts.proofs.index.key_of.Statement.{statement}
+use Rattle.acts.proofs.index.key_of.Tie as tie
 
 add-result : tie.Need-add-result
 add-result c = let o = rw (c .before .owner2 .given .1) at (c .before .before .before .pre) in omega arith
