@@ -1,5 +1,5 @@
--- What the row of an instruction says, number by number, to code that reads its numbers where they stand (01, "The plan"): by its code, which
--- instruction it is, and that what it names is there. Assumes nothing.
+-- What the row of an instruction says, number by number, to code that reads its numbers where they stand (01, "The plan"): by its code,
+-- which instruction it is, and that what it names is there. Assumes nothing.
 use mathlib.Core.Path.{_≡_, refl, sym, subst}
 use Prim.Native.Nat.{ℕ, _+_, _<_, _≤_}
 use native.Mathlib.Omega.{arith}

@@ -26,7 +26,8 @@ module _ {A : Type 0} (p : A → Bool) (xs : List A) (i : ℕ) where
   every-done e h = sym (ap (every p) (drop-of-length-le xs h)) ∙ e
 
   -- a loop that looks at each, and keeps whether all before i passed
-  pub every-and : {g : Bool} (ok : Bool) (d : A) → ok && every p (drop i xs) ≡ g → i < length xs → (ok && p (getD xs i d)) && every p (drop (i + 1) xs) ≡ g
+  pub every-and : {g : Bool} (ok : Bool) (d : A) → ok && every p (drop i xs) ≡ g → i < length xs
+      → (ok && p (getD xs i d)) && every p (drop (i + 1) xs) ≡ g
   every-and ok d e h = go ok (p (getD xs i d)) ∙ sym (ap (λ b. ok && b) (every-at d h)) ∙ e
     where
       go : (a b : Bool) → (a && b) && every p (drop (i + 1) xs) ≡ a && (b && every p (drop (i + 1) xs))

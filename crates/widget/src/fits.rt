@@ -85,7 +85,8 @@ pub fn queue_fits(events: usize, queue: Queue) -> bool
     rest_free(queue)
 }
 
-// 01, answer 6: a state that there is not is not active. Every mark is looked at, with no way out before the last: so the compiler tests many at once.
+// 01, answer 6: a state that there is not is not active. Every mark is looked at, with no way out before the last: so the compiler tests
+// many at once.
 pub fn marks_fit(states: usize, active: [bool; STATES]) -> bool
     ensures { λ r. ⌜ r ≡ every not (drop states active) ⌝ }
 {

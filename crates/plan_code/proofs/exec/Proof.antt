@@ -89,7 +89,8 @@ returns-2 c =
     let a = n .before .args in
     let r = i .before .before .read in
     leaves (c .onward2 .ensures)
-    (is-out (its-row n) (i .index2 .ensures) (says n (m .match .keys2)) (said-of placeOf (r .ok) (r .ensures) (i .before .place-of .ensures)))
+    (is-out (its-row n) (i .index2 .ensures) (says n (m .match .keys2))
+    (said-of placeOf (r .ok) (r .ensures) (i .before .place-of .ensures)))
     (c .before .before .mark-left .ensures .1
     (all-lent (a .active .now) (a .slots .now) (a .vars .now) (a .queue .now) (a .trace .now)))
     (left-slots _ _ (c .before .before .mark-left .ensures .1))
@@ -223,7 +224,8 @@ returns-6 c =
 -- ---- SET, ADD, TAKE, SEND, TELL
 
 -- a variable of the plan names something
-varied : (n : tie.After-named) → Varied (n .before .args .plan .now) (ref (getD (n .before .args .plan .now) (n .before .args .row + 1) (pos 0)))
+varied : (n : tie.After-named)
+    → Varied (n .before .args .plan .now) (ref (getD (n .before .args .plan .now) (n .before .args .row + 1) (pos 0)))
     → Names (n .before .args .plan .now) (n .before .args .row + 1)
 varied n v = names n 1 (omega arith) (omega (arith, sized (n .before .args .plan .now) .vars, v .1))
 

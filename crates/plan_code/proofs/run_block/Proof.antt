@@ -74,7 +74,8 @@ module _ (c : tie.In-loop Inv-loop μ-loop) where
   its-code : c .before .loop .inv .i < length (plan-by ns .code)
   its-code = in-code (at-start c .pre .0) (c .before .before .code-at .ensures) _ (c .before .loop .inv .walking .onward) within
 
-  its-instr : getD (plan-by ns .code) (c .before .loop .inv .i) (instr-from ns (c .before .loop .row)) ≡ instr-from ns (c .before .loop .row)
+  its-instr : getD (plan-by ns .code) (c .before .loop .inv .i) (instr-from ns (c .before .loop .row))
+      ≡ instr-from ns (c .before .loop .row)
   its-instr =
       instr-is (at-start c .pre .0) (c .before .before .code-at .ensures) _ (c .before .loop .inv .walking .onward) within
       (ap (instr-from ns) (c .before .loop .inv .here))

@@ -38,77 +38,88 @@ returns : tie.Need-returns
 unfolding field-fits
 returns c =
     let m = c .before .before .before .before in
-    tested (m .before) 1 a-state unused unused refl (m .match .keys1) (c .before .before .before .one-of .ensures) (c .before .before .same .ensures)
+    tested (m .before) 1 a-state unused unused refl (m .match .keys1)
+    (c .before .before .before .one-of .ensures) (c .before .before .same .ensures)
     (c .before .same2 .ensures) (c .all-three .ensures)
 
 returns-2 : tie.Need-returns-2
 unfolding field-fits
 returns-2 c =
     let m = c .before .before .before .before in
-    tested (m .before) 2 a-state a-parent unused refl (m .match .keys2) (c .before .before .before .one-of2 .ensures) (c .before .before .parent-fits .ensures)
+    tested (m .before) 2 a-state a-parent unused refl (m .match .keys2)
+    (c .before .before .before .one-of2 .ensures) (c .before .before .parent-fits .ensures)
     (c .before .same3 .ensures) (c .all-three2 .ensures)
 
 returns-3 : tie.Need-returns-3
 unfolding field-fits
 returns-3 c =
     let m = c .before .before .before .before in
-    tested (m .before) 3 a-state a-skip unused refl (m .match .keys3) (c .before .before .before .one-of3 .ensures) (c .before .before .skip-fits .ensures)
+    tested (m .before) 3 a-state a-skip unused refl (m .match .keys3)
+    (c .before .before .before .one-of3 .ensures) (c .before .before .skip-fits .ensures)
     (c .before .same4 .ensures) (c .all-three3 .ensures)
 
 returns-4 : tie.Need-returns-4
 unfolding field-fits
 returns-4 c =
     let m = c .before .before .before .before in
-    tested (m .before) 4 a-state a-skip unused refl (m .match .keys4) (c .before .before .before .one-of4 .ensures) (c .before .before .skip-fits2 .ensures)
+    tested (m .before) 4 a-state a-skip unused refl (m .match .keys4)
+    (c .before .before .before .one-of4 .ensures) (c .before .before .skip-fits2 .ensures)
     (c .before .same5 .ensures) (c .all-three4 .ensures)
 
 returns-5 : tie.Need-returns-5
 unfolding field-fits
 returns-5 c =
     let m = c .before .before .before .before in
-    tested (m .before) 5 a-state a-skip unused refl (m .match .keys5) (c .before .before .before .one-of5 .ensures) (c .before .before .skip-fits3 .ensures)
+    tested (m .before) 5 a-state a-skip unused refl (m .match .keys5)
+    (c .before .before .before .one-of5 .ensures) (c .before .before .skip-fits3 .ensures)
     (c .before .same6 .ensures) (c .all-three5 .ensures)
 
 returns-6 : tie.Need-returns-6
 unfolding field-fits
 returns-6 c =
     let m = c .before .before .before .before in
-    tested (m .before) 6 a-state a-state a-skip refl (m .match .keys6) (c .before .before .before .one-of6 .ensures) (c .before .before .one-of7 .ensures)
+    tested (m .before) 6 a-state a-state a-skip refl (m .match .keys6)
+    (c .before .before .before .one-of6 .ensures) (c .before .before .one-of7 .ensures)
     (c .before .skip-fits4 .ensures) (c .all-three6 .ensures)
 
 returns-7 : tie.Need-returns-7
 unfolding field-fits
 returns-7 c =
     let m = c .before .before .before .before in
-    tested (m .before) 7 a-variable a-constant unused refl (m .match .keys7) (c .before .before .before .one-of8 .ensures) (c .before .before .in-range .ensures)
+    tested (m .before) 7 a-variable a-constant unused refl (m .match .keys7)
+    (c .before .before .before .one-of8 .ensures) (c .before .before .in-range .ensures)
     (c .before .same7 .ensures) (c .all-three7 .ensures)
 
 returns-8 : tie.Need-returns-8
 unfolding field-fits
 returns-8 c =
     let m = c .before .before .before .before in
-    tested (m .before) 8 a-variable a-constant unused refl (m .match .keys8) (c .before .before .before .one-of9 .ensures) (c .before .before .in-range2 .ensures)
+    tested (m .before) 8 a-variable a-constant unused refl (m .match .keys8)
+    (c .before .before .before .one-of9 .ensures) (c .before .before .in-range2 .ensures)
     (c .before .same8 .ensures) (c .all-three8 .ensures)
 
 returns-9 : tie.Need-returns-9
 unfolding field-fits
 returns-9 c =
     let m = c .before .before .before .before in
-    tested (m .before) 9 a-variable unused unused refl (m .match .keys9) (c .before .before .before .one-of10 .ensures) (c .before .before .same9 .ensures)
+    tested (m .before) 9 a-variable unused unused refl (m .match .keys9)
+    (c .before .before .before .one-of10 .ensures) (c .before .before .same9 .ensures)
     (c .before .same10 .ensures) (c .all-three9 .ensures)
 
 returns-10 : tie.Need-returns-10
 unfolding field-fits
 returns-10 c =
     let m = c .before .before .before .before in
-    tested (m .before) 10 an-event a-constant unused refl (m .match .keys10) (c .before .before .before .count-fits .ensures) (c .before .before .in-range3 .ensures)
+    tested (m .before) 10 an-event a-constant unused refl (m .match .keys10)
+    (c .before .before .before .count-fits .ensures) (c .before .before .in-range3 .ensures)
     (c .before .same11 .ensures) (c .all-three10 .ensures)
 
 returns-11 : tie.Need-returns-11
 unfolding field-fits
 returns-11 c =
     let m = c .before .before .before .before in
-    tested (m .before) 11 a-constant unused unused refl (m .match .keys11) (c .before .before .before .in-range4 .ensures) (c .before .before .same12 .ensures)
+    tested (m .before) 11 a-constant unused unused refl (m .match .keys11)
+    (c .before .before .before .in-range4 .ensures) (c .before .before .same12 .ensures)
     (c .before .same13 .ensures) (c .all-three11 .ensures)
 
 returns-12 : tie.Need-returns-12
