@@ -28,9 +28,9 @@ use Rattle.meaning.specs.WellFormed.{head-fits, all-blocks-fill, code-fits, lef
 use Rattle.meaning.specs.WellFormed.{rows-well-formed, is-whole, well-formed}
 use Rattle.plan_rows.specs.Rows.{row, Sized}
 use Rattle.plan_rows.proofs.Rows.{sized, heads-length, head-rows-length, head-rows-at, head-of-plan, head-there}
-use Rattle.plan_rows.proofs.Kept.{head-kept}
+use Rattle.plan_rows.proofs.Kept.{Head-kept, head-kept}
 use Rattle.choice.specs.Choice.{Reads}
-use Rattle.plan_choice.specs.Heads.{Examined, head-at, head-of}
+use Rattle.plan_choice.specs.Heads.{Examined, head-at, Spanned, head-of}
 
 -- ---- the parts of the test
 
@@ -122,10 +122,14 @@ module _ {ns : List ℤ} {k : Counts} (x : Examined ns k) (h : ℕ) (l : h < k .
       × (head-of ns (heads-at k) h .transition < TRANSITIONS)
   head-names = head-said k (row HEAD-ROW (heads-at k) h ns) (counts-sized x .states) (counts-sized x .vars) fits
 
+  kept : Head-kept k (head-of ns (heads-at k) h)
+  kept = head-kept k (row HEAD-ROW (heads-at k) h ns) (counts-sized x .states) fits
+
+  pub head-spanned : Spanned (head-of ns (heads-at k) h)
+  head-spanned = (omega (arith, kept .first, counts-sized x .states), omega (arith, kept .last, counts-sized x .states))
+
   pub head-trigger : head-of ns (heads-at k) h .trigger ≤ EVENTS
-  head-trigger =
-      let t = head-kept k (row HEAD-ROW (heads-at k) h ns) (counts-sized x .states) fits .trigger in
-      omega (arith, t, counts-sized x .events)
+  head-trigger = omega (arith, kept .trigger, counts-sized x .events)
 
   -- it is the head of this number of the plan
   pub head-is : (d : Head) → getD (plan-by ns .heads) h d ≡ head-of ns (heads-at k) h

@@ -6,10 +6,12 @@ use native.Mathlib.Omega.{arith}
 use mathlib.Core.Bool.{Bool, true, false, _&&_, and-false}
 use mathlib.Core.List.{List}
 use lib.ListN.{getD}
-use lib.IntN.{ℤ, pos}
-use lib.Dec.{eqb, leb}
-use borrow.Author.Tests.{eq-eqb, ne-eqb, le-leb, lt-leb}
-use Rattle.numbers.specs.Reference.{ref}
+use lib.IntN.{ℤ, pos, negsuc}
+use lib.Signed.{ltZ}
+use lib.Dec.{eqb, leb, ltb}
+use borrow.Author.Tests.{ltb-true, eq-eqb, ne-eqb, le-leb, lt-leb}
+use Rattle.numbers.specs.Reference.{ref, NOWHERE}
+use Rattle.laws.proofs.Lists.{is-false}
 use Rattle.meaning.specs.declared.State.{State}
 use Rattle.meaning.specs.declared.plan.Head.{Head}
 use Rattle.meaning.specs.declared.chart.Guard.{Guard}
@@ -20,6 +22,12 @@ use Rattle.meaning.specs.WellFormed.{HEAD-ROW, head-by, head-guard-by}
 use Rattle.chart_rows.proofs.Rows.{num-at}
 use Rattle.choice.proofs.Seen.{guard-seen}
 use Rattle.plan_choice.specs.Heads.{head-at}
+
+-- ---- a number that names something is not below 0
+
+pub not-below : (z : ℤ) → ref z < NOWHERE → ltZ z (pos 0) ≡ false
+not-below (pos n) l = is-false (ltb n 0) (λ t. let h = ltb-true n 0 t in absurd (omega arith))
+not-below (negsuc n) l = absurd (omega arith)
 
 -- ---- the fields of a head
 

@@ -6,7 +6,7 @@ use mathlib.Core.Bool.{Bool, true}
 use mathlib.Core.List.{List, [], _∷_, map}
 use lib.ListN.{length, getD, take, drop}
 use lib.IntN.{ℤ}
-use Rattle.sizes.specs.Sizes.{TRANSITIONS}
+use Rattle.sizes.specs.Sizes.{STATES, TRANSITIONS}
 use Rattle.meaning.specs.declared.plan.Counts.{Counts}
 use Rattle.meaning.specs.declared.plan.Head.{Head}
 use Rattle.meaning.specs.Machine.{chosen-heads}
@@ -21,6 +21,10 @@ pub record Examined (ns : List ℤ) (k : Counts) : Type 0 where
 -- the head whose row begins at this place
 abbrev pub head-at : List ℤ → ℕ → Head
 head-at ns at = head-by (take HEAD-ROW (drop at ns))
+
+-- its span is of states
+abbrev pub Spanned : Head → Type 0
+Spanned h = (h .first < STATES) × (h .last < STATES)
 
 -- head h, where the heads begin at base
 abbrev pub head-of : List ℤ → ℕ → ℕ → Head

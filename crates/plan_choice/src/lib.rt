@@ -12,20 +12,30 @@ use plan_rows::layout::HEAD_ROW;
 use plan_rows::layout::SOURCE;
 use plan_rows::layout::SPAN_FIRST;
 use plan_rows::layout::SPAN_LAST;
-use plan_rows::named;
+use plan_rows::read;
 use sizes::EVENTS;
 use sizes::STATES;
 use sizes::TRANSITIONS;
 use sizes::VARIABLES;
 ghost use mathlib.Core.Path.{_≡_};
 ghost use Prim.Native.Nat.{_+_, _≤_, _<_};
-ghost use lib.ListN.{length};
+ghost use lib.IntN.{pos};
+ghost use lib.ListN.{length, getD};
 ghost use Rattle.sizes.specs.Sizes.{STATES as states, TRANSITIONS as transitions};
+ghost use Rattle.numbers.specs.Reference.{ref, NOWHERE};
 ghost use Rattle.meaning.specs.Machine.{head-enabled, spans-meet};
 ghost use Rattle.meaning.specs.WellFormed.{HEAD-ROW};
 ghost use Rattle.choice.specs.Choice.{seen, Reads};
-ghost use Rattle.plan_choice.specs.Heads.{Examined, head-at, Chose};
+ghost use Rattle.plan_choice.specs.Heads.{Examined, head-at, Spanned, Chose};
 ghost use Rattle.plan_choice.specs.Links.{Linked};
+
+// What the number at i names, where it is known to name something, as in a plan that was examined: its sign is not tested.
+pub fn known(plan: &[i32], i: usize) -> usize
+    requires { ⌜ (i < length (now plan)) × (ref (getD (now plan) i (pos 0)) < NOWHERE) ⌝ }
+    ensures { λ r. ⌜ r ≡ ref (getD (now (plan .entry)) i (pos 0)) ⌝ }
+{
+    read(plan, i) as usize
+}
 
 // Source active, guard true of the values: of the head whose row begins at this place, in a step of its trigger. What does not
 // match is passed over before anything else is read.
@@ -33,7 +43,7 @@ fn enabled(plan: &[i32], at: usize, active: &[bool; STATES], vars: &[i32; VARIAB
     requires { ⌜ (at + HEAD-ROW ≤ length (now plan)) × (head-at (now plan) at .source < states) × Reads (head-at (now plan) at .guard) ⌝ }
     ensures { λ r. ⌜ r ≡ head-enabled (head-at (now (plan .entry)) at .trigger) (seen (now (active .entry)) (now (vars .entry))) (head-at (now (plan .entry)) at) ⌝ }
 {
-    let source = named(plan, at + SOURCE);
+    let source = known(plan, at + SOURCE);
     if !active[source] {
         return false;
     }
@@ -43,13 +53,13 @@ fn enabled(plan: &[i32], at: usize, active: &[bool; STATES], vars: &[i32; VARIAB
 
 // Whether the spans of two heads, whose rows begin at these places, have a state in common.
 fn meet(plan: &[i32], at: usize, other: usize) -> bool
-    requires { ⌜ (at + HEAD-ROW ≤ length (now plan)) × (other + HEAD-ROW ≤ length (now plan)) ⌝ }
+    requires { ⌜ (at + HEAD-ROW ≤ length (now plan)) × (other + HEAD-ROW ≤ length (now plan)) × Spanned (head-at (now plan) at) × Spanned (head-at (now plan) other) ⌝ }
     ensures { λ r. ⌜ r ≡ spans-meet (head-at (now (plan .entry)) at) (head-at (now (plan .entry)) other) ⌝ }
 {
-    if named(plan, other + SPAN_LAST) < named(plan, at + SPAN_FIRST) {
+    if known(plan, other + SPAN_LAST) < known(plan, at + SPAN_FIRST) {
         return false;
     }
-    named(plan, other + SPAN_FIRST) <= named(plan, at + SPAN_LAST)
+    known(plan, other + SPAN_FIRST) <= known(plan, at + SPAN_LAST)
 }
 
 // The enabled heads in their order, less any whose span meets that of one already chosen: their numbers stand in picks.

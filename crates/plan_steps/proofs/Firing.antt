@@ -20,7 +20,7 @@ use Rattle.widget.specs.declared.Went.{Went}
 use Rattle.widget.proofs.Going as going
 use Rattle.plan_choice.specs.Heads.{Examined, head-at, head-of, picked, Picks}
 use Rattle.plan_choice.proofs.Tests.{transition-is, start-is, length-is}
-use Rattle.plan_choice.proofs.Facts.{head-whole, head-names}
+use Rattle.plan_choice.proofs.Facts.{counts-sized, head-whole, head-names}
 use Rattle.plan_choice.proofs.Loop.{picked-long, picked-at}
 use Rattle.plan_code.specs.Code.{Ran, Block, block-of}
 use Rattle.plan_code.proofs.Named.{head-block as head-block-of}
@@ -108,6 +108,12 @@ module _ {ns : List ℤ} {k : Counts} (x : Examined ns k) {base : ℕ} (b : base
       let f = ap (λ a. head-of ns a h .start) (sym b) ∙ sym (start-is ns (base + h * HEAD-ROW)) ∙ sym p in
       let g = ap (λ a. head-of ns a h .length) (sym b) ∙ sym (length-is ns (base + h * HEAD-ROW)) ∙ sym q in
       subst (λ m. Block ns k s m) g (subst (λ m. Block ns k m (head-of ns (heads-at k) h .length)) f (head-block-of x h l))
+
+  pub block-named : (ref (getD ns (base + h * HEAD-ROW + 8) (pos 0)) < NOWHERE)
+      × (ref (getD ns (base + h * HEAD-ROW + 9) (pos 0)) < NOWHERE)
+  block-named =
+      let w = block-there refl refl .within in
+      (omega (arith, w, counts-sized x .instructions), omega (arith, w, counts-sized x .instructions))
 
   pub fired-here : (arg : ℤ) {before : Lent} {at : ℕ} {r : Went} {after : Lent}
       → Ran (fire-head (plan-by ns) arg (head-of ns base h)) before at r after

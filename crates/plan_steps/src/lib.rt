@@ -3,6 +3,7 @@
 use meaning::answers::UNSETTLED;
 use meaning::plan::Counts;
 use plan_choice::choose;
+use plan_choice::known;
 use plan_choice::links::LINKS;
 use plan_code::run_block;
 use plan_rows::heads_at;
@@ -10,7 +11,6 @@ use plan_rows::layout::BLOCK_LENGTH;
 use plan_rows::layout::BLOCK_START;
 use plan_rows::layout::HEAD_ROW;
 use plan_rows::layout::TRANSITION;
-use plan_rows::named;
 use queue::lent::QUEUE_NUMBERS;
 use sizes::NULL_STEPS;
 use sizes::STATES;
@@ -48,12 +48,12 @@ fn fire(
 {
     let base = heads_at(k);
     let row = base + h * HEAD_ROW;
-    let taken = mark_taken(named(plan, row + TRANSITION), trace, at);
+    let taken = mark_taken(known(plan, row + TRANSITION), trace, at);
     if taken.number != 0 {
         return taken;
     }
-    let start = named(plan, row + BLOCK_START);
-    let len = named(plan, row + BLOCK_LENGTH);
+    let start = known(plan, row + BLOCK_START);
+    let len = known(plan, row + BLOCK_LENGTH);
     run_block(
         plan,
         k,

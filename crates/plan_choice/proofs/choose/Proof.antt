@@ -11,7 +11,7 @@ use Rattle.meaning.specs.WellFormed.{HEAD-ROW, heads-at}
 use Rattle.choice.specs.Choice.{seen}
 use Rattle.choice.proofs.Loop.{up-to}
 use Rattle.plan_choice.specs.Heads.{head-at, head-of}
-use Rattle.plan_choice.proofs.Facts.{counts-sized, head-whole, head-names}
+use Rattle.plan_choice.proofs.Facts.{counts-sized, head-whole, head-names, head-spanned}
 use Rattle.plan_choice.proofs.Linking.{first-within, next-within}
 use Rattle.plan_choice.proofs.Loop.{Walking, walk-begin, walk-later, walk-off, walk-clash, walk-take, choosing-end, chose-foreign}
 use Rattle.plan_choice.proofs.choose.Statement.{statement}
@@ -140,10 +140,13 @@ add-meet c =
 meet-requires : tie.Need-meet-requires Inv-loop μ-loop Inv-heads μ-heads
 meet-requires c κs =
     let x = c .before .before .before .before .before .before .before .before .before .before .before .pre .0 in
+    let l = c .before .before .before .before .before .before .heads-test .taken in
+    let g = c .before .before .before .before .before .before .before .heads .inv .done .named _ (c .before .loop-test .taken) in
     rw (c .before .before .before .before .before .before .before .before .before .heads-at .ensures) (
-      head-whole x _ (c .before .before .before .before .before .before .heads-test .taken),
-      head-whole x _ (c .before .before .before .before .before .before .before .heads .inv .done .named _
-          (c .before .loop-test .taken)),
+      head-whole x _ l,
+      head-whole x _ g,
+      head-spanned x _ l,
+      head-spanned x _ g,
     )
 
 heads-less-2 : tie.Need-heads-less-2 Inv-loop μ-loop Inv-heads μ-heads

@@ -7,15 +7,15 @@ use borrow.Author.Needs.{needs}
 use Rattle.meaning.specs.WellFormed.{HEAD-ROW}
 use Rattle.widget.specs.View.{all-lent}
 use Rattle.plan_choice.proofs.Facts.{counts-sized}
-use Rattle.plan_steps.proofs.Firing.{row-whole, taken-named, block-there, fired-here, fire-stop, fire-on}
+use Rattle.plan_steps.proofs.Firing.{row-whole, taken-named, block-there, block-named, fired-here, fire-stop, fire-on}
 use Rattle.plan_steps.proofs.fire.Statement.{statement}
 use Rattle.plan_steps.proofs.fire.Tie as tie
 
 abbrev start-from-mark-taken-arg : tie.After-mark-taken-arg → tie.Start
 start-from-mark-taken-arg c = c .before .before .before
 
-abbrev named3-from-run-block-arg5 : tie.After-run-block-arg5 → tie.After-named3
-named3-from-run-block-arg5 c = c .before .before .before .before .before
+abbrev known3-from-run-block-arg5 : tie.After-run-block-arg5 → tie.After-known3
+known3-from-run-block-arg5 c = c .before .before .before .before .before
 
 abbrev heads-at-from-else1 : tie.Else1 → tie.After-heads-at
 heads-at-from-else1 c = c .before .before .before .before .before .before
@@ -23,8 +23,8 @@ heads-at-from-else1 c = c .before .before .before .before .before .before
 abbrev heads-at-from-then1 : tie.Then1 → tie.After-heads-at
 heads-at-from-then1 c = c .before .before .before .before .before .before
 
-abbrev heads-at-from-named2 : tie.After-named2 → tie.After-heads-at
-heads-at-from-named2 c = heads-at-from-else1 (c .before)
+abbrev heads-at-from-known2 : tie.After-known2 → tie.After-heads-at
+heads-at-from-known2 c = heads-at-from-else1 (c .before)
 
 abbrev start-from-else1 : tie.Else1 → tie.Start
 start-from-else1 c = heads-at-from-else1 c .before
@@ -32,11 +32,11 @@ start-from-else1 c = heads-at-from-else1 c .before
 abbrev start-from-then1 : tie.Then1 → tie.Start
 start-from-then1 c = heads-at-from-then1 c .before
 
-abbrev start-from-named2 : tie.After-named2 → tie.Start
-start-from-named2 c = heads-at-from-named2 c .before
+abbrev start-from-known2 : tie.After-known2 → tie.Start
+start-from-known2 c = heads-at-from-known2 c .before
 
 abbrev mark-taken-from-run-block-arg5 : tie.After-run-block-arg5 → tie.After-mark-taken
-mark-taken-from-run-block-arg5 c = named3-from-run-block-arg5 c .before .before .before .before .before
+mark-taken-from-run-block-arg5 c = known3-from-run-block-arg5 c .before .before .before .before .before
 
 abbrev start-from-run-block-arg5 : tie.After-run-block-arg5 → tie.Start
 start-from-run-block-arg5 c = mark-taken-from-run-block-arg5 c .before .before .before .before
@@ -56,16 +56,18 @@ mul-row c = omega (arith, c .before .pre .1, counts-sized (c .before .pre .0) .h
 add-row : tie.Need-add-row
 add-row c = let q = row-whole (c .before .pre .0) (c .heads-at .ensures) _ (c .before .pre .1) in omega (arith, q)
 
-add-named : tie.Need-add-named
-add-named c = let q = row-whole (c .before .pre .0) (c .heads-at .ensures) _ (c .before .pre .1) in omega (arith, q)
+add-known : tie.Need-add-known
+add-known c = let q = row-whole (c .before .pre .0) (c .heads-at .ensures) _ (c .before .pre .1) in omega (arith, q)
 
-named-requires : tie.Need-named-requires
-named-requires c κs = let q = row-whole (c .before .pre .0) (c .heads-at .ensures) _ (c .before .pre .1) in omega (arith, q)
+known-requires : tie.Need-known-requires
+known-requires c κs =
+    let q = row-whole (c .before .pre .0) (c .heads-at .ensures) _ (c .before .pre .1) in
+    (omega (arith, q), taken-named (c .before .pre .0) (c .heads-at .ensures) _ (c .before .pre .1) refl)
 
 mark-taken-requires : tie.Need-mark-taken-requires
 mark-taken-requires c κs = (
   taken-named (start-from-mark-taken-arg c .pre .0) (c .before .before .heads-at .ensures) _
-      (start-from-mark-taken-arg c .pre .1) (c .before .named .ensures),
+      (start-from-mark-taken-arg c .pre .1) (c .before .known .ensures),
   start-from-mark-taken-arg c .pre .3,
 )
 
@@ -75,37 +77,41 @@ returns c =
     fired-here (start-from-then1 c .pre .0) (heads-at-from-then1 c .heads-at .ensures) _
     (start-from-then1 c .pre .1) _ (fire-stop (a .plan .now)
     (heads-at-from-then1 c .heads-at .result + a .h * HEAD-ROW) _
-    (c .before .before .before .before .before .named .ensures)
+    (c .before .before .before .before .before .known .ensures)
     (c .before .before .before .mark-taken .ensures .1
     (all-lent (a .active .now) (a .slots .now) (a .vars .now) (a .queue .now) (a .trace .now)))
     (c .if1 .taken))
 
-add-named-2 : tie.Need-add-named-2
-add-named-2 c =
+add-known-2 : tie.Need-add-known-2
+add-known-2 c =
     let q = row-whole (start-from-else1 c .pre .0) (heads-at-from-else1 c .heads-at .ensures) _
     (start-from-else1 c .pre .1) in omega (arith, q)
 
-named-requires-2 : tie.Need-named-requires-2
-named-requires-2 c κs =
-    let q = row-whole (start-from-else1 c .pre .0) (heads-at-from-else1 c .heads-at .ensures) _
-    (start-from-else1 c .pre .1) in omega (arith, q)
+known-requires-2 : tie.Need-known-requires-2
+known-requires-2 c κs =
+    let s = start-from-else1 c in
+    let b = heads-at-from-else1 c .heads-at .ensures in
+    let q = row-whole (s .pre .0) b _ (s .pre .1) in
+    (omega (arith, q), block-named (s .pre .0) b _ (s .pre .1) .0)
 
-add-named-3 : tie.Need-add-named-3
-add-named-3 c =
-    let q = row-whole (start-from-named2 c .pre .0) (heads-at-from-named2 c .heads-at .ensures) _
-    (start-from-named2 c .pre .1) in omega (arith, q)
+add-known-3 : tie.Need-add-known-3
+add-known-3 c =
+    let q = row-whole (start-from-known2 c .pre .0) (heads-at-from-known2 c .heads-at .ensures) _
+    (start-from-known2 c .pre .1) in omega (arith, q)
 
-named-requires-3 : tie.Need-named-requires-3
-named-requires-3 c κs =
-    let q = row-whole (start-from-named2 c .pre .0) (heads-at-from-named2 c .heads-at .ensures) _
-    (start-from-named2 c .pre .1) in omega (arith, q)
+known-requires-3 : tie.Need-known-requires-3
+known-requires-3 c κs =
+    let s = start-from-known2 c in
+    let b = heads-at-from-known2 c .heads-at .ensures in
+    let q = row-whole (s .pre .0) b _ (s .pre .1) in
+    (omega (arith, q), block-named (s .pre .0) b _ (s .pre .1) .1)
 
 run-block-requires : tie.Need-run-block-requires
 run-block-requires c κs = (
   block-there (start-from-run-block-arg5 c .pre .0)
       (mark-taken-from-run-block-arg5 c .before .before .before .heads-at .ensures) _
-      (start-from-run-block-arg5 c .pre .1) (named3-from-run-block-arg5 c .before .named2 .ensures)
-      (named3-from-run-block-arg5 c .named3 .ensures),
+      (start-from-run-block-arg5 c .pre .1) (known3-from-run-block-arg5 c .before .known2 .ensures)
+      (known3-from-run-block-arg5 c .known3 .ensures),
   start-from-run-block-arg5 c .pre .2,
   mark-taken-from-run-block-arg5 c .mark-taken .ensures .0 .fits,
 )
@@ -116,16 +122,16 @@ returns-2 c =
     fired-here (start-from-trace2 c .pre .0) (heads-at-from-trace2 c .heads-at .ensures) _
     (start-from-trace2 c .pre .1) _
     (fire-on (a .plan .now) (heads-at-from-trace2 c .heads-at .result + a .h * HEAD-ROW) _
-    (mark-taken-from-run-block-arg5 (c .before .before) .before .before .named .ensures)
+    (mark-taken-from-run-block-arg5 (c .before .before) .before .before .known .ensures)
     (mark-taken-from-run-block-arg5 (c .before .before) .mark-taken .ensures .1
     (all-lent (a .active .now) (a .slots .now) (a .vars .now) (a .queue .now) (a .trace .now)))
-    (named3-from-run-block-arg5 (c .before .before) .before .before .if1 .left) refl
-    (named3-from-run-block-arg5 (c .before .before) .before .named2 .ensures)
-    (named3-from-run-block-arg5 (c .before .before) .named3 .ensures)
+    (known3-from-run-block-arg5 (c .before .before) .before .before .if1 .left) refl
+    (known3-from-run-block-arg5 (c .before .before) .before .known2 .ensures)
+    (known3-from-run-block-arg5 (c .before .before) .known3 .ensures)
     (rw (toZ-ofZ (start-from-trace2 c .fits .arg)) at (c .before .run-block .ensures)))
 
 pub fire-spec : {M : Type 1} → statement M
 fire-spec =
-    tie.close (tie.spec heads-at-requires mul-row add-row add-named named-requires mark-taken-requires
-    (λ c. search needs) returns add-named-2 named-requires-2 add-named-3 named-requires-3 run-block-requires
+    tie.close (tie.spec heads-at-requires mul-row add-row add-known known-requires mark-taken-requires
+    (λ c. search needs) returns add-known-2 known-requires-2 add-known-3 known-requires-3 run-block-requires
     (λ c. search needs) returns-2)
