@@ -8,7 +8,7 @@ use lib.ListN.{length, getD, List·getD-eq-default}
 use lib.Dec.{leb}
 use borrow.Author.Tests.{ne-eqb, leb-true}
 use Rattle.meaning.specs.Grammar.{Form, last, _then_, _or_, s-record, v-record, e-record, t-record, a-record, form}
-use Rattle.forms.specs.Table.{steps, fields, skips, field-of, no-form, at-entry, entry-form, forms, form-at}
+use Rattle.forms.specs.Table.{ENTRIES, steps, fields, skips, field-of, no-form, at-entry, entry-form, forms, form-at}
 
 record Entry (ss fs ks : List ℕ) (i : ℕ) : Type 0 where
   behind : List Form
@@ -26,7 +26,7 @@ entry (s ∷ ss) (f ∷ fs) (k ∷ ks) (suc i) a b c =
     let w = entry ss fs ks i (omega arith) (omega arith) (omega arith) in
     record { behind = w .behind; is = w .is; later = λ m. let e : suc (suc i) + m ≡ suc (suc i + m) = omega arith in w .later m ∙ rw e }
 
-module _ (i : ℕ) (h : i < 48) where
+module _ (i : ℕ) (h : i < ENTRIES) where
   here : Entry steps fields skips i
   unfolding steps fields skips
   here = entry steps fields skips i h h h
@@ -47,7 +47,7 @@ module _ (i : ℕ) (h : i < 48) where
   unfolding form-at
   form-last a b = let w = here in w .is ∙ rw (ne-eqb (getD steps i 0) 0 a, ne-eqb (getD steps i 0) 1 b)
 
-pub form-past : (i : ℕ) → 48 ≤ i → form-at i ≡ no-form
+pub form-past : (i : ℕ) → ENTRIES ≤ i → form-at i ≡ no-form
 unfolding form-at forms steps fields skips
 form-past i h = List·getD-eq-default (forms steps fields skips) no-form h
 
@@ -65,9 +65,9 @@ few-at m [] i e = omega arith
 few-at m (k ∷ ks) zero e = leb-true k m (both (leb k m) (all-few m ks) e .0)
 few-at m (k ∷ ks) (suc i) e = few-at m ks i (both (leb k m) (all-few m ks) e .1)
 
-pub skip-few : (i : ℕ) → getD skips i 0 ≤ 48
+pub skip-few : (i : ℕ) → getD skips i 0 ≤ ENTRIES
 unfolding skips
-skip-few i = few-at 48 skips i refl
+skip-few i = few-at ENTRIES skips i refl
 
 -- ---- the records
 

@@ -14,7 +14,7 @@ use Rattle.meaning.specs.Lists.{has}
 use Rattle.meaning.specs.Split.{fields}
 use Rattle.meaning.specs.Line.{Line, worse, room, line, wrong, beside, or-else, rest-of, read-field, read-by}
 use Rattle.fields.specs.Parts.{Stop}
-use Rattle.forms.specs.Table.{steps, fields as entry-fields, skips, field-of, no-form, form-at}
+use Rattle.forms.specs.Table.{ENTRIES, steps, fields as entry-fields, skips, field-of, no-form, form-at}
 use Rattle.forms.proofs.TableLaws.{form-or, form-then, form-last, form-past}
 use Rattle.lines.specs.Took.{Took, Taken}
 use Rattle.lines.proofs.MarkLaws.{worse-zero, worse-one, worse-last, sets-behind}
@@ -42,7 +42,7 @@ no-fields (a or b) n = rw (no-fields a n) (no-fields b n)
 
 -- ---- the walk over the form at entry i
 module _ (i n : ℕ) (fs : List (List ℕ)) (at : ℕ) (xs : List ℤ) where
-  pub past-taken : 48 ≤ i → Taken (read-by (form-at i) n fs) at xs 1 xs
+  pub past-taken : ENTRIES ≤ i → Taken (read-by (form-at i) n fs) at xs 1 xs
   unfolding read-by read-field has
   past-taken h = wrong-taken (read-by (form-at i) n fs) at xs (rw (form-past i h) (go fs))
     where
@@ -51,7 +51,7 @@ module _ (i n : ℕ) (fs : List (List ℕ)) (at : ℕ) (xs : List ℤ) where
       go (f ∷ []) = refl
       go (f ∷ g ∷ fs) = refl
 
-  module _ (h : i < 48) (k : ℕ) (ys : List ℤ) where
+  module _ (h : i < ENTRIES) (k : ℕ) (ys : List ℤ) where
     module _ (z : k ≡ 0) (e : k ≡ getD steps i 0) (m : ℕ) (t : Taken (read-by (form-at (i + 1)) n fs) at xs m ys) where
       choice : form-at i ≡ form-at (i + 1) or form-at (i + 1 + getD skips i 0)
       choice = form-or i h (sym e ∙ z)
@@ -70,7 +70,7 @@ module _ (i n : ℕ) (fs : List (List ℕ)) (at : ℕ) (xs : List ℤ) where
           rw (choice, o) (rw (f, t .kept d) at u)
 
 -- ---- a field, and what follows
-module _ (i n : ℕ) (h : i < 48) (k f : ℕ) (ek : k ≡ getD steps i 0) (ef : f ≡ getD entry-fields i 0) (s : List ℕ) (from to e at : ℕ) (q : Stop 9 s from to e) (xs : List ℤ) (l : Line) (el : l ≡ read-field (field-of f) n (slice from e s)) where
+module _ (i n : ℕ) (h : i < ENTRIES) (k f : ℕ) (ek : k ≡ getD steps i 0) (ef : f ≡ getD entry-fields i 0) (s : List ℕ) (from to e at : ℕ) (q : Stop 9 s from to e) (xs : List ℤ) (l : Line) (el : l ≡ read-field (field-of f) n (slice from e s)) where
   module _ (z : k ≡ 1) where
     more-form : form-at i ≡ field-of f then form-at (i + 1)
     more-form = rw ef (form-then i h (sym ek ∙ z))

@@ -20,9 +20,10 @@ ghost use mathlib.Core.List.{[]};
 ghost use Prim.Native.Nat.{_+_, _*_, _-_, _<_, _≤_};
 ghost use lib.ListN.{length};
 ghost use lib.Seq.{slice};
+ghost use Rattle.numbers.specs.Reference.{NOWHERE as nowhere};
 ghost use Rattle.meaning.specs.Split.{fields};
 ghost use Rattle.meaning.specs.Line.{line as a-line, beside, room, rest-of, read-by};
-ghost use Rattle.forms.specs.Table.{form-at};
+ghost use Rattle.forms.specs.Table.{ENTRIES as entries, form-at};
 ghost use Rattle.lines.specs.Took.{Taken, Took};
 
 // The fields from a place on, of record n, by the form at entry i of the table.
@@ -35,7 +36,7 @@ pub fn line_by(
     chart: &mut [i32],
     at: usize,
 ) -> usize
-    requires { ⌜ (from ≤ to) × (to ≤ length (now s)) × (at + 2 * (48 - i) ≤ 3000) ⌝ }
+    requires { ⌜ (from ≤ to) × (to ≤ length (now s)) × (at + 2 * (entries - i) ≤ nowhere) ⌝ }
     ensures { λ r. ⌜ Taken (read-by (form-at i) n (fields (slice from to (now (s .entry))))) at (now (chart .entry)) r (now (chart .exit)) ⌝ }
 {
     if ENTRIES <= i {
@@ -87,7 +88,7 @@ pub fn line(
     chart: &mut [i32],
     at: usize,
 ) -> usize
-    requires { ⌜ (from ≤ to) × (to ≤ length (now s)) × (at + 96 ≤ 3000) ⌝ }
+    requires { ⌜ (from ≤ to) × (to ≤ length (now s)) × (at + 2 * entries ≤ nowhere) ⌝ }
     ensures { λ r. ⌜ Took (beside (a-line (room n most) []) (read-by (form-at entry) n (rest-of (fields (slice from to (now (s .entry))))))) at (now (chart .entry)) r (now (chart .exit)) ⌝ }
 {
     let e = stop(s, from, to, TAB);

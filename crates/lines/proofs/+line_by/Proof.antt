@@ -6,6 +6,7 @@ use native.Mathlib.Omega.{arith}
 use borrow.Fn.Kinds.{In}
 use borrow.Fn.PlainCycle.{Measures, is, falls, and}
 use Rattle.fields.specs.Said.{said}
+use Rattle.forms.specs.Table.{ENTRIES}
 use Rattle.lines.proofs.LineLaws.{past-taken, first-taken, second-taken, ends-early, field-wrong, more-not, more-put, goes-on, last-not, last-put}
 use Rattle.lines.proofs.line_by.Reads as line-by
 use Rattle.lines.proofs.line_by.Kinds as line-by-kinds
@@ -22,7 +23,7 @@ use Rattle.lines.proofs.+line_by.{statement}
 use Rattle.lines.proofs.+line_by.Tie.{close}
 
 abbrev μ-line-by : Measures 2 line-by-kinds.ps ℕ
-μ-line-by κs a = 48 - a .1 .1 .1 .0
+μ-line-by κs a = ENTRIES - a .1 .1 .1 .0
 
 abbrev line-by-at : ℕ → In 2 line-by-kinds.ps
 line-by-at t = and 2 line-by-kinds.ps (is 2 line-by-kinds.ps μ-line-by t) line-by.Pre
