@@ -8,7 +8,7 @@ use native.Mathlib.Numerals.{add-one}
 use lib.Dec.{T, eqb, leb, ltb}
 use lib.IntN.{ℤ, pos, negsuc, natAbs}
 use lib.Signed.{mag, ltZ, nonNeg}
-use lib.ListN.{length, getD, drop, List·getD-eq-default}
+use lib.ListN.{length, getD, drop}
 use lib.Seq.{drop-cons, drop-length, slice, slice-empty, slice-cons}
 use mir.Syntax.{w32, w64}
 use mir.Val.{Fits, toZ, ofZ}
@@ -160,62 +160,58 @@ module _ (s : List ℕ) (a e : ℕ) where
 
 -- ---- a field by its code
 
--- a code that is none of the first
-pub next-code : (m k : ℕ) → m ≤ k → (k ≡ m → ⊥) → suc m ≤ k
-next-code m k h n = omega arith
-
-pub code-o : field-of 7 ≡ letter (bytes "o")
+pub code-o : field-of 111 ≡ letter (bytes "o")
 unfolding field-of
 code-o = refl
 
-pub code-ab : field-of 8 ≡ letter (bytes "ab")
+pub code-ab : field-of 98 ≡ letter (bytes "ab")
 unfolding field-of
 code-ab = refl
 
-pub code-sign : field-of 9 ≡ letter (bytes "=<>")
+pub code-sign : field-of 61 ≡ letter (bytes "=<>")
 unfolding field-of
 code-sign = refl
 
-pub code-owner : field-of 10 ≡ letter (bytes "exdt")
+pub code-owner : field-of 119 ≡ letter (bytes "exdt")
 unfolding field-of
 code-owner = refl
 
-pub code-saq : field-of 11 ≡ letter (bytes "saq")
+pub code-saq : field-of 113 ≡ letter (bytes "saq")
 unfolding field-of
 code-saq = refl
 
-pub code-ko : field-of 12 ≡ letter (bytes "ko")
+pub code-ko : field-of 107 ≡ letter (bytes "ko")
 unfolding field-of
 code-ko = refl
 
 module _ (k n : ℕ) (x : List ℕ) (l : Line) where
   module _ (v : Num) (ev : v ≡ number-of x) where
-    pub said-turn : (t : Bool) → k ≡ 0 → t ≡ is-turn v n → l ≡ right-if t [] → l ≡ read-field (field-of k) n x
+    pub said-turn : (t : Bool) → k ≡ 110 → t ≡ is-turn v n → l ≡ right-if t [] → l ≡ read-field (field-of k) n x
     unfolding read-field field-of
     said-turn t e et el = rw (e, el, et, ev)
 
-    pub said-number : k ≡ 1 → l ≡ number-line [] v → l ≡ read-field (field-of k) n x
+    pub said-number : k ≡ 35 → l ≡ number-line [] v → l ≡ read-field (field-of k) n x
     unfolding read-field field-of
     said-number e el = rw (e, el, ev)
 
-    pub said-state : k ≡ 3 → l ≡ number-line (pos 0 ∷ []) v → l ≡ read-field (field-of k) n x
+    pub said-state : k ≡ 115 → l ≡ number-line (pos 0 ∷ []) v → l ≡ read-field (field-of k) n x
     unfolding read-field field-of
     said-state e el = rw (e, el, ev)
 
-    pub said-count : k ≡ 6 → l ≡ count-line 0 32 v → l ≡ read-field (field-of k) n x
+    pub said-count : k ≡ 99 → l ≡ count-line 0 32 v → l ≡ read-field (field-of k) n x
     unfolding read-field field-of
     said-count e el = rw (e, el, ev)
 
-  pub said-history : k ≡ 4 → l ≡ read-field history 0 x → l ≡ read-field (field-of k) n x
+  pub said-history : k ≡ 104 → l ≡ read-field history 0 x → l ≡ read-field (field-of k) n x
   unfolding read-field field-of
   said-history e el = rw (e, el)
 
   module _ (b : ℕ) (eb : b ≡ letter-of x) where
-    pub said-dash : k ≡ 2 → l ≡ right-if (eqb b 45) (ABSENT ∷ []) → l ≡ read-field (field-of k) n x
+    pub said-dash : k ≡ 45 → l ≡ right-if (eqb b 45) (ABSENT ∷ []) → l ≡ read-field (field-of k) n x
     unfolding read-field field-of
     said-dash e el = rw (e, el, eb)
 
-    pub said-in-place : k ≡ 5 → l ≡ right-if (eqb b 45) (ABSENT ∷ ABSENT ∷ []) → l ≡ read-field (field-of k) n x
+    pub said-in-place : k ≡ 95 → l ≡ right-if (eqb b 45) (ABSENT ∷ ABSENT ∷ []) → l ≡ read-field (field-of k) n x
     unfolding read-field field-of
     said-in-place e el = rw (e, el, eb)
 
@@ -223,11 +219,23 @@ module _ (k n : ℕ) (x : List ℕ) (l : Line) where
     unfolding read-field
     said-letter m ls e f el = rw (e, f, el, eb)
 
-  pub said-none : 13 ≤ k → l ≡ wrong → l ≡ read-field (field-of k) n x
+  pub said-none : (k ≡ 110 → ⊥) → (k ≡ 35 → ⊥) → (k ≡ 45 → ⊥) → (k ≡ 115 → ⊥) → (k ≡ 104 → ⊥) → (k ≡ 95 → ⊥) → (k ≡ 99 → ⊥)
+      → (k ≡ 111 → ⊥) → (k ≡ 98 → ⊥) → (k ≡ 61 → ⊥) → (k ≡ 119 → ⊥) → (k ≡ 113 → ⊥) → (k ≡ 107 → ⊥) → l ≡ wrong → l ≡ read-field (field-of k) n x
   unfolding read-field field-of has
-  said-none h el = rw (
-    el,
-    List·getD-eq-default (
-        turn ∷ number ∷ dash ∷ state ∷ history ∷ in-place ∷ count 0 EVENTS ∷ letter (bytes "o") ∷ letter (bytes "ab") ∷ letter (bytes "=<>") ∷ letter (bytes "exdt")
-        ∷ letter (bytes "saq") ∷ letter (bytes "ko") ∷ []) (letter []) {n = k} h,
-  )
+  said-none h0 h1 h2 h3 h4 h5 h6 h7 h8 h9 h10 h11 h12 el =
+      rw (
+        el,
+        ne-eqb k 110 h0,
+        ne-eqb k 35 h1,
+        ne-eqb k 45 h2,
+        ne-eqb k 115 h3,
+        ne-eqb k 104 h4,
+        ne-eqb k 95 h5,
+        ne-eqb k 99 h6,
+        ne-eqb k 111 h7,
+        ne-eqb k 98 h8,
+        ne-eqb k 61 h9,
+        ne-eqb k 119 h10,
+        ne-eqb k 113 h11,
+        ne-eqb k 107 h12,
+      )

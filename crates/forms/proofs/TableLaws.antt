@@ -1,5 +1,5 @@
 -- The form at an entry, by what the entry is; and where the form of each record begins. Assumes nothing.
-use Prim.Native.Nat.{ℕ, zero, suc, _+_, _≤_, _<_}
+use Prim.Native.Nat.{ℕ, zero, suc, _+_, _-_, _≤_, _<_}
 use native.Mathlib.Omega.{arith}
 use mathlib.Core.Path.{_≡_, refl, sym, ap, _∙_}
 use mathlib.Core.Bool.{Bool, true, false, _&&_, false≢true}
@@ -31,21 +31,21 @@ module _ (i : ℕ) (h : i < ENTRIES) where
   unfolding steps fields skips
   here = entry steps fields skips i h h h
 
-  pub form-or : getD steps i 0 ≡ 0 → form-at i ≡ form-at (i + 1) or form-at (i + 1 + getD skips i 0)
+  pub form-or : getD steps i 0 ≡ 124 → form-at i ≡ form-at (i + 1) or form-at (i + 1 + (getD skips i 0 - 48))
   unfolding form-at
   form-or e =
       let w = here in
       let a : suc i + 0 ≡ i + 1 = omega arith in
-      let b : suc i + getD skips i 0 ≡ i + 1 + getD skips i 0 = omega arith in
-      w .is ∙ rw (e, w .later 0, w .later (getD skips i 0), a, b)
+      let b : suc i + (getD skips i 0 - 48) ≡ i + 1 + (getD skips i 0 - 48) = omega arith in
+      w .is ∙ rw (e, w .later 0, w .later (getD skips i 0 - 48), a, b)
 
-  pub form-then : getD steps i 0 ≡ 1 → form-at i ≡ field-of (getD fields i 0) then form-at (i + 1)
+  pub form-then : getD steps i 0 ≡ 62 → form-at i ≡ field-of (getD fields i 0) then form-at (i + 1)
   unfolding form-at
   form-then e = let w = here in let a : suc i + 0 ≡ i + 1 = omega arith in w .is ∙ rw (e, w .later 0, a)
 
-  pub form-last : (getD steps i 0 ≡ 0 → ⊥) → (getD steps i 0 ≡ 1 → ⊥) → form-at i ≡ last (field-of (getD fields i 0))
+  pub form-last : (getD steps i 0 ≡ 124 → ⊥) → (getD steps i 0 ≡ 62 → ⊥) → form-at i ≡ last (field-of (getD fields i 0))
   unfolding form-at
-  form-last a b = let w = here in w .is ∙ rw (ne-eqb (getD steps i 0) 0 a, ne-eqb (getD steps i 0) 1 b)
+  form-last a b = let w = here in w .is ∙ rw (ne-eqb (getD steps i 0) 124 a, ne-eqb (getD steps i 0) 62 b)
 
 pub form-past : (i : ℕ) → ENTRIES ≤ i → form-at i ≡ no-form
 unfolding form-at forms steps fields skips
@@ -56,18 +56,26 @@ both true b e = (refl, e)
 both false b e = absurd (false≢true e)
 
 -- a rule of the table, proved at all of its entries by one test that computes
-abbrev all-few : ℕ → List ℕ → Bool
-all-few m [] = true
-all-few m (k ∷ ks) = leb k m && all-few m ks
+abbrev all-digits : List ℕ → Bool
+all-digits [] = true
+all-digits (k ∷ ks) = (leb 48 k && leb k 57) && all-digits ks
 
-few-at : (m : ℕ) (ks : List ℕ) (i : ℕ) → all-few m ks ≡ true → getD ks i 0 ≤ m
-few-at m [] i e = omega arith
-few-at m (k ∷ ks) zero e = leb-true k m (both (leb k m) (all-few m ks) e .0)
-few-at m (k ∷ ks) (suc i) e = few-at m ks i (both (leb k m) (all-few m ks) e .1)
+digit-at : (ks : List ℕ) (i : ℕ) → all-digits ks ≡ true → i < length ks → (48 ≤ getD ks i 0) × (getD ks i 0 ≤ 57)
+digit-at [] i e h = absurd (omega arith)
+digit-at (k ∷ ks) zero e h =
+    let w = both (leb 48 k) (leb k 57) (both (leb 48 k && leb k 57) (all-digits ks) e .0) in
+    (leb-true 48 k (w .0), leb-true k 57 (w .1))
+digit-at (k ∷ ks) (suc i) e h = digit-at ks i (both (leb 48 k && leb k 57) (all-digits ks) e .1) (omega arith)
 
-pub skip-few : (i : ℕ) → getD skips i 0 ≤ ENTRIES
+pub skip-digit : (i : ℕ) → i < ENTRIES → (48 ≤ getD skips i 0) × (getD skips i 0 ≤ 57)
 unfolding skips
-skip-few i = few-at ENTRIES skips i refl
+skip-digit i h = digit-at skips i refl h
+
+pub digit-least : (i : ℕ) → i < ENTRIES → (b : ℕ) → b ≡ getD skips i 0 → 48 ≤ b
+digit-least i h b e = let w = skip-digit i h .0 in omega arith
+
+pub digit-value : (i : ℕ) → i < ENTRIES → (b : ℕ) → b ≡ getD skips i 0 → (b - 48 ≡ getD skips i 0 - 48) × (b - 48 ≤ ENTRIES)
+digit-value i h b e = let w = skip-digit i h .1 in (ap (λ (n : ℕ). n - 48) e, omega arith)
 
 -- ---- the records
 

@@ -1,5 +1,6 @@
 -- The table of the grammar's forms, and the form that stands at each entry. Assumes nothing.
-use Prim.Native.Nat.{ℕ, zero, suc}
+use Prim.Native.Nat.{ℕ, _-_}
+use Prim.Native.Char.{code}
 use mathlib.Core.Bool.{cond}
 use mathlib.Core.List.{List, [], _∷_}
 use lib.Dec.{eqb}
@@ -11,24 +12,23 @@ use Rattle.meaning.specs.Grammar.{Field, turn, number, count, letter, dash, sta
 abbrev pub ENTRIES : ℕ
 ENTRIES = 48
 
+-- "|" a choice, ">" a field with more behind it, "." a field that ends its form
 unfoldable pub steps : List ℕ
-steps = 1 ∷ 1 ∷ 0 ∷ 1 ∷ 2 ∷ 1 ∷ 2 ∷ 1 ∷ 1 ∷ 0 ∷ 1 ∷ 2 ∷ 1 ∷ 2 ∷ 1 ∷ 1 ∷ 1 ∷ 2 ∷ 2 ∷ 1 ∷ 1 ∷ 1 ∷ 0 ∷ 1 ∷ 1 ∷ 1 ∷ 0 ∷ 2 ∷ 0 ∷ 2 ∷ 2 ∷ 1 ∷ 1 ∷ 1 ∷ 0 ∷ 2 ∷ 0 ∷ 2 ∷ 2 ∷ 1 ∷ 1 ∷ 0 ∷ 1 ∷ 1 ∷ 2 ∷ 1 ∷ 1 ∷ 2 ∷ []
+steps = bytes ">>|>.>.>>|>.>.>>>..>>>|>>>|.|..>>>|.|..>>|>>.>>."
 
 unfoldable pub fields : List ℕ
-fields = 0 ∷ 2 ∷ 0 ∷ 7 ∷ 1 ∷ 8 ∷ 2 ∷ 0 ∷ 1 ∷ 0 ∷ 7 ∷ 1 ∷ 8 ∷ 2 ∷ 0 ∷ 1 ∷ 1 ∷ 1 ∷ 6 ∷ 0 ∷ 1 ∷ 1 ∷ 0 ∷ 2 ∷ 2 ∷ 2 ∷ 0 ∷ 5 ∷ 0 ∷ 4 ∷ 3 ∷ 1 ∷ 9 ∷ 1 ∷ 0 ∷ 5 ∷ 0 ∷ 4 ∷ 3 ∷ 10 ∷ 1 ∷ 0 ∷ 11 ∷ 1 ∷ 1 ∷ 12 ∷ 1 ∷ 2 ∷ []
+fields = bytes "n-|o#b-n#|o#b-n###cn##|---|_|hs#=#|_|hsw#|q##k#-"
 
 unfoldable pub skips : List ℕ
-skips = 0 ∷ 0 ∷ 2 ∷ 0 ∷ 0 ∷ 0 ∷ 0 ∷ 0 ∷ 0 ∷ 2 ∷ 0 ∷ 0 ∷ 0 ∷ 0 ∷ 0 ∷ 0 ∷ 0 ∷ 0 ∷ 0 ∷ 0 ∷ 0 ∷ 0 ∷ 8 ∷ 0 ∷ 0 ∷ 0 ∷ 1 ∷ 0 ∷ 1 ∷ 0 ∷ 0 ∷ 0 ∷ 0 ∷ 0 ∷ 1 ∷ 0 ∷ 1 ∷ 0 ∷ 0 ∷ 0 ∷ 0 ∷ 3 ∷ 0 ∷ 0 ∷ 0 ∷ 0 ∷ 0 ∷ 0 ∷ []
+skips = bytes "002000000200000000000080001010000010100003000000"
 
 -- the field of a code
-abbrev pub field-by : List Field → ℕ → Field
-field-by fs k = getD fs k (letter [])
-
 unfoldable pub field-of : ℕ → Field
-field-of k = field-by (
-    turn ∷ number ∷ dash ∷ state ∷ history ∷ in-place ∷ count 0 EVENTS ∷ letter (bytes "o") ∷ letter (bytes "ab") ∷ letter (bytes "=<>") ∷ letter (bytes "exdt")
-    ∷ letter (bytes "saq") ∷ letter (bytes "ko") ∷ []
-    ) k
+field-of k =
+    cond (eqb k (code "n")) turn (cond (eqb k (code "#")) number (cond (eqb k (code "-")) dash (cond (eqb k (code "s")) state (cond (eqb k (code "h")) history
+    (cond (eqb k (code "_")) in-place (cond (eqb k (code "c")) (count 0 EVENTS) (cond (eqb k (code "o")) (letter (bytes "o")) (cond (eqb k (code "b")) (letter (bytes "ab"))
+    (cond (eqb k (code "=")) (letter (bytes "=<>")) (cond (eqb k (code "w")) (letter (bytes "exdt")) (cond (eqb k (code "q")) (letter (bytes "saq"))
+    (cond (eqb k (code "k")) (letter (bytes "ko")) (letter [])))))))))))))
 
 -- past the table stands a form that no line has
 abbrev pub no-form : Form
@@ -40,7 +40,7 @@ at-entry fs i = getD fs i no-form
 -- the form of an entry, from those behind it
 abbrev pub entry-form : ℕ → ℕ → ℕ → List Form → Form
 entry-form s f k behind =
-    cond (eqb s 0) (at-entry behind 0 or at-entry behind k) (cond (eqb s 1) (field-of f then at-entry behind 0) (last (field-of f)))
+    cond (eqb s (code "|")) (at-entry behind 0 or at-entry behind (k - 48)) (cond (eqb s (code ">")) (field-of f then at-entry behind 0) (last (field-of f)))
 
 unfoldable pub forms : List ℕ → List ℕ → List ℕ → List Form
 forms [] fs ks = []

@@ -2,7 +2,7 @@
 use mathlib.Core.Path.{_≡_, refl, sym, ap, _∙_, subst}
 use mathlib.Core.Bool.{Bool, true, false}
 use mathlib.Core.List.{List, [], _∷_, _++_}
-use Prim.Native.Nat.{ℕ, zero, suc, _+_, _≤_, _<_}
+use Prim.Native.Nat.{ℕ, zero, suc, _+_, _-_, _≤_, _<_}
 use native.Mathlib.Omega.{arith}
 use lib.Dec.{eqb}
 use lib.IntN.{ℤ}
@@ -52,8 +52,8 @@ module _ (i n : ℕ) (fs : List (List ℕ)) (at : ℕ) (xs : List ℤ) where
       go (f ∷ g ∷ fs) = refl
 
   module _ (h : i < ENTRIES) (k : ℕ) (ys : List ℤ) where
-    module _ (z : k ≡ 0) (e : k ≡ getD steps i 0) (m : ℕ) (t : Taken (read-by (form-at (i + 1)) n fs) at xs m ys) where
-      choice : form-at i ≡ form-at (i + 1) or form-at (i + 1 + getD skips i 0)
+    module _ (z : k ≡ 124) (e : k ≡ getD steps i 0) (m : ℕ) (t : Taken (read-by (form-at (i + 1)) n fs) at xs m ys) where
+      choice : form-at i ≡ form-at (i + 1) or form-at (i + 1 + (getD skips i 0 - 48))
       choice = form-or i h (sym e ∙ z)
 
       pub first-taken : (m ≡ 1 → ⊥) → Taken (read-by (form-at i) n fs) at xs m ys
@@ -62,7 +62,7 @@ module _ (i n : ℕ) (fs : List (List ℕ)) (at : ℕ) (xs : List ℤ) where
           let o = ne-eqb (read-by (form-at (i + 1)) n fs .mark) 1 (λ x. d (t .took .mark ∙ x)) in
           rw (choice, o) t
 
-      pub second-taken : (j r : ℕ) (zs : List ℤ) → m ≡ 1 → j ≡ getD skips i 0 → Taken (read-by (form-at (i + 1 + j)) n fs) at ys r zs
+      pub second-taken : (j r : ℕ) (zs : List ℤ) → m ≡ 1 → j ≡ getD skips i 0 - 48 → Taken (read-by (form-at (i + 1 + j)) n fs) at ys r zs
           → Taken (read-by (form-at i) n fs) at xs r zs
       unfolding read-by
       second-taken j r zs d f u =
@@ -71,7 +71,7 @@ module _ (i n : ℕ) (fs : List (List ℕ)) (at : ℕ) (xs : List ℤ) where
 
 -- ---- a field, and what follows
 module _ (i n : ℕ) (h : i < ENTRIES) (k f : ℕ) (ek : k ≡ getD steps i 0) (ef : f ≡ getD entry-fields i 0) (s : List ℕ) (from to e at : ℕ) (q : Stop 9 s from to e) (xs : List ℤ) (l : Line) (el : l ≡ read-field (field-of f) n (slice from e s)) where
-  module _ (z : k ≡ 1) where
+  module _ (z : k ≡ 62) where
     more-form : form-at i ≡ field-of f then form-at (i + 1)
     more-form = rw ef (form-then i h (sym ek ∙ z))
 
@@ -116,7 +116,7 @@ module _ (i n : ℕ) (h : i < ENTRIES) (k f : ℕ) (ek : k ≡ getD steps i 0) (
               kept = λ x. absurd (omega arith);
             })
 
-  module _ (z : k ≡ 0 → ⊥) (o : k ≡ 1 → ⊥) where
+  module _ (z : k ≡ 124 → ⊥) (o : k ≡ 62 → ⊥) where
     last-form : form-at i ≡ last (field-of f)
     last-form = rw ef (form-last i h (λ x. z (ek ∙ x)) (λ x. o (ek ∙ x)))
 

@@ -1,5 +1,4 @@
 -- The field of an entry stands in the table. Assumes nothing.
-use mathlib.Core.Path.{refl}
 use Rattle.forms.specs.Table.{fields}
 use borrow.Author.Needs.{needs}
 use Rattle.forms.proofs.field.Statement.{statement}
@@ -7,7 +6,7 @@ use Rattle.forms.proofs.field.Tie as tie
 
 returns : tie.Need-returns
 unfolding fields
-returns c = refl
+returns c = c .at .ensures
 
 pub field-spec : {M : Type 1} → statement M
-field-spec = tie.close (tie.spec (λ c. search needs) returns)
+field-spec = tie.close (tie.spec (λ c. search needs) (λ c κs. search needs) returns)

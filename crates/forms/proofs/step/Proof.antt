@@ -1,5 +1,4 @@
 -- What an entry is stands in the table. Assumes nothing.
-use mathlib.Core.Path.{refl}
 use Rattle.forms.specs.Table.{steps}
 use borrow.Author.Needs.{needs}
 use Rattle.forms.proofs.step.Statement.{statement}
@@ -7,7 +6,7 @@ use Rattle.forms.proofs.step.Tie as tie
 
 returns : tie.Need-returns
 unfolding steps
-returns c = refl
+returns c = c .at .ensures
 
 pub step-spec : {M : Type 1} → statement M
-step-spec = tie.close (tie.spec (λ c. search needs) returns)
+step-spec = tie.close (tie.spec (λ c. search needs) (λ c κs. search needs) returns)

@@ -2,7 +2,7 @@
 use mathlib.Core.Path.{refl}
 use Rattle.meaning.specs.Grammar.{bytes}
 use Rattle.fields.specs.Said.{said}
-use Rattle.fields.proofs.CellLaws.{said-turn, said-number, said-dash, said-state, said-history, said-in-place, said-count, said-letter, code-o, code-ab, code-sign, code-owner, code-saq, code-ko, next-code, said-none}
+use Rattle.fields.proofs.CellLaws.{said-turn, said-number, said-dash, said-state, said-history, said-in-place, said-count, said-letter, code-o, code-ab, code-sign, code-owner, code-saq, code-ko, said-none}
 use borrow.Author.Needs.{needs}
 use native.Mathlib.Omega.{arith}
 use Rattle.fields.proofs.cells.read_field.Statement.{statement}
@@ -30,42 +30,42 @@ returns-7 : tie.Need-returns-7
 returns-7 c = said-count _ _ _ _ _ (c .before .number4 .ensures) (c .before .before .match .keys7) (c .count-said .ensures)
 
 returns-8 : tie.Need-returns-8
-returns-8 c = said-letter _ _ _ _ _ (c .before .before .whole3 .ensures) 7 (bytes "o") (c .before .before .before .match .keys8) code-o (c .letter-said .ensures)
+returns-8 c = said-letter _ _ _ _ _ (c .before .before .whole3 .ensures) 111 (bytes "o") (c .before .before .before .match .keys8) code-o (c .letter-said .ensures)
 
 returns-9 : tie.Need-returns-9
-returns-9 c = said-letter _ _ _ _ _ (c .before .before .whole4 .ensures) 8 (bytes "ab") (c .before .before .before .match .keys9) code-ab (c .letter-said2 .ensures)
+returns-9 c = said-letter _ _ _ _ _ (c .before .before .whole4 .ensures) 98 (bytes "ab") (c .before .before .before .match .keys9) code-ab (c .letter-said2 .ensures)
 
 returns-10 : tie.Need-returns-10
-returns-10 c = said-letter _ _ _ _ _ (c .before .before .whole5 .ensures) 9 (bytes "=<>") (c .before .before .before .match .keys10) code-sign (c .letter-said3 .ensures)
+returns-10 c = said-letter _ _ _ _ _ (c .before .before .whole5 .ensures) 61 (bytes "=<>") (c .before .before .before .match .keys10) code-sign (c .letter-said3 .ensures)
 
 returns-11 : tie.Need-returns-11
-returns-11 c = said-letter _ _ _ _ _ (c .before .before .whole6 .ensures) 10 (bytes "exdt") (c .before .before .before .match .keys11) code-owner (c .letter-said4 .ensures)
+returns-11 c = said-letter _ _ _ _ _ (c .before .before .whole6 .ensures) 119 (bytes "exdt") (c .before .before .before .match .keys11) code-owner (c .letter-said4 .ensures)
 
 returns-12 : tie.Need-returns-12
-returns-12 c = said-letter _ _ _ _ _ (c .before .before .whole7 .ensures) 11 (bytes "saq") (c .before .before .before .match .keys12) code-saq (c .letter-said5 .ensures)
+returns-12 c = said-letter _ _ _ _ _ (c .before .before .whole7 .ensures) 113 (bytes "saq") (c .before .before .before .match .keys12) code-saq (c .letter-said5 .ensures)
 
 returns-13 : tie.Need-returns-13
-returns-13 c = said-letter _ _ _ _ _ (c .before .before .whole8 .ensures) 12 (bytes "ko") (c .before .before .before .match .keys13) code-ko (c .letter-said6 .ensures)
+returns-13 c = said-letter _ _ _ _ _ (c .before .before .whole8 .ensures) 107 (bytes "ko") (c .before .before .before .match .keys13) code-ko (c .letter-said6 .ensures)
 
 returns-14 : tie.Need-returns-14
 unfolding said
 returns-14 c =
     let r = c .match .rest in
-    let k = c .before .before .args .field in
-    let k1 = next-code 0 k (omega arith) (r .0 .0 .0 .0 .0 .0 .0 .0 .0 .0 .0 .0 .1) in
-    let k2 = next-code 1 k k1 (r .0 .0 .0 .0 .0 .0 .0 .0 .0 .0 .0 .1) in
-    let k3 = next-code 2 k k2 (r .0 .0 .0 .0 .0 .0 .0 .0 .0 .0 .1) in
-    let k4 = next-code 3 k k3 (r .0 .0 .0 .0 .0 .0 .0 .0 .0 .1) in
-    let k5 = next-code 4 k k4 (r .0 .0 .0 .0 .0 .0 .0 .0 .1) in
-    let k6 = next-code 5 k k5 (r .0 .0 .0 .0 .0 .0 .0 .1) in
-    let k7 = next-code 6 k k6 (r .0 .0 .0 .0 .0 .0 .1) in
-    let k8 = next-code 7 k k7 (r .0 .0 .0 .0 .0 .1) in
-    let k9 = next-code 8 k k8 (r .0 .0 .0 .0 .1) in
-    let k10 = next-code 9 k k9 (r .0 .0 .0 .1) in
-    let k11 = next-code 10 k k10 (r .0 .0 .1) in
-    let k12 = next-code 11 k k11 (r .0 .1) in
-    let k13 = next-code 12 k k12 (r .1) in
-    said-none k _ _ _ k13 refl
+    said-none _ _ _ _
+    (r .0 .0 .0 .0 .0 .0 .0 .0 .0 .0 .0 .0 .1)
+    (r .0 .0 .0 .0 .0 .0 .0 .0 .0 .0 .0 .1)
+    (r .0 .0 .0 .0 .0 .0 .0 .0 .0 .0 .1)
+    (r .0 .0 .0 .0 .0 .0 .0 .0 .0 .1)
+    (r .0 .0 .0 .0 .0 .0 .0 .0 .1)
+    (r .0 .0 .0 .0 .0 .0 .0 .1)
+    (r .0 .0 .0 .0 .0 .0 .1)
+    (r .0 .0 .0 .0 .0 .1)
+    (r .0 .0 .0 .0 .1)
+    (r .0 .0 .0 .1)
+    (r .0 .0 .1)
+    (r .0 .1)
+    (r .1)
+    refl
 
 pub read-field-spec : {M : Type 1} → statement M
 read-field-spec =
