@@ -2,3 +2,4 @@ pub mod Walk
 pub mod Named
 pub mod Executing
 pub mod Reading
+pub mod Skipping

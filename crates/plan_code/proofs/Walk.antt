@@ -11,15 +11,15 @@ use lib.IntN.{ℤ}
 use Rattle.sizes.specs.Sizes.{INSTRUCTIONS}
 use Rattle.meaning.specs.declared.chart.VarRow.{VarRow}
 use Rattle.meaning.specs.declared.plan.Instr.{Instr}
-use Rattle.meaning.specs.WellFormed.{INSTR-ROW}
+use Rattle.meaning.specs.WellFormed.{INSTR-ROW, counts-of, code-at, plan-by}
 use Rattle.meaning.specs.Steps.{Res, ok, refuse, Step, bind, each}
 use Rattle.meaning.specs.Widget.{Ctx}
 use Rattle.meaning.specs.Machine.{Mach, passing, exec-now, exec-at, exec, run-code, end-code, run-block}
-use Rattle.widget.specs.View.{Lent, ctx, said, went, Did, Owes}
+use Rattle.widget.specs.View.{Lent, ctx, tracing, said, went, Did, Owes}
 use Rattle.widget.specs.declared.Went.{Went}
 use Rattle.widget.proofs.Going as going
 use Rattle.plan_code.specs.declared.Moved.{Moved}
-use Rattle.plan_code.specs.Code.{moved-by, moved, Execs, Ran}
+use Rattle.plan_code.specs.Code.{moved-by, moved, Execs, Ran, Same, Passed}
 
 -- ---- passing over
 
@@ -98,6 +98,20 @@ module _ {vs : List VarRow} {a : ℤ} {code : List Instr} {end from : ℕ} {befo
       slotted = λ z. w .slotted;
     }
 
+    -- past instructions that act on nothing
+    pub walking-past : {j : ℕ} → i ≤ j → Same code end (after .active) i j → Walking vs a code end from before at j after next
+    unfolding ctx tracing
+    walking-past l s = record {
+      owes = record {
+        gives = λ h. sym (s vs a (ctx after next) refl) ∙ w .owes .gives h;
+        fits = w .owes .fits;
+        kept = w .owes .kept;
+        whole = w .owes .whole;
+      };
+      onward = omega (arith, w .onward, l);
+      slotted = w .slotted;
+    }
+
     module _ {ins : Instr} {r : Moved} {after₂ : Lent} (l : i < end) (m : i < length code) (q : getD code i ins ≡ ins)
         (d : Execs vs a ins after next r after₂) where
       moved-on : (n o : ℕ) (k : Ctx) → n ≡ 0 → (F : Mach → Res Ctx) → bind (moved-by n o k) F ≡ F (passing o k)
@@ -163,6 +177,27 @@ pub record Standing (vs : List VarRow) (a : ℤ) (code : List Instr) (base end f
   pub i : ℕ
   pub here : row ≡ base + i * INSTR-ROW
   pub walking : Walking vs a code end from before at i after next
+
+module _ {vs : List VarRow} {a : ℤ} {code : List Instr} {base end from : ℕ} {before : Lent} {at row : ℕ} {after : Lent} {next : ℕ}
+    (s : Standing vs a code base end from before at row after next) where
+  pub standing-on : {ins : Instr} {r : Moved} {after₂ : Lent} → s .i < end → s .i < length code → getD code (s .i) ins ≡ ins
+      → Execs vs a ins after next r after₂ → r .number ≡ 0
+      → Standing vs a code base end from before at (row + (1 + r .over) * INSTR-ROW) after₂ (r .at)
+  standing-on {r = r} l m q d z = record {
+    i = s .i + 1 + r .over;
+    here = omega (arith, s .here);
+    walking = walking-on (s .walking) l m q d z;
+  }
+
+  pub standing-past : {ns : List ℤ} {to : ℕ} → code ≡ plan-by ns .code → base ≡ code-at (counts-of ns)
+      → Passed ns (base + end * INSTR-ROW) row (after .active) to → Standing vs a code base end from before at to after next
+  standing-past e b p = record {
+    i = s .i + p .over;
+    here = omega (arith, s .here, p .there);
+    walking = walking-past (s .walking) (omega arith)
+        (subst (λ c. Same c end (after .active) (s .i) (s .i + p .over)) (sym e)
+        (p .same (s .i) end (omega (arith, s .here, b)) (omega (arith, b))));
+  }
 
 -- a block from its start on, by its length
 pub block-by : (vs : List VarRow) (a : ℤ) (code : List Instr)

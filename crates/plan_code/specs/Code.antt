@@ -2,8 +2,8 @@
 -- (01, "The plan"): what an instruction names, what one instruction gives over what is
 -- lent, and a block of a plan that was examined. Assumes nothing.
 use mathlib.Core.Path.{_≡_}
-use Prim.Native.Nat.{ℕ, zero, suc, _+_, _*_, _<_, _≤_}
-use mathlib.Core.Bool.{true}
+use Prim.Native.Nat.{ℕ, zero, suc, _+_, _-_, _*_, _<_, _≤_}
+use mathlib.Core.Bool.{Bool, true}
 use mathlib.Core.List.{List}
 use lib.ListN.{length, getD, take, drop}
 use lib.IntN.{ℤ, pos}
@@ -112,3 +112,31 @@ pub record Block (ns : List ℤ) (k : Counts) (start len : ℕ) : Type 0 where
 -- what running it is
 abbrev pub block-of : List ℤ → ℤ → ℕ → ℕ → Step Ctx
 block-of ns a start len = run-block (plan-by ns .vars) a (take len (drop start (plan-by ns .code)))
+
+-- ---- the rest of a block
+
+-- where the row of instruction i begins
+abbrev pub row-of : List ℤ → ℕ → ℕ
+row-of ns i = code-at (counts-of ns) + i * INSTR-ROW
+
+-- from one place up to another stand the rows of a block, from some instruction on
+pub record Rest (ns : List ℤ) (from end : ℕ) : Type 0 where
+  pub k : Counts
+  pub start : ℕ
+  pub len : ℕ
+  pub i : ℕ
+  pub block : Block ns k start len
+  pub onward : start ≤ i
+  pub here : from ≡ row-of ns i
+  pub there : end ≡ row-of ns (start + len)
+
+-- where these states are active, what is run from one instruction on is what is run from another on, each up to the last
+abbrev pub Same : List Instr → ℕ → List Bool → ℕ → ℕ → Type 0
+Same code last active i j = (vs : List VarRow) (a : ℤ) (k : Ctx) → k .state .active ≡ active
+    → run-block vs a (take (last - i) (drop i code)) k ≡ run-block vs a (take (last - j) (drop j code)) k
+
+-- from one row's place on what is run up to the end is what is run from another row's place on, further on
+pub record Passed (ns : List ℤ) (end from : ℕ) (active : List Bool) (to : ℕ) : Type 0 where
+  pub over : ℕ
+  pub there : to ≡ from + over * INSTR-ROW
+  pub same : (i last : ℕ) → from ≡ row-of ns i → end ≡ row-of ns last → Same (plan-by ns .code) last active i (i + over)

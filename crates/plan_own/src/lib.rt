@@ -6,16 +6,15 @@ use numbers::between;
 use numbers::reference;
 use numbers::same;
 use plan_rows::var_row;
+use queue_calls::own::rest_empty;
 use sizes::STATES;
 use sizes::VARIABLES;
 use widget::fits::marks_fit;
 use widget::fits::queue_fits;
 ghost use mathlib.Core.Path.{_≡_};
 ghost use Prim.Native.Nat.{_≤_};
-ghost use lib.ListN.{take, drop};
-ghost use lib.IntN.{negsuc};
+ghost use lib.ListN.{take};
 ghost use Rattle.sizes.specs.Sizes.{STATES as most};
-ghost use Rattle.numbers.specs.Equal.{eqZ};
 ghost use Rattle.meaning.specs.Lists.{every};
 ghost use Rattle.meaning.specs.Foreign.{values-fit, plan-slot-fits, plan-own};
 ghost use Rattle.meaning.specs.WellFormed.{plan-by};
@@ -72,19 +71,6 @@ fn slots_fit(states: usize, slots: [i32; STATES]) -> bool
         s += 1;
     }
     true
-}
-
-// The other slots are empty. Each is looked at, with no way out before the last: so the compiler tests many at once.
-fn rest_empty(states: usize, slots: [i32; STATES]) -> bool
-    ensures { λ r. ⌜ r ≡ every (eqZ (negsuc 0)) (drop states slots) ⌝ }
-{
-    let mut fit = true;
-    let mut s = states;
-    while s < STATES {
-        fit = fit & same(-1, slots[s]);
-        s += 1;
-    }
-    fit
 }
 
 // Whether a started state is one that the plan machine runs; else answer 6.

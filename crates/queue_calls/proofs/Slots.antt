@@ -1,13 +1,13 @@
 -- The slots of a started state, one at a time: empty, or at an o state a child of it that leads on. Assumes nothing.
 use mathlib.Core.Path.{_≡_, refl, sym, ap, _∙_}
-use Prim.Native.Nat.{ℕ, zero, suc, _+_, _≤_, _<_}
-use mathlib.Core.Bool.{Bool, true, false, _&&_}
+use Prim.Native.Nat.{ℕ, zero, suc, _+_, _-_, _≤_, _<_}
+use mathlib.Core.Bool.{Bool, true, false, _&&_, false≢true}
 use mathlib.Core.List.{List, [], _∷_}
 use native.Mathlib.Omega.{arith}
 use borrow.Author.Tests.{lt-ltb, le-ltb}
 use lib.Dec.{ltb, eqb}
 use lib.IntN.{ℤ, pos, negsuc}
-use lib.ListN.{length, getD}
+use lib.ListN.{length, getD, drop}
 use Rattle.sizes.specs.Sizes.{STATES}
 use Rattle.numbers.specs.Equal.{eqZ}
 use Rattle.numbers.specs.Place.{placeOf}
@@ -21,6 +21,8 @@ use Rattle.meaning.specs.Chart.{Chart}
 use Rattle.meaning.specs.Tree.{kind-of, is-o, is-child, children}
 use Rattle.meaning.specs.Widget.{slot, is-filled}
 use Rattle.meaning.specs.Foreign.{leads-on, slot-fits, slots-fit}
+use Rattle.numbers.proofs.Laws.{eqZ-true}
+use Rattle.widget.proofs.Every.{every-more, every-no, upto-more, upto-done}
 
 -- what stands at a place of a list does not depend on what would stand past its end
 pub getD-any : {A : Type 0} (l : List A) (i : ℕ) (d e : A) → i < length l → getD l i d ≡ getD l i e
@@ -99,3 +101,25 @@ slot-tested c u {slots} e s h f =
 pub slots-fitted : (c : Chart) (u : State) {b : Bool} → b ≡ every (slot-right c u) (from 0 STATES) → b ≡ slots-fit c u
 unfolding slots-fit
 slots-fitted c u e = e
+
+-- ---- the slots from a place on, where all of them are empty
+
+empty-right : (c : Chart) (u : State) (s : ℕ) → eqZ (negsuc 0) (getD (u .slots) s (negsuc 0)) ≡ true → slot-right c u s ≡ true
+empty-right c u s e = ap (slot-fits c u s) (sym (eqZ-true (negsuc 0) (getD (u .slots) s (negsuc 0)) e)) ∙ sym (empty-fits c u s (negsuc 0) refl)
+
+rest-right : (c : Chart) (u : State) → length (u .slots) ≡ STATES → (k s : ℕ) → k + s ≡ STATES
+    → every (eqZ (negsuc 0)) (drop s (u .slots)) ≡ true → every (slot-right c u) (drop s (from 0 STATES)) ≡ true
+rest-right c u l zero s m e = sym (upto-done (slot-right c u) STATES s refl (omega arith))
+rest-right c u l (suc k) s m e = go (rest-right c u l k (s + 1) (omega arith)) (eqZ (negsuc 0) (getD (u .slots) s (negsuc 0))) refl
+  where
+    go : (every (eqZ (negsuc 0)) (drop (s + 1) (u .slots)) ≡ true → every (slot-right c u) (drop (s + 1) (from 0 STATES)) ≡ true)
+        → (b : Bool) → eqZ (negsuc 0) (getD (u .slots) s (negsuc 0)) ≡ b → every (slot-right c u) (drop s (from 0 STATES)) ≡ true
+    go f true t = sym (upto-more (slot-right c u) STATES s refl (omega arith) (empty-right c u s t))
+        ∙ f (every-more (eqZ (negsuc 0)) (u .slots) s (negsuc 0) e (omega arith) t)
+    go f false t = absurd (false≢true (every-no (eqZ (negsuc 0)) (u .slots) s (negsuc 0) e (omega arith) t))
+
+pub rest-fitted : (c : Chart) (u : State) {slots : List ℤ} {end : ℕ} → u .slots ≡ slots → length slots ≡ STATES → end ≤ STATES
+    → every (eqZ (negsuc 0)) (drop end slots) ≡ true → (s : ℕ) → s ≡ end → every (slot-right c u) (drop s (from 0 STATES)) ≡ true
+rest-fitted c u {slots} {end} e l m r s i =
+    rest-right c u (ap length e ∙ l) (STATES - s) s (omega arith)
+    (ap (λ n. every (eqZ (negsuc 0)) (drop n (u .slots))) i ∙ ap (λ x. every (eqZ (negsuc 0)) (drop end x)) e ∙ r)

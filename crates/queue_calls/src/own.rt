@@ -18,10 +18,12 @@ use sizes::VARIABLES;
 use widget::fits::marks_fit;
 use widget::fits::queue_fits;
 ghost use mathlib.Core.Path.{_≡_};
-ghost use mathlib.Core.Bool.{Bool};
-ghost use Prim.Native.Nat.{_<_};
-ghost use lib.ListN.{length, getD};
+ghost use mathlib.Core.Bool.{Bool, true};
+ghost use Prim.Native.Nat.{_≤_, _<_};
+ghost use lib.IntN.{negsuc};
+ghost use lib.ListN.{length, getD, drop};
 ghost use Rattle.sizes.specs.Sizes.{STATES as states};
+ghost use Rattle.numbers.specs.Equal.{eqZ};
 ghost use Rattle.numbers.specs.Place.{placeOf};
 ghost use Rattle.meaning.specs.declared.State.{State as Widget};
 ghost use Rattle.meaning.specs.Lists.{every};
@@ -194,17 +196,43 @@ fn slot_fits(chart: &[i32], slots: [i32; STATES], s: usize, x: i32) -> bool
     leads_on(chart, slots, d)
 }
 
-fn slots_fit(chart: &[i32], slots: [i32; STATES]) -> bool
+// The slots from a place on are empty. Each is looked at, with no way out before the last: so the compiler tests many at once.
+pub fn rest_empty(states: usize, slots: [i32; STATES]) -> bool
+    ensures { λ r. ⌜ r ≡ every (eqZ (negsuc 0)) (drop states slots) ⌝ }
+{
+    let mut fit = true;
+    let mut s = states;
+    while s < STATES {
+        fit = fit & same(-1, slots[s]);
+        s += 1;
+    }
+    fit
+}
+
+// The slots below a place from which on they are empty: an empty one fits whatever the chart.
+fn fit_below(chart: &[i32], slots: [i32; STATES], end: usize) -> bool
+    requires { ⌜ (end ≤ states) × (every (eqZ (negsuc 0)) (drop end slots) ≡ true) ⌝ }
     ensures { λ r. ⌜ ((u : Widget) → u .slots ≡ slots → r ≡ slots-fit (chart-of (now (chart .entry))) u) ⌝ }
 {
     let mut s: usize = 0;
-    while s < STATES {
+    while s < end {
         if !slot_fits(chart, slots, s, slots[s]) {
             return false;
         }
         s += 1;
     }
     true
+}
+
+// Where no slot past the chart's states is filled, only theirs are tested one by one.
+fn slots_fit(chart: &[i32], slots: [i32; STATES]) -> bool
+    ensures { λ r. ⌜ ((u : Widget) → u .slots ≡ slots → r ≡ slots-fit (chart-of (now (chart .entry))) u) ⌝ }
+{
+    let n = state_count(chart);
+    if rest_empty(n, slots) {
+        return fit_below(chart, slots, n);
+    }
+    fit_below(chart, slots, STATES)
 }
 
 // Whether a started state is the chart's own; else answer 6.

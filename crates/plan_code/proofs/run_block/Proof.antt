@@ -9,12 +9,12 @@ use mir.Facts.{toZ-ofZ}
 use mir.Syntax.{w32, w64}
 use mir.Val.{Fits, toZ}
 use borrow.Author.Needs.{needs}
-use Rattle.meaning.specs.WellFormed.{INSTR-ROW, plan-by}
+use Rattle.meaning.specs.WellFormed.{INSTR-ROW, counts-of, code-at, plan-by}
 use Rattle.widget.specs.View.{all-lent}
 use Rattle.plan_choice.proofs.Facts.{counts-sized}
 use Rattle.plan_code.specs.Code.{Row, instr-from}
 use Rattle.plan_code.proofs.Named.{block-near, instr-whole, in-code, instr-is, instr-runs}
-use Rattle.plan_code.proofs.Walk.{Standing, walking-begin, walking-end, walking-stop, walking-on, block-by}
+use Rattle.plan_code.proofs.Walk.{Standing, walking-begin, walking-end, walking-stop, standing-on, standing-past, block-by}
 use Rattle.plan_code.proofs.run_block.Statement.{statement}
 use Rattle.plan_code.proofs.run_block.Tie as tie
 
@@ -121,18 +121,51 @@ mul-row-2 c = omega (arith, further (c .before .before .before .before))
 add-row-3 : tie.Need-add-row-3 Inv-loop μ-loop
 add-row-3 c = omega (arith, further (c .before .before .before .before))
 
+-- ---- the next turn, with or without SKIPOUTs passed over
+
+-- from where something was passed over or not, back to the instruction that was run
+abbrev ran : tie.After-struct-known3 Inv-loop μ-loop → tie.After-exec Inv-loop μ-loop
+ran c = c .before .before .before .before .before
+
+-- where the rows of the plan begin
+begins : (c : At-code) → c .code-at .result ≡ code-at (counts-of (c .before .args .plan .now))
+begins c = c .code-at .ensures ∙ ap code-at (c .before .pre .0 .examined .counted)
+
+pass-skips-requires : tie.Need-pass-skips-requires Inv-loop μ-loop
+pass-skips-requires c κs =
+    let e = ran (c .before .before) in
+    let i = in-loop e in
+    let b = begins (i .before .before) in
+    record {
+      k = at-start i .args .k;
+      start = at-start i .args .start;
+      len = at-start i .args .len;
+      i = i .before .loop .inv .i + 1 + e .exec .result .over;
+      block = at-start i .pre .0;
+      onward = omega (arith, i .before .loop .inv .walking .onward);
+      here = omega (arith, i .before .loop .inv .here, b);
+      there = omega (arith, b);
+    }
+
 loop-less : tie.Need-loop-less Inv-loop μ-loop
-loop-less c = omega (arith, in-loop (c .before .before .before .before) .loop-test .taken)
+loop-less c = omega (arith, in-loop (ran (c .before .before .before)) .loop-test .taken, c .pass-skips .ensures .there)
 
 loop-again : tie.Need-loop-again Inv-loop μ-loop
 loop-again c =
-    let e = c .before .before .before .before in
+    let e = ran (c .before .before .before) in
     let i = in-loop e in
-    record {
-      i = i .before .loop .inv .i + 1 + e .exec .result .over;
-      here = omega (arith, i .before .loop .inv .here);
-      walking = walking-on (i .before .loop .inv .walking) (within i) (its-code i) (its-instr i) (e .exec .ensures) (c .before .if1 .left);
-    }
+    standing-past
+    (standing-on (i .before .loop .inv) (within i) (its-code i) (its-instr i) (e .exec .ensures)
+    (c .before .before .before .before .before .if1 .left)) refl (begins (i .before .before)) (c .pass-skips .ensures)
+
+loop-less-2 : tie.Need-loop-less-2 Inv-loop μ-loop
+loop-less-2 c = omega (arith, in-loop (ran (c .before)) .loop-test .taken)
+
+loop-again-2 : tie.Need-loop-again-2 Inv-loop μ-loop
+loop-again-2 c =
+    let e = ran (c .before) in
+    let i = in-loop e in
+    standing-on (i .before .loop .inv) (within i) (its-code i) (its-instr i) (e .exec .ensures) (c .before .before .before .if1 .left)
 
 returns-2 : tie.Need-returns-2 Inv-loop μ-loop
 returns-2 c =
@@ -144,4 +177,5 @@ returns-2 c =
 pub run-block-spec : {M : Type 1} → statement M
 run-block-spec =
     tie.close (tie.spec Inv-loop μ-loop code-at-requires add-end mul-end add-end-2 mul-row add-row loop-holds exec-requires
-    (λ c. search needs) returns add-row-2 mul-row-2 add-row-3 loop-less loop-again (λ c. search needs) returns-2)
+    (λ c. search needs) returns add-row-2 mul-row-2 add-row-3 pass-skips-requires loop-less loop-again loop-less-2
+    loop-again-2 (λ c. search needs) returns-2)

@@ -13,8 +13,8 @@ use Rattle.sizes.specs.Sizes.{STATES}
 use Rattle.numbers.specs.Equal.{eqZ}
 use Rattle.meaning.specs.Lists.{every}
 use Rattle.widget.proofs.Every.{every-and, every-all}
-use Rattle.plan_own.proofs.rest_empty.Statement.{statement}
-use Rattle.plan_own.proofs.rest_empty.Tie as tie
+use Rattle.queue_calls.proofs.own.rest_empty.Statement.{statement}
+use Rattle.queue_calls.proofs.own.rest_empty.Tie as tie
 
 abbrev Inv-loop : tie.InvT-loop
 Inv-loop states slots fit₀ s₀ fit s =
