@@ -22,18 +22,18 @@ use Rattle.invariants.proofs.Stepping.{Whole, step-stands}
 use Rattle.laws.proofs.Lists.{and-both, and-left, and-right, at-every}
 use Rattle.laws.proofs.Rules.{o-inside}
 use Rattle.laws.proofs.Sound.{Sound-chart}
-use Rattle.laws.proofs.Steps.{Holds, bind-assoc, bind-cong-where}
+use Rattle.laws.proofs.Steps.{Holds, bind-cong-where}
 use Rattle.laws.proofs.Value.{Sized-chart}
 use Rattle.meaning.specs.Calls.{Outcome, discard, fresh, fresh-by, outcome, post, react, run, start, start-steps, take-front, tests}
 use Rattle.meaning.specs.Chart.{Chart}
 use Rattle.meaning.specs.Compile.{block, code-of, head-order, plan-of, start-block}
 use Rattle.meaning.specs.Effects.{enqueue, enter}
 use Rattle.meaning.specs.Entry.{all-below, by-defaults, visit}
-use Rattle.meaning.specs.Foreign.{event-fits, legal, legal-at, marks-fit, own, plan-own, plan-slot-fits, plan-slots-fit, queue-fits}
+use Rattle.meaning.specs.Foreign.{event-fits, legal, legal-at, marks-fit, own, queue-fits}
 use Rattle.meaning.specs.Foreign.{slots-fit, values-fit}
 use Rattle.meaning.specs.Lists.{concat-map, every}
 use Rattle.meaning.specs.Machine.{plan-discard, plan-post, plan-react, plan-run, plan-settle, plan-start, plan-start-steps, plan-step}
-use Rattle.meaning.specs.Machine.{plan-tests, run-block}
+use Rattle.meaning.specs.Machine.{plan-tests, run-block, plan-own, plan-slot-fits, plan-slots-fit}
 use Rattle.meaning.specs.Plan.{Plan}
 use Rattle.meaning.specs.Reaction.{settle, step}
 use Rattle.meaning.specs.Steps.{Step, _then_, bind, each, require}
@@ -139,8 +139,7 @@ module _ (c : Chart) (r : Sound-chart c) (z : Sized-chart c) where
         ∙ bind-cong-where (Whole c) (bind (enter c (pos 0) 0 k) (each (visit c (pos 0)) (all-below c by-defaults 0)))
         (plan-settle (plan-of c)) (settle c)
         (holds-of (Whole c) (bind (enter c (pos 0) 0 k) (each (visit c (pos 0)) (all-below c by-defaults 0))) (start-enters c r z n))
-        (settle-agrees c r z fires)
-        ∙ bind-assoc (enter c (pos 0) 0 k) (each (visit c (pos 0)) (all-below c by-defaults 0)) (settle c))
+        (settle-agrees c r z fires))
       where
         k : Ctx
         k = begin (fresh-by (c .vars)) n

@@ -10,19 +10,13 @@ use Rattle.meaning.specs.Chart.{Chart}
 use Rattle.meaning.specs.Compile.{code-acts, enter-code, visit-code}
 use Rattle.meaning.specs.Effects.{acts-of, enter, mark-entered, perform, perform-all}
 use Rattle.meaning.specs.Entry.{Visit, by-default, plain, visit}
-use Rattle.meaning.specs.Lists.{at-value, concat-map}
+use Rattle.meaning.specs.Lists.{concat-map}
 use Rattle.meaning.specs.Machine.{exec, exec-at, exec-now, passing, run-block, run-code}
 use Rattle.meaning.specs.Steps.{each}
 use Rattle.meaning.specs.Widget.{Ctx}
 use Rattle.meaning.specs.declared.chart.Owner.{Owner}
 use Rattle.meaning.specs.declared.chart.Owner.the-variants.{DefaultOf as default-of, EntryOf as entry-of}
 use Rattle.meaning.specs.declared.plan.Instr.the-variants.{Does as does, In as go-in}
-
--- a number that is computed first is the number
-pub value-is : {A : Type 0} (f : ℕ → A) (n : ℕ) → at-value f n ≡ f n
-unfolding at-value
-value-is f zero = refl
-value-is f (suc n) = refl
 
 module _ (c : Chart) (a : ℤ) where
   pub acts-do : (o : Owner) → Does (run-code (c .vars) a (code-acts c o)) (perform-all c a o)
@@ -37,10 +31,9 @@ module _ (c : Chart) (a : ℤ) where
 
   pub visit-does : (v : Visit) → Does (run-code (c .vars) a (visit-code c v)) (visit c a v)
   unfolding visit-code visit
-  visit-does (plain s) = rw (value-is (enter-code c) s) (enter-does s)
-  visit-does (by-default p s) = rw (value-is (enter-code c) s, value-is (λ q. code-acts c (default-of q)) p)
-      (append-does (c .vars) a (code-acts c (default-of p)) (enter-code c s) (perform-all c a (default-of p)) (enter c a s)
-      (acts-do (default-of p)) (enter-does s))
+  visit-does (plain s) = enter-does s
+  visit-does (by-default p s) = append-does (c .vars) a (code-acts c (default-of p)) (enter-code c s)
+      (perform-all c a (default-of p)) (enter c a s) (acts-do (default-of p)) (enter-does s)
 
   -- an itinerary
   pub visits-do : (vs : List Visit) → Does (run-code (c .vars) a (concat-map (visit-code c) vs)) (each (visit c a) vs)

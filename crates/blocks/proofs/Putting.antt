@@ -19,7 +19,6 @@ use Rattle.meaning.specs.declared.chart.Kind.the-variants.{A as kind-a, B as ki
 use Rattle.meaning.specs.declared.chart.Owner.the-variants.{EntryOf as entry-of, ExitOf as exit-of, DefaultOf as default-of}
 use Rattle.meaning.specs.declared.plan.Instr.{Instr}
 use Rattle.meaning.specs.declared.plan.Instr.the-variants.{Out as go-out, SkipOut as skip-out, SkipNot as skip-not}
-use Rattle.meaning.specs.Lists.{at-value}
 use Rattle.meaning.specs.Tree.{parent-of, kind-of, is-o}
 use Rattle.meaning.specs.Effects.{o-parent}
 use Rattle.meaning.specs.Compile.{code-acts, exit-code, enter-code, visit-code, held-code, past-if-out, stored-code}
@@ -48,22 +47,14 @@ parent-small v r (suc n) l up e = subst Small-place (sym e) (go (is-o (kind-of (
 
 -- ---- entering, by default or not
 
-at-value-is : {A : Type 0} (f : ℕ → A) (n : ℕ) → at-value f n ≡ f n
-unfolding at-value
-at-value-is f zero = refl
-at-value-is f (suc n) = refl
-
 module _ (c : Chart) (p s : ℕ) (b x : Bool) (e : b ≡ x) where
   pub visit-plain : not b ≡ true → visit-code c (visit-as x p s) ≡ enter-code c s
   unfolding visit-code
-  visit-plain n = ap (λ y. visit-code c (visit-as y p s)) (sym e ∙ not-true b n) ∙ at-value-is (enter-code c) s
+  visit-plain n = ap (λ y. visit-code c (visit-as y p s)) (sym e ∙ not-true b n)
 
   pub visit-due : not b ≡ false → visit-code c (visit-as x p s) ≡ code-acts c (default-of p) ++ enter-code c s
   unfolding visit-code
-  visit-due n =
-      ap (λ y. visit-code c (visit-as y p s)) (sym e ∙ not-false b n)
-      ∙ ap (λ l. l ++ at-value (enter-code c) s) (at-value-is (λ q. code-acts c (default-of q)) p)
-      ∙ ap (λ l. code-acts c (default-of p) ++ l) (at-value-is (enter-code c) s)
+  visit-due n = ap (λ y. visit-code c (visit-as y p s)) (sym e ∙ not-false b n)
 
 -- ---- entering in a restore
 

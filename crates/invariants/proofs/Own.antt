@@ -29,11 +29,10 @@ use Rattle.laws.proofs.Rules.{not-o-of-a}
 use Rattle.laws.proofs.Scope.{root-above}
 use Rattle.laws.proofs.Sound.{Sound-chart}
 use Rattle.laws.proofs.Stays.{each-stays}
-use Rattle.laws.proofs.Steps.{bind-assoc}
 use Rattle.laws.proofs.Tree.{under-has}
 use Rattle.laws.proofs.Value.{Sized-chart, getD-map}
 use Rattle.laws.proofs.Ways.{defaults-sound}
-use Rattle.meaning.specs.Calls.{fresh, start-steps}
+use Rattle.meaning.specs.Calls.{enter-first, fresh, start-steps}
 use Rattle.meaning.specs.Chart.{Chart, no-var}
 use Rattle.meaning.specs.Effects.{enter}
 use Rattle.meaning.specs.Entry.{Visit, all-below, by-defaults, state-of, visit}
@@ -221,7 +220,4 @@ module _ (c : Chart) (r : Sound-chart c) (z : Sized-chart c) where
   -- start ends in a state that is the chart's own
   pub start-stands : (n : ℕ) → Gives (start-steps c (begin (fresh c) n)) (Whole c)
   unfolding start-steps _then_
-  start-stands n = subst (λ x. Gives x (Whole c))
-      (bind-assoc (enter c (pos 0) 0 (begin (fresh c) n)) (each (visit c (pos 0)) (all-below c by-defaults 0)) (settle c))
-      (gives-bind (Whole c) (Whole c) (bind (enter c (pos 0) 0 (begin (fresh c) n)) (each (visit c (pos 0)) (all-below c by-defaults 0))) (settle c)
-      (start-enters n) (settle-stands c r z))
+  start-stands n = gives-bind (Whole c) (Whole c) (enter-first c (begin (fresh c) n)) (settle c) (start-enters n) (settle-stands c r z)

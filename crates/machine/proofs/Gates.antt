@@ -11,9 +11,8 @@ use Rattle.meaning.specs.declared.plan.Counts.{Counts}
 use Rattle.meaning.specs.Plan.{Plan}
 use Rattle.meaning.specs.Steps.{Res, ok, refuse, Step, bind, _then_, require}
 use Rattle.meaning.specs.Widget.{Ctx}
-use Rattle.meaning.specs.Foreign.{plan-own}
 use Rattle.meaning.specs.Calls.{Outcome, refused}
-use Rattle.meaning.specs.Machine.{plan-start, plan-run, plan-post, plan-discard}
+use Rattle.meaning.specs.Machine.{plan-start, plan-run, plan-post, plan-discard, plan-own}
 use Rattle.meaning.specs.Machine.{plan-tests, machine-start, machine-run, machine-post, machine-discard}
 use Rattle.meaning.specs.WellFormed.{counts-of, plan-by, well-formed}
 use Rattle.examiner.specs.Examined.{examined}

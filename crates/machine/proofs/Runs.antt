@@ -21,9 +21,9 @@ use Rattle.meaning.specs.declared.Called.{Called}
 use Rattle.meaning.specs.Steps.{Res, ok, refuse, Step, bind, _then_, require}
 use Rattle.meaning.specs.Plan.{Plan}
 use Rattle.meaning.specs.Widget.{Ctx, is-active, set-queue, change, begin}
-use Rattle.meaning.specs.Foreign.{marks-fit, values-fit, plan-slots-fit, queue-fits, plan-own}
+use Rattle.meaning.specs.Foreign.{marks-fit, values-fit, queue-fits}
 use Rattle.meaning.specs.Calls.{Outcome, refused, outcome, take-front, called, lent}
-use Rattle.meaning.specs.Machine.{plan-step, plan-settle, plan-tests, plan-react, plan-run}
+use Rattle.meaning.specs.Machine.{plan-step, plan-settle, plan-tests, plan-react, plan-run, plan-slots-fit, plan-own}
 use Rattle.laws.proofs.Lists.{and-left, and-right}
 use Rattle.widget.specs.View.{Lent, all-lent, widget, went, Did}
 use Rattle.widget.specs.declared.Went.{Went}

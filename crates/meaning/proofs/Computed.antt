@@ -1,5 +1,6 @@
 -- Cases that 01 does not star, computed like the starred ones: the starred calls by the plan machine, which gives the same answers,
--- states and traces; and three cases that "Easy errors here", the readings and a full queue turn on, over the chart and by its plan. Assumes nothing.
+-- states and traces; three cases that "Easy errors here", the readings and a full queue turn on; that 7 is tested before 6; and a run that
+-- makes null steps until none is enabled. Each over the chart and by its plan. Assumes nothing.
 use mathlib.Core.Path.{_≡_, refl}
 use mathlib.Core.List.{List, [], _∷_}
 use mathlib.Core.Option.{none}
@@ -8,10 +9,11 @@ use Rattle.meaning.specs.declared.State.{State}
 use Rattle.meaning.specs.Open.{all-open}
 use Rattle.meaning.specs.Widget.{Entry, taken, left, entered}
 use Rattle.meaning.specs.Rules.{failing-rule}
-use Rattle.meaning.specs.Calls.{Outcome, refused, unstarted, start}
+use Rattle.meaning.specs.Calls.{Outcome, refused, unstarted, start, run}
 use Rattle.meaning.specs.Compile.{compile}
-use Rattle.meaning.specs.Machine.{machine-start}
-use Rattle.meaning.specs.Examples.{plan-K, chart-two, chart-self, chart-inside, chart-filling, standing, gives, react-to, machine-to}
+use Rattle.meaning.specs.Machine.{machine-start, machine-run}
+use Rattle.meaning.specs.Examples.{chart-K, plan-K, chart-two, chart-self, chart-inside, chart-filling, chart-settling}
+use Rattle.meaning.specs.Examples.{standing, gives, react-to, machine-to}
 use Rattle.meaning.proofs.Starred.{start-entries, entries-1, entries-2, entries-3, entries-4, entries-5, both-entries}
 use Rattle.meaning.proofs.Starred.{state-started, state-posted, state-1, state-2, state-3, state-4, state-5, state-both}
 
@@ -33,6 +35,13 @@ state-inside = standing (0 ∷ 1 ∷ 3 ∷ []) (pos 1 ∷ pos 3 ∷ []) [] []
 -- event 1 waits in front
 abbrev pub state-filling : State
 state-filling = standing (0 ∷ 1 ∷ []) [] [] ((pos 1, pos 0) ∷ [])
+
+-- the event's own step, then two null steps
+abbrev pub settled-entries : List Entry
+settled-entries = taken 0 ∷ left 1 ∷ entered 2 ∷ taken 1 ∷ left 2 ∷ entered 3 ∷ taken 2 ∷ left 3 ∷ entered 4 ∷ []
+
+abbrev pub state-settled : State
+state-settled = standing (0 ∷ 4 ∷ []) (pos 3 ∷ []) [] []
 
 pub record Computed : Type 0 where
   pub start-K-by-plan : machine-start plan-K unstarted 3000 ≡ gives state-started start-entries
@@ -60,6 +69,14 @@ pub record Computed : Type 0 where
   pub filling : react-to chart-filling 3000 1 (start chart-filling unstarted 3000 .after) ≡ refused 9 0 state-filling
   pub filling-by-plan : machine-to (compile chart-filling) 3000 1 (machine-start (compile chart-filling) unstarted 3000 .after)
       ≡ refused 9 0 state-filling
+  -- "then 7, 6": a widget not yet started has no state active, which would be 6
+  pub not-started : run chart-K unstarted 3000 ≡ refused 7 0 unstarted
+  pub not-started-by-plan : machine-run plan-K unstarted 3000 ≡ refused 7 0 unstarted
+  -- "Then null steps follow .. until none is enabled"
+  pub settling-pass : failing-rule chart-settling ≡ none
+  pub settling : react-to chart-settling 3000 1 (start chart-settling unstarted 3000 .after) ≡ gives state-settled settled-entries
+  pub settling-by-plan : machine-to (compile chart-settling) 3000 1 (machine-start (compile chart-settling) unstarted 3000 .after)
+      ≡ gives state-settled settled-entries
 
 pub computed : Computed
 unfolding all-open
@@ -82,4 +99,9 @@ computed = record {
   filling-pass = refl;
   filling = refl;
   filling-by-plan = refl;
+  not-started = refl;
+  not-started-by-plan = refl;
+  settling-pass = refl;
+  settling = refl;
+  settling-by-plan = refl;
 }

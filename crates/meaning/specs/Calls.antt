@@ -1,5 +1,6 @@
--- The calls on a widget over its chart (01, "One reaction" and "Answer numbers"): start, post, run, discard, with the order of tests
--- and rollback; first over a chart that passes the rules, then over a chart handed over as a value. Assumes nothing.
+-- The calls on a widget (01, "One reaction" and "Answer numbers"): start, post, run, discard, with the order of tests and rollback, defined
+-- once over what a chart or a plan brings: its fresh state, its test for 6, its events, its step and null steps. Then the calls over a
+-- chart: first one that passes the rules, then one handed over as a value. Assumes nothing.
 use Prim.Native.Nat.{ℕ, zero, suc, _/_}
 use mathlib.Core.Bool.{Bool, true, false}
 use mathlib.Core.List.{List, [], _∷_, map}
@@ -65,69 +66,118 @@ fresh-by vs = record {
   queue = empty-queue;
 }
 
-unfoldable pub fresh : Chart → State
-unfolding fresh-by
-fresh c = fresh-by (c .vars)
+-- what a chart or a plan brings to the calls: its fresh state, what a start enters, its test for 6, its events, one step, null steps
+pub record Runner : Type 0 where
+  pub anew : State
+  pub entering : Step Ctx
+  pub owning : State → Bool
+  pub events : ℕ
+  pub one : ℕ → ℤ → Step Ctx
+  pub settling : Step Ctx
 
--- "Start, with argument 0 and whatever the state held, enters the root and its defaults .. then makes null steps"
-unfoldable pub start-steps : Chart → Step Ctx
-start-steps c = enter c (pos 0) 0 then each (visit c (pos 0)) (all-below c by-defaults 0) then settle c
+-- "enters .., then makes null steps"
+unfoldable pub start-steps-by : Runner → Step Ctx
+start-steps-by w = w .entering then w .settling
 
 -- "It tests neither 7 nor 6"
-unfoldable pub start : Chart → State → ℕ → Outcome
-start c u n = outcome u (start-steps c (begin (fresh c) n))
+unfoldable pub start-by : Runner → State → ℕ → Outcome
+unfolding start-steps-by
+start-by w u n = outcome u (start-steps-by w (begin (w .anew) n))
 
 -- ---- run, post, discard: "then 7, 6; then 8, or 10 before 9"
 
-unfoldable pub tests : Chart → State → Step Ctx
-tests c u = require NOT-STARTED (u .started) then require FOREIGN (own c u)
+unfoldable pub tests-by : Runner → State → Step Ctx
+tests-by w u = require NOT-STARTED (u .started) then require FOREIGN (w .owning u)
 
 -- the queue without its front event, or 8
 unfoldable pub take-front : Removed → Step Ctx
 take-front r = require QUEUE-EMPTY (r .done) then change (set-queue (r .queue))
 
 -- "A run removes the front event and makes one step with it. Then null steps follow"
-unfoldable pub react : Chart → Removed → Step Ctx
-react c r = take-front r then step c (ref (r .front .event)) (r .front .arg) then settle c
+unfoldable pub react-by : Runner → Removed → Step Ctx
+react-by w r = take-front r then w .one (ref (r .front .event)) (r .front .arg) then w .settling
 
-unfoldable pub run : Chart → State → ℕ → Outcome
-run c u n = outcome u ((tests c u then react c (removed (u .queue))) (begin u n))
+unfoldable pub run-by : Runner → State → ℕ → Outcome
+unfolding tests-by react-by
+run-by w u n = outcome u ((tests-by w u then react-by w (removed (u .queue))) (begin u n))
 
 -- "Post appends an event with an argument"
-unfoldable pub post : Chart → State → ℤ → ℤ → Outcome
-post c u e a = outcome u ((tests c u then require NO-SUCH-EVENT (event-fits (c .events) e a) then enqueue e a) (begin u 0))
+unfoldable pub post-by : Runner → State → ℤ → ℤ → Outcome
+unfolding tests-by
+post-by w u e a = outcome u ((tests-by w u then require NO-SUCH-EVENT (event-fits (w .events) e a) then enqueue e a) (begin u 0))
 
 -- "discard removes the front one"
+unfoldable pub discard-by : Runner → State → Outcome
+unfolding tests-by
+discard-by w u = outcome u ((tests-by w u then take-front (removed (u .queue))) (begin u 0))
+
+-- ---- over a chart that passes the rules
+
+unfoldable pub fresh : Chart → State
+unfolding fresh-by
+fresh c = fresh-by (c .vars)
+
+-- "Start, with argument 0 and whatever the state held, enters the root and its defaults"
+unfoldable pub enter-first : Chart → Step Ctx
+enter-first c = enter c (pos 0) 0 then each (visit c (pos 0)) (all-below c by-defaults 0)
+
+abbrev pub by-chart : Chart → Runner
+by-chart c = record { anew = fresh c; entering = enter-first c; owning = own c; events = c .events; one = step c; settling = settle c }
+
+unfoldable pub start-steps : Chart → Step Ctx
+unfolding start-steps-by enter-first
+start-steps c = start-steps-by (by-chart c)
+
+unfoldable pub start : Chart → State → ℕ → Outcome
+unfolding start-by start-steps
+start c u n = start-by (by-chart c) u n
+
+unfoldable pub tests : Chart → State → Step Ctx
+unfolding tests-by
+tests c u = tests-by (by-chart c) u
+
+unfoldable pub react : Chart → Removed → Step Ctx
+unfolding react-by
+react c r = react-by (by-chart c) r
+
+unfoldable pub run : Chart → State → ℕ → Outcome
+unfolding run-by tests react
+run c u n = run-by (by-chart c) u n
+
+unfoldable pub post : Chart → State → ℤ → ℤ → Outcome
+unfolding post-by tests
+post c u e a = post-by (by-chart c) u e a
+
 unfoldable pub discard : Chart → State → Outcome
-discard c u = outcome u ((tests c u then take-front (removed (u .queue))) (begin u 0))
+unfolding discard-by tests
+discard c u = discard-by (by-chart c) u
 
 -- ---- over a chart handed over as a value: "chart 3 .. first"
 
-unfoldable pub start-of : List ℤ → State → ℕ → Outcome
-start-of v u n = elim (failing-rule-of v) [
-  | none ↦ start (chart-of v) u n
+-- the call is a function, so that a chart that fails the rules is not run
+unfoldable pub if-ruled : List ℤ → State → (Chart → Outcome) → Outcome
+if-ruled v u call = elim (failing-rule-of v) [
+  | none ↦ call (chart-of v)
   | some r ↦ refused RULE-FAILS r u
 ]
+
+unfoldable pub start-of : List ℤ → State → ℕ → Outcome
+unfolding if-ruled
+start-of v u n = if-ruled v u (λ c. start c u n)
 
 unfoldable pub run-of : List ℤ → State → ℕ → Outcome
-run-of v u n = elim (failing-rule-of v) [
-  | none ↦ run (chart-of v) u n
-  | some r ↦ refused RULE-FAILS r u
-]
+unfolding if-ruled
+run-of v u n = if-ruled v u (λ c. run c u n)
 
 unfoldable pub post-of : List ℤ → State → ℤ → ℤ → Outcome
-post-of v u e a = elim (failing-rule-of v) [
-  | none ↦ post (chart-of v) u e a
-  | some r ↦ refused RULE-FAILS r u
-]
+unfolding if-ruled
+post-of v u e a = if-ruled v u (λ c. post c u e a)
 
 unfoldable pub discard-of : List ℤ → State → Outcome
-discard-of v u = elim (failing-rule-of v) [
-  | none ↦ discard (chart-of v) u
-  | some r ↦ refused RULE-FAILS r u
-]
+unfolding if-ruled
+discard-of v u = if-ruled v u (λ c. discard c u)
 
 -- everything above, opened: for statements that compute
 unfoldable pub calls-open : ℕ
-unfolding refused outcome called lent unstarted fresh-by fresh start-steps start tests take-front react run post discard start-of run-of post-of discard-of
+unfolding refused outcome called lent unstarted fresh-by start-steps-by start-by tests-by take-front react-by run-by post-by discard-by fresh enter-first start-steps start tests react run post discard if-ruled start-of run-of post-of discard-of
 calls-open = 0

@@ -8,7 +8,7 @@ use lib.ListN.{length}
 use lib.IntN.{ℤ, pos}
 use lib.Dec.{eqb, ltb}
 use Rattle.meaning.specs.Answers.{RULE-FAILS, PLAN-TOO-LONG}
-use Rattle.meaning.specs.Lists.{concat-map, padded, at-value}
+use Rattle.meaning.specs.Lists.{concat-map, padded}
 use Rattle.meaning.specs.Chart.{Kind, kind-o, kind-a, kind-b, Target, to, history, in-place, Owner, entry-of, exit-of, default-of, transition-of}
 use Rattle.meaning.specs.Chart.{TransRow, Chart}
 use Rattle.meaning.specs.Tree.{parent-of, kind-of, trans-row, all-transitions, descendants, scope, span}
@@ -35,8 +35,8 @@ enter-code c s = go-in s ∷ code-acts c (entry-of s)
 
 -- "For each entered state, ..: default actions where due, IN, entry actions"
 unfoldable pub visit-code : Chart → Visit → List Instr
-visit-code c (plain s) = at-value (enter-code c) s
-visit-code c (by-default p s) = at-value (λ q. code-acts c (default-of q)) p ++ at-value (enter-code c) s
+visit-code c (plain s) = enter-code c s
+visit-code c (by-default p s) = code-acts c (default-of p) ++ enter-code c s
 
 -- "SKIPNOT p d k+1 if p is kind o; IN d; its actions"
 unfoldable pub held-code : Chart → Kind → ℕ → ℕ → List Instr

@@ -27,15 +27,15 @@ held r x = holdZ x (r .low) (r .high)
 unfoldable pub assign : VarRow → ℕ → ℤ → Step Ctx
 assign r v x = emit (changed v (held r x)) then change (set-value v (held r x))
 
--- the queue after an append, or 9
+-- the queue after an append, or 9 "queue full at post or send"
 unfoldable pub take-queue : Queued → Step Ctx
 take-queue q = require QUEUE-FULL (q .done) then change (set-queue (q .queue))
 
--- "at a send 11 before 9"
+-- "appends an event with an argument": what a post does once its tests are passed, and a send once its entry is written
 unfoldable pub enqueue : ℤ → ℤ → Step Ctx
 enqueue e x = look (λ k. take-queue (appended (k .state .queue) e x))
 
--- an act with the argument a of the event, over the row of its variable
+-- an act with the argument a of the event, over the row of its variable; "at a send 11 before 9"
 unfoldable pub act-on : VarRow → ℤ → Act → Step Ctx
 act-on r a (set-to v x) = assign r v x
 act-on r a (add-to v x) = look (λ k. assign r v (value-of (k .state) v +ℤ x))

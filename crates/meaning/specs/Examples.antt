@@ -120,6 +120,16 @@ chart-filling = record {
   actions = replicate (suc QUEUE) (ac (exit-of 1) (send 1 (pos 0)));
 }
 
+-- an event that null steps follow, one after another: 1 to 2 by the event, then on to 3 and to 4
+unfoldable pub chart-settling : Chart
+chart-settling = record {
+  states = st 0 kind-o 1 ∷ st 0 kind-b 0 ∷ st 0 kind-b 0 ∷ st 0 kind-b 0 ∷ st 0 kind-b 0 ∷ [];
+  vars = [];
+  events = 1;
+  transitions = tr 1 1 always (to 2) ∷ tr 2 0 always (to 3) ∷ tr 3 0 always (to 4) ∷ [];
+  actions = [];
+}
+
 -- a started state: the active states; the slots, the variables and what waits, from their first place on. "Places not in use hold: not
 -- active, -1, 0, and 0 with 0"
 unfoldable pub standing : List ℕ → List ℤ → List ℤ → List (ℤ × ℤ) → State
@@ -148,6 +158,6 @@ unfoldable pub machine-to : List ℤ → ℕ → ℕ → State → Outcome
 machine-to ns n e u = machine-run ns (machine-post ns u (pos e) (pos 0) .after) n
 
 unfoldable pub examples-open : ℕ
-unfolding st tr ac text-K chart-K value-K plan-K chart-two chart-self chart-inside chart-filling queue-of standing gives react-of react-to
+unfolding st tr ac text-K chart-K value-K plan-K chart-two chart-self chart-inside chart-filling chart-settling queue-of standing gives react-of react-to
     machine-to
 examples-open = 0

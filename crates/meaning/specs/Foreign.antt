@@ -1,8 +1,8 @@
--- When a started state is foreign to a chart (01, answer 6), clause by clause, and the plan machine's weaker test. Assumes nothing.
+-- When a started state is foreign to a chart (01, answer 6), clause by clause. Assumes nothing.
 use Prim.Native.Nat.{ℕ, zero, suc}
 use mathlib.Core.Bool.{Bool, true, false, not, cond, _&&_, _||_}
 use mathlib.Core.List.{List, [], _∷_, map}
-use lib.ListN.{length, getD, take, drop}
+use lib.ListN.{length, getD, drop}
 use lib.IntN.{ℤ, pos, negsuc}
 use lib.Signed.{leZ}
 use lib.Dec.{eqb, leb, ltb}
@@ -81,26 +81,13 @@ queue-fits events q = leb (q .len) QUEUE && (every (item-fits events) (waiting q
 unfoldable pub marks-fit : ℕ → State → Bool
 marks-fit states u = every not (drop states (u .active))
 
--- ---- the two tests
+-- ---- the test
 
 -- the chart's test in full: a started state is its own
 unfoldable pub own : Chart → State → Bool
 own c u = legal c u && (marks-fit (length (c .states)) u && (values-fit (c .vars) (u .vars) && (slots-fit c u && queue-fits (c .events) (u .queue))))
 
--- the plan machine tests only "each slot -1 or a state of the plan"
-unfoldable pub plan-slot-fits : ℕ → ℤ → Bool
-plan-slot-fits states (pos d) = ltb d states
-plan-slot-fits states (negsuc n) = eqb n 0
-
-unfoldable pub plan-slots-fit : ℕ → List ℤ → Bool
-plan-slots-fit states slots = every (plan-slot-fits states) (take states slots) && every (eqZ (negsuc 0)) (drop states slots)
-
--- "root active, each slot -1 or a state of the plan, variables, queue and unused places as above"
-unfoldable pub plan-own : ℕ → List VarRow → ℕ → State → Bool
-plan-own states vs events u =
-    is-active u 0 && (marks-fit states u && (values-fit vs (u .vars) && (plan-slots-fit states (u .slots) && queue-fits events (u .queue))))
-
 -- everything above, opened: for statements that compute
 unfoldable pub foreign-open : ℕ
-unfolding children-legal legal-at legal values-fit leads-on slot-fits slots-fit event-fits item-fits is-none queue-fits marks-fit own plan-slot-fits plan-slots-fit plan-own
+unfolding children-legal legal-at legal values-fit leads-on slot-fits slots-fit event-fits item-fits is-none queue-fits marks-fit own
 foreign-open = 0

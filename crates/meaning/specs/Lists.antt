@@ -54,12 +54,7 @@ unfoldable pub map-from : {A B : Type 0} → (ℕ → A → B) → ℕ → List 
 map-from f n [] = []
 map-from f n (x ∷ xs) = f n x ∷ map-from f (suc n) xs
 
--- f of n, which is computed first: what f does with it is then found again where it is asked for twice
-unfoldable pub at-value : {A : Type 0} → (ℕ → A) → ℕ → A
-at-value f zero = f zero
-at-value f (suc n) = f (suc n)
-
 -- everything above, opened: for statements that compute
 unfoldable pub lists-open : ℕ
-unfolding has keep every exists first-that concat-map from every-from padded chunks map-from at-value
+unfolding has keep every exists first-that concat-map from every-from padded chunks map-from
 lists-open = 0

@@ -4,22 +4,20 @@ use Prim.Native.Nat.{ℕ, zero, suc}
 use mathlib.Core.Bool.{Bool, true, false, _&&_}
 use mathlib.Core.List.{List, [], _∷_}
 use lib.ListN.{take, drop}
-use lib.IntN.{ℤ, pos}
-use lib.Dec.{eqb, leb}
-use Rattle.sizes.specs.Sizes.{NULL-STEPS}
-use Rattle.numbers.specs.Reference.{ref}
-use Rattle.queue.specs.Queue.{removed}
+use lib.IntN.{ℤ, pos, negsuc}
+use lib.Dec.{eqb, leb, ltb}
+use Rattle.numbers.specs.Equal.{eqZ}
 use Rattle.queue.specs.declared.Removed.{Removed}
-use Rattle.meaning.specs.Answers.{NOT-A-PLAN, FOREIGN, NOT-STARTED, NO-SUCH-EVENT, UNSETTLED}
+use Rattle.meaning.specs.Answers.{NOT-A-PLAN}
 use Rattle.meaning.specs.declared.State.{State}
-use Rattle.meaning.specs.Steps.{Res, ok, refuse, Step, _then_, require, look, each}
-use Rattle.meaning.specs.Lists.{keep, exists}
+use Rattle.meaning.specs.Steps.{Res, ok, refuse, Step, _then_, each}
+use Rattle.meaning.specs.Lists.{keep, every, exists}
 use Rattle.meaning.specs.Chart.{VarRow}
-use Rattle.meaning.specs.Widget.{Ctx, Slot, empty, holds, is-active, slot, is-empty, is-filled, emit, Entry, taken, begin}
-use Rattle.meaning.specs.Effects.{perform, mark-left, mark-entered, enqueue}
-use Rattle.meaning.specs.Reaction.{guard-holds, if-any}
-use Rattle.meaning.specs.Foreign.{plan-own, event-fits}
-use Rattle.meaning.specs.Calls.{Outcome, refused, outcome, fresh-by, take-front}
+use Rattle.meaning.specs.Widget.{Ctx, Slot, empty, holds, is-active, slot, is-empty, is-filled, emit, Entry, taken}
+use Rattle.meaning.specs.Effects.{perform, mark-left, mark-entered}
+use Rattle.meaning.specs.Reaction.{guard-holds, step-by, settle-in-by, settle-by}
+use Rattle.meaning.specs.Foreign.{values-fit, queue-fits, marks-fit}
+use Rattle.meaning.specs.Calls.{Outcome, Runner, refused, fresh-by, start-steps-by, start-by, tests-by, react-by, run-by, post-by, discard-by}
 use Rattle.meaning.specs.Plan.{Instr, go-in, go-out, skip-out, skip-empty, skip-full, skip-not, does, Head, Plan}
 use Rattle.meaning.specs.WellFormed.{plan-by, well-formed}
 
@@ -106,68 +104,102 @@ unfoldable pub fire-head : Plan → ℤ → Head → Step Ctx
 fire-head p a h = emit (taken (h .transition)) then run-block (p .vars) a (head-block p h)
 
 unfoldable pub plan-step : Plan → ℕ → ℤ → Step Ctx
-plan-step p e a = look (λ k. each (fire-head p a) (chosen-heads p e (k .state)))
+unfolding step-by
+plan-step p e a = step-by (chosen-heads p) (fire-head p) e a
 
--- null steps "until none is enabled"; n more are allowed, then 12
 unfoldable pub plan-settle-in : Plan → ℕ → Step Ctx
-plan-settle-in p zero = look (λ k. if-any (chosen-heads p 0 (k .state)) (λ _. refuse UNSETTLED))
-plan-settle-in p (suc n) = look (λ k. if-any (chosen-heads p 0 (k .state)) (plan-step p 0 (pos 0) then plan-settle-in p n))
+unfolding settle-in-by
+plan-settle-in p n = settle-in-by (chosen-heads p) (plan-step p) n
 
 unfoldable pub plan-settle : Plan → Step Ctx
-plan-settle p = plan-settle-in p NULL-STEPS
+unfolding settle-by plan-settle-in
+plan-settle p = settle-by (chosen-heads p) (plan-step p)
+
+-- ---- "For 6 the plan machine tests only .."
+
+-- the plan machine tests only "each slot -1 or a state of the plan"
+unfoldable pub plan-slot-fits : ℕ → ℤ → Bool
+plan-slot-fits states (pos d) = ltb d states
+plan-slot-fits states (negsuc n) = eqb n 0
+
+unfoldable pub plan-slots-fit : ℕ → List ℤ → Bool
+plan-slots-fit states slots = every (plan-slot-fits states) (take states slots) && every (eqZ (negsuc 0)) (drop states slots)
+
+-- "root active, each slot -1 or a state of the plan, variables, queue and unused places as above"
+unfoldable pub plan-own : ℕ → List VarRow → ℕ → State → Bool
+plan-own states vs events u =
+    is-active u 0 && (marks-fit states u && (values-fit vs (u .vars) && (plan-slots-fit states (u .slots) && queue-fits events (u .queue))))
 
 -- ---- the calls over a well-formed plan
 
--- "the start block", then null steps
+-- "the start block"
+unfoldable pub plan-enter : Plan → Step Ctx
+plan-enter p = run-block (p .vars) (pos 0) (take (p .start-length) (p .code))
+
+abbrev pub by-plan : Plan → Runner
+by-plan p = record {
+  anew = fresh-by (p .vars);
+  entering = plan-enter p;
+  owning = plan-own (p .states) (p .vars) (p .events);
+  events = p .events;
+  one = plan-step p;
+  settling = plan-settle p;
+}
+
 unfoldable pub plan-start-steps : Plan → Step Ctx
-plan-start-steps p = run-block (p .vars) (pos 0) (take (p .start-length) (p .code)) then plan-settle p
+unfolding start-steps-by plan-enter
+plan-start-steps p = start-steps-by (by-plan p)
 
 unfoldable pub plan-start : Plan → State → ℕ → Outcome
-plan-start p u n = outcome u (plan-start-steps p (begin (fresh-by (p .vars)) n))
+unfolding start-by plan-start-steps
+plan-start p u n = start-by (by-plan p) u n
 
--- "then 7, 6"; "For 6 the plan machine tests only .."
 unfoldable pub plan-tests : Plan → State → Step Ctx
-plan-tests p u = require NOT-STARTED (u .started) then require FOREIGN (plan-own (p .states) (p .vars) (p .events) u)
+unfolding tests-by
+plan-tests p u = tests-by (by-plan p) u
 
 unfoldable pub plan-react : Plan → Removed → Step Ctx
-plan-react p r = take-front r then plan-step p (ref (r .front .event)) (r .front .arg) then plan-settle p
+unfolding react-by
+plan-react p r = react-by (by-plan p) r
 
 unfoldable pub plan-run : Plan → State → ℕ → Outcome
-plan-run p u n = outcome u ((plan-tests p u then plan-react p (removed (u .queue))) (begin u n))
+unfolding run-by plan-tests plan-react
+plan-run p u n = run-by (by-plan p) u n
 
 unfoldable pub plan-post : Plan → State → ℤ → ℤ → Outcome
-plan-post p u e a = outcome u ((plan-tests p u then require NO-SUCH-EVENT (event-fits (p .events) e a) then enqueue e a) (begin u 0))
+unfolding post-by plan-tests
+plan-post p u e a = post-by (by-plan p) u e a
 
 unfoldable pub plan-discard : Plan → State → Outcome
-plan-discard p u = outcome u ((plan-tests p u then take-front (removed (u .queue))) (begin u 0))
+unfolding discard-by plan-tests
+plan-discard p u = discard-by (by-plan p) u
 
 -- ---- over any list of numbers: "plan 5 first"; 5 "a plan is cut short or not well formed; numbers past its end are ignored"
 
-unfoldable pub machine-start : List ℤ → State → ℕ → Outcome
-machine-start ns u n = elim (well-formed ns) [
-  | true ↦ plan-start (plan-by ns) u n
+-- the call is a function, so that what is not a plan is not run
+unfoldable pub if-well-formed : List ℤ → State → (Plan → Outcome) → Outcome
+if-well-formed ns u call = elim (well-formed ns) [
+  | true ↦ call (plan-by ns)
   | false ↦ refused NOT-A-PLAN 0 u
 ]
+
+unfoldable pub machine-start : List ℤ → State → ℕ → Outcome
+unfolding if-well-formed
+machine-start ns u n = if-well-formed ns u (λ p. plan-start p u n)
 
 unfoldable pub machine-run : List ℤ → State → ℕ → Outcome
-machine-run ns u n = elim (well-formed ns) [
-  | true ↦ plan-run (plan-by ns) u n
-  | false ↦ refused NOT-A-PLAN 0 u
-]
+unfolding if-well-formed
+machine-run ns u n = if-well-formed ns u (λ p. plan-run p u n)
 
 unfoldable pub machine-post : List ℤ → State → ℤ → ℤ → Outcome
-machine-post ns u e a = elim (well-formed ns) [
-  | true ↦ plan-post (plan-by ns) u e a
-  | false ↦ refused NOT-A-PLAN 0 u
-]
+unfolding if-well-formed
+machine-post ns u e a = if-well-formed ns u (λ p. plan-post p u e a)
 
 unfoldable pub machine-discard : List ℤ → State → Outcome
-machine-discard ns u = elim (well-formed ns) [
-  | true ↦ plan-discard (plan-by ns) u
-  | false ↦ refused NOT-A-PLAN 0 u
-]
+unfolding if-well-formed
+machine-discard ns u = if-well-formed ns u (λ p. plan-discard p u)
 
 -- everything above, opened: for statements that compute
 unfoldable pub machine-open : ℕ
-unfolding passing go-on on-if holds-it exec-now exec-at exec run-code end-code run-block head-enabled spans-meet thin-heads chosen-heads head-block fire-head plan-step plan-settle-in plan-settle plan-start-steps plan-start plan-tests plan-react plan-run plan-post plan-discard machine-start machine-run machine-post machine-discard
+unfolding passing go-on on-if holds-it exec-now exec-at exec run-code end-code run-block head-enabled spans-meet thin-heads chosen-heads head-block fire-head plan-step plan-settle-in plan-settle plan-slot-fits plan-slots-fit plan-own plan-enter plan-start-steps plan-start plan-tests plan-react plan-run plan-post plan-discard if-well-formed machine-start machine-run machine-post machine-discard
 machine-open = 0

@@ -1,5 +1,6 @@
 -- One reaction over the chart's tree (01, "One reaction"): enabled, chosen, firing, a step, null steps.
--- No plan, block or instruction. Assumes nothing.
+-- A step and null steps are defined once, over how transitions are chosen and how one fires. No plan, block or instruction.
+-- Assumes nothing.
 use Prim.Native.Nat.{ℕ, zero, suc}
 use mathlib.Core.Bool.{Bool, true, false, cond, _&&_}
 use mathlib.Core.List.{List, [], _∷_, _++_, reverse}
@@ -84,22 +85,37 @@ fire c a t = emit (taken t) then fire-to c a t (trans-row c t .source) (trans-ro
 -- ---- steps
 
 -- "They fire in that order"
-unfoldable pub step : Chart → ℕ → ℤ → Step Ctx
-step c e a = look (λ k. each (fire c a) (chosen c e (k .state)))
+unfoldable pub step-by : {T : Type 0} → (ℕ → State → List T) → (ℤ → T → Step Ctx) → ℕ → ℤ → Step Ctx
+step-by choosing firing e a = look (λ k. each (firing a) (choosing e (k .state)))
 
 unfoldable pub if-any : {A S : Type 0} → List A → Step S → Step S
 if-any [] f = skip
 if-any (x ∷ xs) f = f
 
 -- "null steps follow: trigger 0, argument 0, all chosen fire, until none is enabled"; n more are allowed, then 12
+unfoldable pub settle-in-by : {T : Type 0} → (ℕ → State → List T) → (ℕ → ℤ → Step Ctx) → ℕ → Step Ctx
+settle-in-by choosing one zero = look (λ k. if-any (choosing 0 (k .state)) (λ _. refuse UNSETTLED))
+settle-in-by choosing one (suc n) = look (λ k. if-any (choosing 0 (k .state)) (one 0 (pos 0) then settle-in-by choosing one n))
+
+unfoldable pub settle-by : {T : Type 0} → (ℕ → State → List T) → (ℕ → ℤ → Step Ctx) → Step Ctx
+unfolding settle-in-by
+settle-by choosing one = settle-in-by choosing one NULL-STEPS
+
+-- ---- steps over the chart
+
+unfoldable pub step : Chart → ℕ → ℤ → Step Ctx
+unfolding step-by
+step c e a = step-by (chosen c) (fire c) e a
+
 unfoldable pub settle-in : Chart → ℕ → Step Ctx
-settle-in c zero = look (λ k. if-any (chosen c 0 (k .state)) (λ _. refuse UNSETTLED))
-settle-in c (suc n) = look (λ k. if-any (chosen c 0 (k .state)) (step c 0 (pos 0) then settle-in c n))
+unfolding settle-in-by
+settle-in c n = settle-in-by (chosen c) (step c) n
 
 unfoldable pub settle : Chart → Step Ctx
-settle c = settle-in c NULL-STEPS
+unfolding settle-by settle-in
+settle c = settle-by (chosen c) (step c)
 
 -- everything above, opened: for statements that compute
 unfoldable pub reaction-open : ℕ
-unfolding compare-by guard-holds enabled-by enabled choosing-order meets thin chosen leave-active leave-all fire-to fire step if-any settle-in settle
+unfolding compare-by guard-holds enabled-by enabled choosing-order meets thin chosen leave-active leave-all fire-to fire step-by if-any settle-in-by settle-by step settle-in settle
 reaction-open = 0

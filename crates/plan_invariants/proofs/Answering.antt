@@ -14,10 +14,10 @@ use Rattle.invariants.specs.CallLists.{Call, to-discard, to-post, to-run, to-st
 use Rattle.laws.proofs.Lists.{Each, none-left, one-more, or-right}
 use Rattle.meaning.specs.Calls.{Outcome, fresh-by, outcome, refused, take-front}
 use Rattle.meaning.specs.Effects.{enqueue}
-use Rattle.meaning.specs.Foreign.{event-fits, plan-own}
+use Rattle.meaning.specs.Foreign.{event-fits}
 use Rattle.meaning.specs.Lists.{has}
 use Rattle.meaning.specs.Machine.{machine-discard, machine-post, machine-run, machine-start, plan-discard, plan-post, plan-react, plan-run}
-use Rattle.meaning.specs.Machine.{plan-settle, plan-start, plan-start-steps, plan-tests, run-block}
+use Rattle.meaning.specs.Machine.{plan-settle, plan-start, plan-start-steps, plan-tests, run-block, plan-own}
 use Rattle.meaning.specs.Plan.{Plan}
 use Rattle.meaning.specs.Steps.{Res, Step, _then_, bind, ok, refuse, require}
 use Rattle.meaning.specs.WellFormed.{plan-by, well-formed}

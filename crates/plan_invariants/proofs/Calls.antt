@@ -14,10 +14,10 @@ use Rattle.invariants.proofs.Values.{empty-fits, fits-len, removed-fits}
 use Rattle.laws.proofs.Lists.{Each, and-both, and-left, and-right, every-replicate, none-left, one-more, same-or}
 use Rattle.meaning.specs.Calls.{Outcome, fresh-by, outcome, refused, take-front}
 use Rattle.meaning.specs.Effects.{enqueue}
-use Rattle.meaning.specs.Foreign.{event-fits, marks-fit, plan-own, plan-slot-fits, plan-slots-fit, queue-fits, values-fit}
+use Rattle.meaning.specs.Foreign.{event-fits, marks-fit, queue-fits, values-fit}
 use Rattle.meaning.specs.Lists.{every, padded}
 use Rattle.meaning.specs.Machine.{plan-discard, plan-post, plan-react, plan-run, plan-settle, plan-start, plan-start-steps, plan-step}
-use Rattle.meaning.specs.Machine.{plan-tests, run-block}
+use Rattle.meaning.specs.Machine.{plan-tests, run-block, plan-own, plan-slot-fits, plan-slots-fit}
 use Rattle.meaning.specs.Plan.{Plan}
 use Rattle.meaning.specs.Rules.{row-fits, within-row}
 use Rattle.meaning.specs.Steps.{Res, Step, _then_, bind, ok, refuse, require}

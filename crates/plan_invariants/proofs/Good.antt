@@ -17,9 +17,9 @@ use Rattle.invariants.proofs.Values.{appended-fits, held-in-row, values-fit-of,
 use Rattle.laws.proofs.Lists.{and-both, and-left, and-right, each-at, le-or-lt}
 use Rattle.meaning.specs.Chart.{no-var}
 use Rattle.meaning.specs.Effects.{act-on, act-var, assign, enqueue, held, mark-entered, mark-left, perform, store-in, take-queue}
-use Rattle.meaning.specs.Foreign.{event-fits, marks-fit, plan-slot-fits, plan-slots-fit, queue-fits, values-fit}
+use Rattle.meaning.specs.Foreign.{event-fits, marks-fit, queue-fits, values-fit}
 use Rattle.meaning.specs.Lists.{every}
-use Rattle.meaning.specs.Machine.{exec-now, holds-it}
+use Rattle.meaning.specs.Machine.{exec-now, holds-it, plan-slot-fits, plan-slots-fit}
 use Rattle.meaning.specs.Plan.{Plan}
 use Rattle.meaning.specs.Rules.{row-fits, within-row}
 use Rattle.meaning.specs.Steps.{_then_, bind, look, require}

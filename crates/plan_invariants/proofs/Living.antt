@@ -14,9 +14,9 @@ use Rattle.invariants.proofs.Good.{Sized}
 use Rattle.laws.proofs.Lists.{Each, none-left, one-more, same-or}
 use Rattle.meaning.specs.Calls.{outcome, refused, take-front}
 use Rattle.meaning.specs.Effects.{enqueue}
-use Rattle.meaning.specs.Foreign.{event-fits, plan-own}
+use Rattle.meaning.specs.Foreign.{event-fits}
 use Rattle.meaning.specs.Lists.{has}
-use Rattle.meaning.specs.Machine.{plan-discard, plan-post, plan-react, plan-run, plan-tests}
+use Rattle.meaning.specs.Machine.{plan-discard, plan-post, plan-react, plan-run, plan-tests, plan-own}
 use Rattle.meaning.specs.Plan.{Plan}
 use Rattle.meaning.specs.Steps.{Step, _then_, bind, refuse, require}
 use Rattle.meaning.specs.WellFormed.{plan-by, well-formed}

@@ -10,8 +10,8 @@ use borrow.Author.Tests.{eqb-true}
 use Rattle.invariants.proofs.Good.{Sized}
 use Rattle.meaning.specs.Calls.{Outcome, outcome, refused}
 use Rattle.meaning.specs.Effects.{enqueue}
-use Rattle.meaning.specs.Foreign.{event-fits, plan-own}
-use Rattle.meaning.specs.Machine.{machine-post, machine-run, plan-post, plan-react, plan-run, plan-tests}
+use Rattle.meaning.specs.Foreign.{event-fits}
+use Rattle.meaning.specs.Machine.{machine-post, machine-run, plan-post, plan-react, plan-run, plan-tests, plan-own}
 use Rattle.meaning.specs.Plan.{Plan}
 use Rattle.meaning.specs.Steps.{Step, _then_, bind, ok, refuse, require}
 use Rattle.meaning.specs.WellFormed.{plan-by, well-formed}

@@ -16,9 +16,9 @@ use Rattle.invariants.proofs.Good.{Sized}
 use Rattle.laws.proofs.Lists.{le-or-lt, or-right}
 use Rattle.meaning.specs.Calls.{Outcome, outcome, refused, take-front}
 use Rattle.meaning.specs.Effects.{enqueue, take-queue}
-use Rattle.meaning.specs.Foreign.{event-fits, plan-own}
+use Rattle.meaning.specs.Foreign.{event-fits}
 use Rattle.meaning.specs.Lists.{has}
-use Rattle.meaning.specs.Machine.{machine-post, machine-run, plan-post, plan-react, plan-run, plan-tests}
+use Rattle.meaning.specs.Machine.{machine-post, machine-run, plan-post, plan-react, plan-run, plan-tests, plan-own}
 use Rattle.meaning.specs.Plan.{Plan}
 use Rattle.meaning.specs.Steps.{Res, _then_, bind, look, ok, refuse, require}
 use Rattle.meaning.specs.WellFormed.{plan-by, well-formed}

@@ -17,10 +17,10 @@ use Rattle.invariants.proofs.Good.{Sized}
 use Rattle.laws.proofs.Lists.{Each, and-left, and-right, none-left, one-more}
 use Rattle.meaning.specs.Calls.{fresh-by, outcome, refused, take-front}
 use Rattle.meaning.specs.Effects.{enqueue, mark-entered}
-use Rattle.meaning.specs.Foreign.{event-fits, plan-own}
+use Rattle.meaning.specs.Foreign.{event-fits}
 use Rattle.meaning.specs.Lists.{every}
 use Rattle.meaning.specs.Machine.{exec, exec-at, exec-now, go-on, passing, plan-discard, plan-post, plan-react, plan-run, plan-settle}
-use Rattle.meaning.specs.Machine.{plan-start, plan-start-steps, plan-tests, run-block, run-code}
+use Rattle.meaning.specs.Machine.{plan-start, plan-start-steps, plan-tests, run-block, run-code, plan-own}
 use Rattle.meaning.specs.Plan.{Plan}
 use Rattle.meaning.specs.Steps.{Res, Step, _then_, bind, each, ok, refuse, require}
 use Rattle.meaning.specs.WellFormed.{plan-by, well-formed}

@@ -19,7 +19,6 @@ use Rattle.meaning.specs.declared.chart.Owner.{Owner}
 use Rattle.meaning.specs.declared.chart.Owner.the-variants.{DefaultOf as default-of, EntryOf as entry-of, ExitOf as exit-of}
 use Rattle.meaning.specs.declared.plan.Instr.the-variants.{Does as does}
 use Rattle.plan_laws.proofs.Owned.{acts-many, entries, exits, owned}
-use Rattle.plan_laws.proofs.Pieces.{at-value-is}
 use Rattle.plan_laws.proofs.Totals.{length-collected, length-from, total, total-collected, total-kept, total-mapped, total-most}
 use Rattle.plan_laws.proofs.Totals.{total-reversed, total-same, total-sum}
 
@@ -45,9 +44,9 @@ module _ (c : Chart) where
 
   visit-long : (v : Visit) → length (visit-code c v) ≡ (1 + acts-many c (entry-of (state-of v))) + due v
   unfolding visit-code due state-of
-  visit-long (plain s) = omega (arith, ap length (at-value-is (enter-code c) s), enter-long s)
-  visit-long (by-default p s) = rw (at-value-is (λ q. code-acts c (default-of q)) p, at-value-is (enter-code c) s)
-      (omega (arith, length-append (code-acts c (default-of p)) (enter-code c s), acts-long (default-of p), enter-long s))
+  visit-long (plain s) = omega (arith, enter-long s)
+  visit-long (by-default p s) =
+      omega (arith, length-append (code-acts c (default-of p)) (enter-code c s), acts-long (default-of p), enter-long s)
 
   held-long : (x : Kind) (p d : ℕ) → length (held-code c x p d) ≤ 2 + acts-many c (entry-of d)
   unfolding held-code

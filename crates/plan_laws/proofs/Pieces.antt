@@ -18,7 +18,7 @@ use Rattle.meaning.specs.Chart.{Chart}
 use Rattle.meaning.specs.Compile.{arms, arms-of, block, block-to, code-acts, default-arm, enter-code, exit-code, exits-code, held-code}
 use Rattle.meaning.specs.Compile.{past-if-out, start-block, stored-arm, stored-code, towards-code, visit-code}
 use Rattle.meaning.specs.Effects.{acts-of, o-parent}
-use Rattle.meaning.specs.Lists.{concat-map, at-value}
+use Rattle.meaning.specs.Lists.{concat-map}
 use Rattle.meaning.specs.Entry.{Visit, Way, all-below, by-default, by-defaults, plain, state-of, towards, towards-owner}
 use Rattle.meaning.specs.Tree.{descendants, is-o, kind-of, parent-of, scope, trans-row}
 use Rattle.meaning.specs.declared.chart.Act.{Act}
@@ -36,12 +36,6 @@ use Rattle.numbers.specs.declared.Place.the-variants.{At as holds, Empty as emp
 use Rattle.plan_laws.proofs.Below.{descendants-each, visits-each}
 use Rattle.plan_laws.proofs.Fits.{Act-fits, Piece, Slot-fits, no-piece, one-instr, piece-joined, pieces-joined, skip-empty-piece}
 use Rattle.plan_laws.proofs.Fits.{skip-full-piece, skip-not-piece, skip-out-piece}
-
--- f of n, whichever way it is computed
-pub at-value-is : {A : Type 0} (f : ℕ → A) (n : ℕ) → at-value f n ≡ f n
-unfolding at-value
-at-value-is f zero = refl
-at-value-is f (suc n) = refl
 
 -- the counts of a chart's plan
 pub record Counts-of (c : Chart) (k : Counts) : Type 0 where
@@ -103,10 +97,8 @@ module _ (c : Chart) (h : Sound-chart c) (z : Sized-chart c) (k : Counts) (q : C
 
   visit-piece : (v : Visit) → state-of v < length (c .states) → Piece k (visit-code c v)
   unfolding visit-code state-of
-  visit-piece (plain s) l = subst (Piece k) (sym (at-value-is (enter-code c) s)) (enter-piece s l)
-  visit-piece (by-default p s) l = piece-joined k _ _
-      (subst (Piece k) (sym (at-value-is (λ o. code-acts c (default-of o)) p)) (acts-piece (default-of p)))
-      (subst (Piece k) (sym (at-value-is (enter-code c) s)) (enter-piece s l))
+  visit-piece (plain s) l = enter-piece s l
+  visit-piece (by-default p s) l = piece-joined k _ _ (acts-piece (default-of p)) (enter-piece s l)
 
   visits-piece : (way : ℕ → Way) → Sound c way → (s : ℕ) → s < length (c .states) → Piece k (concat-map (visit-code c) (all-below c way s))
   visits-piece way g s l = pieces-joined k (visit-code c) (λ v. state-of v < length (c .states)) visit-piece _ (visits-each c h s l way g)

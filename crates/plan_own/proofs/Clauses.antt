@@ -20,7 +20,8 @@ use Rattle.meaning.specs.Tree.{var-row}
 use Rattle.meaning.specs.Chart.{no-var}
 use Rattle.meaning.specs.Value.{VAR-ROW, var-by}
 use Rattle.meaning.specs.Widget.{is-active}
-use Rattle.meaning.specs.Foreign.{marks-fit, values-fit, queue-fits, plan-slot-fits, plan-slots-fit, plan-own}
+use Rattle.meaning.specs.Foreign.{marks-fit, values-fit, queue-fits}
+use Rattle.meaning.specs.Machine.{plan-slot-fits, plan-slots-fit, plan-own}
 use Rattle.meaning.specs.WellFormed.{SIX, counts-of, plan-by}
 use Rattle.plan_rows.specs.Rows.{row}
 use Rattle.plan_rows.proofs.Rows.{vars-length, var-of-plan, var-there}

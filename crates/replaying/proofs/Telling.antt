@@ -16,9 +16,9 @@ use Rattle.queue.proofs.Numbers.{held-lent, numbers-long}
 use Rattle.invariants.proofs.Good.{Sized}
 use Rattle.invariants.proofs.Values.{fits-len}
 use Rattle.meaning.specs.Calls.{Outcome, outcome, refused}
-use Rattle.meaning.specs.Foreign.{event-fits, plan-own}
+use Rattle.meaning.specs.Foreign.{event-fits}
 use Rattle.meaning.specs.Lists.{padded}
-use Rattle.meaning.specs.Machine.{plan-tests}
+use Rattle.meaning.specs.Machine.{plan-tests, plan-own}
 use Rattle.meaning.specs.Plan.{Plan}
 use Rattle.meaning.specs.Steps.{_then_, bind, require}
 use Rattle.meaning.specs.Widget.{ENTRY, begin, is-active, set-queue}

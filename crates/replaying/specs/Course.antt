@@ -9,7 +9,7 @@ use lib.IntN.{ℤ, pos}
 use Rattle.sizes.specs.Sizes.{STATES, VARIABLES}
 use Rattle.queue.specs.Queue.{none}
 use Rattle.queue.specs.declared.Item.{Item}
-use Rattle.meaning.specs.Foreign.{plan-own}
+use Rattle.meaning.specs.Machine.{plan-own}
 use Rattle.meaning.specs.Lists.{padded}
 use Rattle.meaning.specs.Plan.{Plan}
 use Rattle.meaning.specs.declared.State.{State}

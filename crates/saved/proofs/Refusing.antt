@@ -13,9 +13,9 @@ use Rattle.meaning.specs.Chart.{Chart}
 use Rattle.meaning.specs.Plan.{Plan}
 use Rattle.meaning.specs.Steps.{refuse, Step, _then_, bind, require}
 use Rattle.meaning.specs.Widget.{Ctx, is-active}
-use Rattle.meaning.specs.Foreign.{own, legal, plan-own}
+use Rattle.meaning.specs.Foreign.{own, legal}
 use Rattle.meaning.specs.Calls.{outcome, refused, tests, run, post, discard}
-use Rattle.meaning.specs.Machine.{plan-tests, plan-run, plan-post, plan-discard}
+use Rattle.meaning.specs.Machine.{plan-tests, plan-run, plan-post, plan-discard, plan-own}
 use Rattle.promises.specs.Saved.{states-widget, no-widget, widget-of}
 
 -- what the calls answer to a widget with no state active

@@ -12,7 +12,7 @@ use lib.ListN.{length, getD, take, drop}
 use lib.Seq.{length-take-le, getD-take}
 use Rattle.sizes.specs.Sizes.{STATES}
 use Rattle.meaning.specs.Lists.{every}
-use Rattle.meaning.specs.Foreign.{plan-slot-fits}
+use Rattle.meaning.specs.Machine.{plan-slot-fits}
 use Rattle.widget.proofs.Every.{every-more, every-no, every-done}
 use Rattle.plan_own.proofs.slots_fit.Statement.{statement}
 use Rattle.plan_own.proofs.slots_fit.Tie as tie

@@ -41,8 +41,8 @@ enter-requires c κs =
 returns : tie.Need-returns
 unfolding start-steps
 returns c =
-    then-stop _ (c .before .before .before .enter .ensures .1
-    (at-start (c .before .before .before .before .before .before .before .before))) (c .if1 .taken)
+    then-stop _ (then-stop _ (c .before .before .before .enter .ensures .1
+    (at-start (c .before .before .before .before .before .before .before .before))) (c .if1 .taken)) (c .if1 .taken)
 
 by-defaults-requires : tie.Need-by-defaults-requires
 by-defaults-requires c κs = (
@@ -54,10 +54,9 @@ by-defaults-requires c κs = (
 returns-2 : tie.Need-returns-2
 unfolding start-steps
 returns-2 c =
-    then-on (else1-from-then2 c .before .before .before .enter .ensures .1 (at-start (start-from-then2 c)))
+    then-stop _ (then-on (else1-from-then2 c .before .before .before .enter .ensures .1 (at-start (start-from-then2 c)))
     (else1-from-then2 c .if1 .left)
-    (then-stop _ (c .before .before .before .by-defaults .ensures .1 (at-start (start-from-then2 c)))
-    (c .if2 .taken))
+    (c .before .before .before .by-defaults .ensures .1 (at-start (start-from-then2 c)))) (c .if2 .taken)
 
 settle-requires : tie.Need-settle-requires
 settle-requires c κs =
@@ -74,11 +73,11 @@ settle-requires c κs =
 returns-3 : tie.Need-returns-3
 unfolding start-steps
 returns-3 c =
-    then-on (else1-from-settle-arg5 (c .before .before) .before .before .before .enter .ensures .1
+    then-on (then-on (else1-from-settle-arg5 (c .before .before) .before .before .before .enter .ensures .1
     (at-start (start-from-trace3 c))) (else1-from-settle-arg5 (c .before .before) .if1 .left)
-    (then-on (else2-from-settle-arg5 (c .before .before) .before .before .before .by-defaults .ensures .1
-    (at-start (start-from-trace3 c))) (else2-from-settle-arg5 (c .before .before) .if2 .left)
-    (c .before .settle .ensures))
+    (else2-from-settle-arg5 (c .before .before) .before .before .before .by-defaults .ensures .1
+    (at-start (start-from-trace3 c)))) (else2-from-settle-arg5 (c .before .before) .if2 .left)
+    (c .before .settle .ensures)
 
 pub begin-spec : {M : Type 1} → statement M
 begin-spec =
