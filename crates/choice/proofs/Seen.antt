@@ -13,12 +13,12 @@ use Rattle.meaning.specs.declared.chart.Guard.the-variants.{Always as always, C
 use Rattle.meaning.specs.Lists.{keep}
 use Rattle.meaning.specs.Chart.{Chart}
 use Rattle.meaning.specs.Tree.{trans-row, all-transitions}
-use Rattle.meaning.specs.Widget.{is-active, value-of}
+use Rattle.meaning.specs.Widget.{is-active, value-at}
 use Rattle.meaning.specs.Reaction.{guard-holds, enabled-by, enabled, choosing-order, thin, chosen}
 use Rattle.choice.specs.Choice.{seen}
 
 pub guard-seen : (g : Guard) (u w : State) → u .vars ≡ w .vars → guard-holds g u ≡ guard-holds g w
-unfolding guard-holds value-of
+unfolding guard-holds value-at
 guard-seen always u w e = refl
 guard-seen (compares v s x) u w e = rw e
 

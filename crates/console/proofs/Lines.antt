@@ -8,11 +8,11 @@ use Prim.Native.Nat.{ℕ, zero}
 use lib.Dec.{ltb, eqb}
 use Rattle.meaning.specs.declared.Num.{Num}
 use Rattle.meaning.specs.declared.Num.the-variants as num
-use Rattle.meaning.specs.declared.Line.{Line}
-use Rattle.meaning.specs.declared.Line.the-variants.{Wrong}
-use Rattle.meaning.specs.Number.{value, natural, capped, natural-of, plain, minus, number-of, alone, unless-zero, signed}
+use Rattle.meaning.specs.declared.Input.{Input}
+use Rattle.meaning.specs.declared.Input.the-variants.{Wrong}
+use Rattle.meaning.specs.Number.{value, natural, capped, natural-of, with-no-sign, minus, number-of, alone, unless-zero, signed}
 use Rattle.meaning.specs.Split.{TAB, Parts, all, cut, split, fields}
-use Rattle.meaning.specs.Program.{line-by, line-of}
+use Rattle.meaning.specs.Program.{input-by, input-of}
 use Rattle.console.specs.declared.scan.Part.{Part}
 use Rattle.console.specs.declared.scan.Part.the-variants.{Start, Minus, Zero, Plain, Negative, Broken}
 use Rattle.console.specs.declared.scan.Scan.{Scan}
@@ -43,10 +43,10 @@ module _ (b w : ℕ) (bs : List ℕ) (p : Part) (f : Option ℕ → Num) (n : f 
   digit-on false false = ih
 
 -- digits after a value, with no sign and behind a minus
-plain-on : (v : ℕ) (bs : List ℕ) → read (Plain v) bs ≡ plain (capped (value v bs))
+plain-on : (v : ℕ) (bs : List ℕ) → read (Plain v) bs ≡ with-no-sign (capped (value v bs))
 unfolding part-on part-fed part-number value capped
 plain-on v [] = refl
-plain-on v (b ∷ bs) = digit-on b (grown v b) bs (Plain (grown v b)) (λ o. plain (capped o)) refl (plain-on (grown v b) bs) (ltb b 48) (ltb 57 b)
+plain-on v (b ∷ bs) = digit-on b (grown v b) bs (Plain (grown v b)) (λ o. with-no-sign (capped o)) refl (plain-on (grown v b) bs) (ltb b 48) (ltb 57 b)
 
 minus-on : (v : ℕ) (bs : List ℕ) → read (Negative v) bs ≡ minus (capped (value v bs))
 unfolding part-on part-fed part-number value capped
@@ -54,7 +54,7 @@ minus-on v [] = refl
 minus-on v (b ∷ bs) = digit-on b (grown v b) bs (Negative (grown v b)) (λ o. minus (capped o)) refl (minus-on (grown v b) bs) (ltb b 48) (ltb 57 b)
 
 -- "no leading zero": 0 alone
-zero-on : (bs : List ℕ) → read Zero bs ≡ plain (capped (alone bs))
+zero-on : (bs : List ℕ) → read Zero bs ≡ with-no-sign (capped (alone bs))
 unfolding part-on part-fed part-number capped
 zero-on [] = refl
 zero-on (b ∷ bs) = broken bs
@@ -74,11 +74,11 @@ minus-first (b ∷ bs) = go (eqb b ZERO)
     go true = broken bs ∙ zero-behind bs
     go false = minus-on 0 (b ∷ bs)
 
-plain-first : (b : ℕ) (bs : List ℕ) → read (cond (eqb b ZERO) Zero (if-digit b (Plain (grown 0 b)))) bs ≡ plain (natural-of (b ∷ bs))
+plain-first : (b : ℕ) (bs : List ℕ) → read (cond (eqb b ZERO) Zero (if-digit b (Plain (grown 0 b)))) bs ≡ with-no-sign (natural-of (b ∷ bs))
 unfolding part-on part-fed natural-of natural
 plain-first b bs = go (eqb b ZERO)
   where
-    go : (t : Bool) → read (cond t Zero (if-digit b (Plain (grown 0 b)))) bs ≡ plain (capped (unless-zero t bs (b ∷ bs)))
+    go : (t : Bool) → read (cond t Zero (if-digit b (Plain (grown 0 b)))) bs ≡ with-no-sign (capped (unless-zero t bs (b ∷ bs)))
     go true = zero-on bs
     go false = plain-on 0 (b ∷ bs)
 
@@ -100,28 +100,28 @@ more-on [] = refl
 more-on (b ∷ bs) = more-on bs
 
 -- in the argument: a further field makes the line wrong
-abbrev unless-more : List (List ℕ) → Line → Line
+abbrev unless-more : List (List ℕ) → Input → Input
 unless-more [] l = l
 unless-more (x ∷ xs) l = Wrong
 
 argument-on : (e p : Part) (bs : List ℕ) → line-at (scan-on (Argument e p) bs)
-    ≡ unless-more (split TAB bs .rest) (line-by (part-number e) (read p (split TAB bs .first)))
+    ≡ unless-more (split TAB bs .rest) (input-by (part-number e) (read p (split TAB bs .first)))
 unfolding scan-on fed line-at split part-on
 argument-on e p [] = refl
 argument-on e p (b ∷ bs) = go (eqb b TAB) (split TAB bs) (argument-on e (part-fed p b) bs)
   where
-    go : (t : Bool) (q : Parts) → line-at (scan-on (Argument e (part-fed p b)) bs) ≡ unless-more (q .rest) (line-by (part-number e) (read (part-fed p b) (q .first)))
-        → line-at (scan-on (cond t More (Argument e (part-fed p b))) bs) ≡ unless-more (cut t b q .rest) (line-by (part-number e) (read p (cut t b q .first)))
+    go : (t : Bool) (q : Parts) → line-at (scan-on (Argument e (part-fed p b)) bs) ≡ unless-more (q .rest) (input-by (part-number e) (read (part-fed p b) (q .first)))
+        → line-at (scan-on (cond t More (Argument e (part-fed p b))) bs) ≡ unless-more (cut t b q .rest) (input-by (part-number e) (read p (cut t b q .first)))
     go true q ih = more-on bs
     go false q ih = ih
 
 -- in the event: the argument is the one further field
-abbrev with-fields : Part → List (List ℕ) → Line
+abbrev with-fields : Part → List (List ℕ) → Input
 with-fields e [] = Wrong
-with-fields e (a ∷ []) = line-by (part-number e) (number-of a)
+with-fields e (a ∷ []) = input-by (part-number e) (number-of a)
 with-fields e (a ∷ b ∷ more) = Wrong
 
-from-tab : (e : Part) (x : List ℕ) (r : List (List ℕ)) → unless-more r (line-by (part-number e) (read Start x)) ≡ with-fields e (x ∷ r)
+from-tab : (e : Part) (x : List ℕ) (r : List (List ℕ)) → unless-more r (input-by (part-number e) (read Start x)) ≡ with-fields e (x ∷ r)
 from-tab e x [] = rw (part-reads x)
 from-tab e x (y ∷ r) = refl
 
@@ -131,20 +131,20 @@ event-on p [] = refl
 event-on p (b ∷ bs) = go (eqb b TAB) (split TAB bs) (argument-on p Start bs) (event-on (part-fed p b) bs)
   where
     go : (t : Bool) (q : Parts)
-        → line-at (scan-on (Argument p Start) bs) ≡ unless-more (q .rest) (line-by (part-number p) (read Start (q .first)))
+        → line-at (scan-on (Argument p Start) bs) ≡ unless-more (q .rest) (input-by (part-number p) (read Start (q .first)))
         → line-at (scan-on (Event (part-fed p b)) bs) ≡ with-fields (part-on (part-fed p b) (q .first)) (q .rest)
         → line-at (scan-on (cond t (Argument p Start) (Event (part-fed p b))) bs) ≡ with-fields (part-on p (cut t b q .first)) (cut t b q .rest)
     go true q arg ih = arg ∙ from-tab p (q .first) (q .rest)
     go false q arg ih = ih
 
-from-start : (x : List ℕ) (r : List (List ℕ)) → with-fields (part-on Start x) r ≡ line-of (x ∷ r)
-unfolding line-of
+from-start : (x : List ℕ) (r : List (List ℕ)) → with-fields (part-on Start x) r ≡ input-of (x ∷ r)
+unfolding input-of
 from-start x [] = refl
 from-start x (a ∷ []) = rw (part-reads x)
 from-start x (a ∷ b ∷ more) = refl
 
 -- ---- the law: fed its bytes one after the other, the line under way is the line
-pub scan-line : (bs : List ℕ) → line-at (scan-of bs) ≡ line-of (fields bs)
+pub scan-line : (bs : List ℕ) → line-at (scan-of bs) ≡ input-of (fields bs)
 unfolding scan-of empty fields
 scan-line bs = event-on Start bs ∙ from-start (split TAB bs .first) (split TAB bs .rest)
 

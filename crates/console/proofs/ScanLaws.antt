@@ -13,11 +13,11 @@ use Rattle.sizes.specs.Sizes.{MOST}
 use Rattle.numbers.proofs.Laws.{back32}
 use Rattle.meaning.specs.declared.Num.{Num}
 use Rattle.meaning.specs.declared.Num.the-variants as num
-use Rattle.meaning.specs.declared.Line.{Line}
-use Rattle.meaning.specs.declared.Line.the-variants.{Posts, Wrong}
-use Rattle.meaning.specs.Number.{BEYOND, capped, plain, minus}
+use Rattle.meaning.specs.declared.Input.{Input}
+use Rattle.meaning.specs.declared.Input.the-variants.{Posts, Wrong}
+use Rattle.meaning.specs.Number.{BEYOND, capped, with-no-sign, minus}
 use Rattle.meaning.specs.Split.{TAB}
-use Rattle.meaning.specs.Program.{line-by}
+use Rattle.meaning.specs.Program.{input-by}
 use Rattle.console.specs.declared.scan.Part.{Part}
 use Rattle.console.specs.declared.scan.Part.the-variants.{Start, Minus, Zero, Plain, Negative, Broken}
 use Rattle.console.specs.declared.scan.Scan.{Scan}
@@ -85,7 +85,7 @@ gone zero h k = absurd (k refl)
 gone (suc n) h k = rw (neg-pos n, le-ltb MOST (suc n) (omega arith)) (omega arith, refl)
 
 module _ (v : ℕ) where
-  pub past-plain : BEYOND ≤ v → num.Beyond ≡ plain (capped (some v))
+  pub past-plain : BEYOND ≤ v → num.Beyond ≡ with-no-sign (capped (some v))
   unfolding capped
   past-plain h = rw (lt-ltb MOST v (omega arith))
 
@@ -101,7 +101,7 @@ module _ (v : ℕ) where
     pub value-fits : SFits w32 (pos v)
     value-fits = record { sfits = omega arith }
 
-    pub in-plain : num.Is (toZ w32 v) ≡ plain (capped (some v))
+    pub in-plain : num.Is (toZ w32 v) ≡ with-no-sign (capped (some v))
     unfolding capped
     in-plain = rw (toZ-pos w32 {n = v} (omega arith), le-ltb MOST v (omega arith))
 
@@ -113,7 +113,7 @@ module _ (v : ℕ) where
       in-minus = rw (toZ-pos w32 {n = v} (omega arith), back32 (pos 0 -ℤ pos v) (gone v h k .0)) (gone v h k .1)
 
 module _ (p : Part) (n : Num) where
-  pub number-plain : (v : ℕ) → p ≡ Plain v → n ≡ plain (capped (some v)) → n ≡ part-number p
+  pub number-plain : (v : ℕ) → p ≡ Plain v → n ≡ with-no-sign (capped (some v)) → n ≡ part-number p
   unfolding part-number
   number-plain v s e = rw s e
 
@@ -145,40 +145,40 @@ module _ (s : Scan) (b : ℕ) where
 
 -- ---- the line at the end
 module _ (s : Scan) where
-  pub line-whole : (e a : Part) (m n : Num) (l : Line) → s ≡ Argument e a → m ≡ part-number e → n ≡ part-number a → l ≡ line-by m n → l ≡ line-at s
+  pub line-whole : (e a : Part) (m n : Num) (l : Input) → s ≡ Argument e a → m ≡ part-number e → n ≡ part-number a → l ≡ input-by m n → l ≡ line-at s
   unfolding line-at
   line-whole e a m n l h p q r = rw (h, ← p, ← q) r
 
 -- two numbers: "a number past ±1,000,000,000 is posted as 1,000,000,001"
 module _ (m n : Num) where
-  pub by-number : (e : ℤ) (l : Line) → m ≡ num.Is e → l ≡ line-by (num.Is e) n → l ≡ line-by m n
+  pub by-number : (e : ℤ) (l : Input) → m ≡ num.Is e → l ≡ input-by (num.Is e) n → l ≡ input-by m n
   by-number e l h k = rw h k
 
-  pub by-beyond : (l : Line) → m ≡ num.Beyond → l ≡ line-by (num.Is (pos BEYOND)) n → l ≡ line-by m n
-  unfolding line-by
+  pub by-beyond : (l : Input) → m ≡ num.Beyond → l ≡ input-by (num.Is (pos BEYOND)) n → l ≡ input-by m n
+  unfolding input-by
   by-beyond l h k = rw h (go n k)
     where
-      go : (n : Num) → l ≡ line-by (num.Is (pos BEYOND)) n → l ≡ line-by num.Beyond n
+      go : (n : Num) → l ≡ input-by (num.Is (pos BEYOND)) n → l ≡ input-by num.Beyond n
       go (num.Is a) k = k
       go num.Beyond k = k
       go num.Not k = k
 
-  pub by-none : m ≡ num.Not → Wrong ≡ line-by m n
-  unfolding line-by
+  pub by-none : m ≡ num.Not → Wrong ≡ input-by m n
+  unfolding input-by
   by-none h = rw h (go n)
     where
-      go : (n : Num) → Wrong ≡ line-by num.Not n
+      go : (n : Num) → Wrong ≡ input-by num.Not n
       go (num.Is a) = refl
       go num.Beyond = refl
       go num.Not = refl
 
 module _ (e : ℤ) (n : Num) where
-  pub posts-number : (a : ℤ) → n ≡ num.Is a → Posts e a ≡ line-by (num.Is e) n
-  unfolding line-by
+  pub posts-number : (a : ℤ) → n ≡ num.Is a → Posts e a ≡ input-by (num.Is e) n
+  unfolding input-by
   posts-number a h = rw h
 
-  pub posts-beyond : n ≡ num.Beyond → Posts e (pos BEYOND) ≡ line-by (num.Is e) n
-  unfolding line-by
+  pub posts-beyond : n ≡ num.Beyond → Posts e (pos BEYOND) ≡ input-by (num.Is e) n
+  unfolding input-by
   posts-beyond h = rw h
 
 pub number-zero : (p : Part) → p ≡ Zero → num.Is (pos 0) ≡ part-number p

@@ -5,10 +5,10 @@ use mathlib.Core.List.{List, [], _∷_, _++_, append-assoc, append-nil}
 use Prim.Native.Nat.{ℕ}
 use lib.Dec.{eqb}
 use Rattle.meaning.specs.declared.State.{State}
-use Rattle.meaning.specs.declared.Line.{Line}
+use Rattle.meaning.specs.declared.Input.{Input}
 use Rattle.meaning.specs.Chart.{Chart}
 use Rattle.meaning.specs.Split.{LF, Parts, all, onto, cut, split, lines, fields}
-use Rattle.meaning.specs.Program.{Turn, turn, turns, session, line-of, input-lines}
+use Rattle.meaning.specs.Program.{Turn, do-line, turns, session, input-of, input-lines}
 use Rattle.console.specs.declared.scan.Scan.{Scan}
 use Rattle.console.specs.Scan.{empty, fed, line-at, began, scan-on, scan-of}
 use Rattle.console.specs.Session.{Turns, Under, by-end, passed, passed-all, finished, all-printed}
@@ -17,18 +17,18 @@ use Rattle.console.proofs.Lines.{scan-line, scan-began, none-began}
 -- what the lines print, one after the other
 unfoldable pub turns-by : Turns → State → List (List ℕ) → List ℕ
 turns-by f u [] = []
-turns-by f u (l ∷ ls) = let t = f u (line-of (fields l)) in t .printed ++ turns-by f (t .state) ls
+turns-by f u (l ∷ ls) = let t = f u (input-of (fields l)) in t .printed ++ turns-by f (t .state) ls
 
-pub turns-of : (c : Chart) (u : State) (ls : List (List ℕ)) → turns-by (turn c) u ls ≡ turns c u ls
+pub turns-of : (c : Chart) (u : State) (ls : List (List ℕ)) → turns-by (do-line c) u ls ≡ turns c u ls
 unfolding turns-by turns
 turns-of c u [] = refl
-turns-of c u (l ∷ ls) = rw (turns-of c (turn c u (line-of (fields l)) .state) ls)
+turns-of c u (l ∷ ls) = rw (turns-of c (do-line c u (input-of (fields l)) .state) ls)
 
 -- what does the same to each line prints the same
-pub turns-same : (f g : Turns) → ((u : State) (l : Line) → f u l ≡ g u l) → (u : State) (ls : List (List ℕ)) → turns-by f u ls ≡ turns-by g u ls
+pub turns-same : (f g : Turns) → ((u : State) (l : Input) → f u l ≡ g u l) → (u : State) (ls : List (List ℕ)) → turns-by f u ls ≡ turns-by g u ls
 unfolding turns-by
 turns-same f g h u [] = refl
-turns-same f g h u (l ∷ ls) = rw (h u (line-of (fields l)), turns-same f g h (g u (line-of (fields l)) .state) ls)
+turns-same f g h u (l ∷ ls) = rw (h u (input-of (fields l)), turns-same f g h (g u (input-of (fields l)) .state) ls)
 
 -- one byte more
 pub scan-snoc : (s : Scan) (bs : List ℕ) (b : ℕ) → scan-on s (bs ++ (b ∷ [])) ≡ fed (scan-on s bs) b
@@ -66,7 +66,7 @@ module _ (f : Turns) where
   line-first : (u : State) (pre : List ℕ) (q : Parts) (rest : State → List ℕ) → ((w : State) → rest w ≡ turns-by f w (input-lines (all q)))
       → f u (line-at (scan-of pre)) .printed ++ rest (f u (line-at (scan-of pre)) .state) ≡ turns-by f u (input-lines (pre ∷ all q))
   unfolding turns-by input-lines
-  line-first u pre q rest e = rw (scan-line pre, e (f u (line-of (fields pre)) .state))
+  line-first u pre q rest e = rw (scan-line pre, e (f u (input-of (fields pre)) .state))
 
   -- the input from here, behind these bytes of a line
   pub printed-from : (u : State) (pre bs : List ℕ) → all-printed f (after u pre) bs ≡ turns-by f u (input-lines (all (onto pre (split LF bs))))
@@ -124,6 +124,6 @@ unfolding lines
 printed-all f u input = ap (λ s. all-printed f s input) (sym (none-fed u)) ∙ printed-from f u [] input
 
 -- what the program prints after the start, byte by byte, is what the definition says
-pub session-printed : (c : Chart) (t : Turn) (input : List ℕ) → t .printed ++ all-printed (turn c) (fresh (t .state)) input ≡ session c t input
+pub session-printed : (c : Chart) (t : Turn) (input : List ℕ) → t .printed ++ all-printed (do-line c) (fresh (t .state)) input ≡ session c t input
 unfolding session
-session-printed c t input = rw (printed-all (turn c) (t .state) input, turns-of c (t .state) (input-lines (lines input)))
+session-printed c t input = rw (printed-all (do-line c) (t .state) input, turns-of c (t .state) (input-lines (lines input)))

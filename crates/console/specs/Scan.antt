@@ -7,11 +7,11 @@ use mathlib.Core.Option.{some}
 use lib.Dec.{ltb, eqb}
 use Rattle.meaning.specs.declared.Num.{Num}
 use Rattle.meaning.specs.declared.Num.the-variants as num
-use Rattle.meaning.specs.Number.{BEYOND, capped, plain, minus}
+use Rattle.meaning.specs.Number.{BEYOND, capped, with-no-sign, minus}
 use Rattle.meaning.specs.Split.{TAB}
-use Rattle.meaning.specs.declared.Line.{Line}
-use Rattle.meaning.specs.declared.Line.the-variants.{Wrong}
-use Rattle.meaning.specs.Program.{line-by}
+use Rattle.meaning.specs.declared.Input.{Input}
+use Rattle.meaning.specs.declared.Input.the-variants.{Wrong}
+use Rattle.meaning.specs.Program.{input-by}
 use Rattle.console.specs.declared.scan.Part.{Part}
 use Rattle.console.specs.declared.scan.Part.the-variants.{Start, Minus, Zero, Plain, Negative, Broken}
 use Rattle.console.specs.declared.scan.Scan.{Scan}
@@ -50,8 +50,8 @@ part-fed Broken b = Broken
 unfoldable pub part-number : Part → Num
 part-number Start = num.Not
 part-number Minus = num.Not
-part-number Zero = plain (capped (some 0))
-part-number (Plain v) = plain (capped (some v))
+part-number Zero = with-no-sign (capped (some 0))
+part-number (Plain v) = with-no-sign (capped (some v))
 part-number (Negative v) = minus (capped (some v))
 part-number Broken = num.Not
 
@@ -79,9 +79,9 @@ fed (Argument e p) b = cond (eqb b TAB) More (Argument e (part-fed p b))
 fed More b = More
 
 -- the line, if it ends here
-unfoldable pub line-at : Scan → Line
+unfoldable pub line-at : Scan → Input
 line-at (Event p) = Wrong
-line-at (Argument e a) = line-by (part-number e) (part-number a)
+line-at (Argument e a) = input-by (part-number e) (part-number a)
 line-at More = Wrong
 
 -- ---- a list of bytes, fed one after the other

@@ -6,7 +6,7 @@ use mathlib.Core.Bool.{Bool, true, false}
 use mathlib.Core.List.{List, [], _∷_, _++_}
 use lib.Dec.{eqb}
 use Rattle.meaning.specs.declared.State.{State}
-use Rattle.meaning.specs.declared.Line.{Line}
+use Rattle.meaning.specs.declared.Input.{Input}
 use Rattle.meaning.specs.Split.{LF}
 use Rattle.meaning.specs.Program.{Turn}
 use Rattle.console.specs.declared.scan.Scan.{Scan}
@@ -14,7 +14,7 @@ use Rattle.console.specs.Scan.{empty, fed, line-at, began}
 
 -- what a line does to a widget: Program's `turn` of a chart
 abbrev pub Turns : Type 0
-Turns = State → Line → Turn
+Turns = State → Input → Turn
 
 -- the widget, and the line under way
 pub record Under : Type 0 where

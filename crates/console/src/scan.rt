@@ -2,7 +2,7 @@
 // what the line is. A number of any length is held at one past the range, so that no number of digits overflows.
 use fields::LF;
 use fields::TAB;
-use meaning::Line;
+use meaning::Input;
 use meaning::Num;
 use sizes::MOST;
 ghost use mathlib.Core.Path.{_≡_};
@@ -10,8 +10,8 @@ ghost use mathlib.Core.Option.{some};
 ghost use Prim.Native.Nat.{_≤_};
 ghost use lib.ListN.{length};
 ghost use Rattle.meaning.specs.declared.Num.the-variants.{Is};
-ghost use Rattle.meaning.specs.Number.{capped, plain, minus};
-ghost use Rattle.meaning.specs.Program.{line-by};
+ghost use Rattle.meaning.specs.Number.{capped, with-no-sign, minus};
+ghost use Rattle.meaning.specs.Program.{input-by};
 ghost use Rattle.console.specs.declared.scan.Part.the-variants.{Plain, Negative};
 ghost use Rattle.console.specs.Scan.{grown, if-digit, part-fed, part-number, empty, began, fed, line-at};
 ghost use Rattle.console.specs.Stretch.{Collects};
@@ -85,7 +85,7 @@ fn negative_fed(v: u64, b: u8) -> Part
 
 // A number with no sign, and behind a minus: there is no minus zero.
 fn plain_number(v: u64) -> Num
-    ensures { λ r. ⌜ r ≡ plain (capped (some v)) ⌝ }
+    ensures { λ r. ⌜ r ≡ with-no-sign (capped (some v)) ⌝ }
 {
     if v < BEYOND {
         Num::Is(v as i32)
@@ -198,36 +198,36 @@ impl Scan {
     }
 
     // The line, if it ends here.
-    pub fn line(self) -> Line
+    pub fn line(self) -> Input
         ensures { λ r. ⌜ r ≡ line-at self ⌝ }
     {
         match self {
             Scan::Argument(e, a) => line_of(e.number(), a.number()),
-            Scan::Event(_) => Line::Wrong,
-            Scan::More => Line::Wrong,
+            Scan::Event(_) => Input::Wrong,
+            Scan::More => Input::Wrong,
         }
     }
 }
 
 // Both numbers, or a line of another form.
-fn line_of(event: Num, argument: Num) -> Line
-    ensures { λ r. ⌜ r ≡ line-by event argument ⌝ }
+fn line_of(event: Num, argument: Num) -> Input
+    ensures { λ r. ⌜ r ≡ input-by event argument ⌝ }
 {
     match event {
         Num::Is(e) => posts(e, argument),
         Num::Beyond => posts(POSTED, argument),
-        Num::Not => Line::Wrong,
+        Num::Not => Input::Wrong,
     }
 }
 
 // An event with its argument.
-fn posts(event: i32, argument: Num) -> Line
-    ensures { λ r. ⌜ r ≡ line-by (Is event) argument ⌝ }
+fn posts(event: i32, argument: Num) -> Input
+    ensures { λ r. ⌜ r ≡ input-by (Is event) argument ⌝ }
 {
     match argument {
-        Num::Is(a) => Line::Posts(event, a),
-        Num::Beyond => Line::Posts(event, POSTED),
-        Num::Not => Line::Wrong,
+        Num::Is(a) => Input::Posts(event, a),
+        Num::Beyond => Input::Posts(event, POSTED),
+        Num::Not => Input::Wrong,
     }
 }
 

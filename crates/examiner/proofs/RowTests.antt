@@ -20,7 +20,7 @@ use Rattle.meaning.specs.declared.plan.Counts.{Counts}
 use Rattle.meaning.specs.Rules.{row-fits}
 use Rattle.meaning.specs.Value.{count-fits, var-by, var-statable}
 use Rattle.meaning.specs.WellFormed.{HEAD-ROW, var-keeps, one-of, span-fits, head-guard-fits, head-fits}
-use Rattle.meaning.specs.WellFormed.{Field, FORMS, no-form, form, field-fits, form-fits, instr-fits}
+use Rattle.meaning.specs.WellFormed.{Operand, SHAPES, no-shape, shape, operand-fits, shape-fits, instr-fits}
 use Rattle.chart_rows.proofs.Rows.{num-at}
 
 -- the order of two numbers that were handed over as their bits
@@ -52,24 +52,24 @@ module _ (k : Counts) (ns : List ℤ) (b : ℕ) where
       )
 
   -- a code that is none
-  pub instr-wrong : (left : ℕ) → no-form ≡ getD FORMS (ref (getD ns (b + 0) (pos 0))) no-form → instr-fits k left (drop b ns) ≡ false
-  unfolding instr-fits form-fits
+  pub instr-wrong : (left : ℕ) → no-shape ≡ getD SHAPES (ref (getD ns (b + 0) (pos 0))) no-shape → instr-fits k left (drop b ns) ≡ false
+  unfolding instr-fits shape-fits
   instr-wrong left e = rw (getD-drop b ns 0 (pos 0), ← e)
 
   -- the code n, whose three numbers were tested
-  pub instr-read : (left n : ℕ) (f g h : Field) {p q s r : Bool} → getD FORMS n no-form ≡ form f g h
+  pub instr-read : (left n : ℕ) (f g h : Operand) {p q s r : Bool} → getD SHAPES n no-shape ≡ shape f g h
       → ref (getD ns (b + 0) (pos 0)) ≡ n
-      → p ≡ field-fits k left f (getD ns (b + 1) (pos 0))
-      → q ≡ field-fits k left g (getD ns (b + 2) (pos 0))
-      → s ≡ field-fits k left h (getD ns (b + 3) (pos 0))
+      → p ≡ operand-fits k left f (getD ns (b + 1) (pos 0))
+      → q ≡ operand-fits k left g (getD ns (b + 2) (pos 0))
+      → s ≡ operand-fits k left h (getD ns (b + 3) (pos 0))
       → r ≡ p && (q && s) → r ≡ instr-fits k left (drop b ns)
-  unfolding instr-fits form-fits
+  unfolding instr-fits shape-fits
   instr-read left n f g h t e u v w o =
       o ∙ rw (u, v, w, getD-drop b ns 0 (pos 0), e, t, getD-drop b ns 1 (pos 0), getD-drop b ns 2 (pos 0), getD-drop b ns 3 (pos 0))
 
 -- a number that is no code has no form
 pub no-code : (n : ℕ) → (n ≡ 1 → ⊥) → (n ≡ 2 → ⊥) → (n ≡ 3 → ⊥) → (n ≡ 4 → ⊥) → (n ≡ 5 → ⊥) → (n ≡ 6 → ⊥) → (n ≡ 7 → ⊥) → (n ≡ 8 → ⊥)
-    → (n ≡ 9 → ⊥) → (n ≡ 10 → ⊥) → (n ≡ 11 → ⊥) → no-form ≡ getD FORMS n no-form
+    → (n ≡ 9 → ⊥) → (n ≡ 10 → ⊥) → (n ≡ 11 → ⊥) → no-shape ≡ getD SHAPES n no-shape
 no-code zero n₁ n₂ n₃ n₄ n₅ n₆ n₇ n₈ n₉ n₁₀ n₁₁ = refl
 no-code (suc zero) n₁ n₂ n₃ n₄ n₅ n₆ n₇ n₈ n₉ n₁₀ n₁₁ = absurd (n₁ refl)
 no-code (suc (suc zero)) n₁ n₂ n₃ n₄ n₅ n₆ n₇ n₈ n₉ n₁₀ n₁₁ = absurd (n₂ refl)

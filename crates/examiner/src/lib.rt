@@ -22,6 +22,7 @@ use plan_rows::layout::VAR_COUNT;
 use plan_rows::plan_end;
 use sizes::EVENTS;
 use sizes::INSTRUCTIONS;
+use sizes::LEAST_STATES;
 use sizes::STATES;
 use sizes::TRANSITIONS;
 use sizes::VARIABLES;
@@ -34,7 +35,7 @@ ghost use Rattle.examiner.specs.Examined.{examined, Whole};
 fn counts_keep(plan: &[i32]) -> bool
     ensures { λ r. ⌜ r ≡ counts-keep (now (plan .entry)) ⌝ }
 {
-    if !count_fits(2, STATES, number_at(plan, STATE_COUNT)) {
+    if !count_fits(LEAST_STATES, STATES, number_at(plan, STATE_COUNT)) {
         return false;
     }
     if !count_fits(0, VARIABLES, number_at(plan, VAR_COUNT)) {

@@ -32,7 +32,7 @@ use Rattle.meaning.specs.Rules.{within-row}
 use Rattle.meaning.specs.Steps.{_then_, bind, look, require}
 use Rattle.meaning.specs.Tree.{is-o, kind-of, parent-of, var-row}
 use Rattle.meaning.specs.Widget.{Ctx, ENTRY, Entry, change, changed, emit, entered, left, numbers, sent, set-active, set-queue, set-slot, set-value}
-use Rattle.meaning.specs.Widget.{taken, told, value-of, written}
+use Rattle.meaning.specs.Widget.{taken, told, value-at, add-numbers}
 use Rattle.meaning.specs.declared.State.{State}
 use Rattle.meaning.specs.declared.chart.Act.{Act}
 use Rattle.meaning.specs.declared.chart.Act.the-variants.{AddTo as add-to, Send as send, SetTo as set-to, TakeTo as take-to, Tell as tell}
@@ -83,10 +83,10 @@ traced-more c out e h t = (t .0 ++ (e ∷ []), numbers-more (t .0) out e (t .1),
 
 module _ (c : Chart) where
   pub emit-good : (e : Entry) → Entry-ok c e → Stays (Good c) (emit e)
-  unfolding emit written _then_ require bind
+  unfolding emit add-numbers _then_ require bind
   emit-good e h k g = go (leb ENTRY (k .room))
     where
-      go : (b : Bool) → Holds (bind (require 11 b k) (written (numbers e))) (Good c)
+      go : (b : Bool) → Holds (bind (require 11 b k) (add-numbers (numbers e))) (Good c)
       go true = record { started = g .started; sized = g .sized; values = g .values; queue = g .queue; slots = g .slots; trace = traced-more c (k .out) e h (g .trace) }
       go false = tt
 
@@ -178,7 +178,7 @@ module _ (c : Chart) (h : Sound-chart c) (z : Sized-chart c) where
   pub act-good : (a : ℤ) (x : Act) → Act-facts c x × Act-in-range x → Stays (Good c) (perform (c .vars) a x)
   unfolding perform act-on act-var
   act-good a (set-to v x) f = assign-good v x (f .0 .0)
-  act-good a (add-to v x) f = look-stays (Good c) _ (λ k g. assign-good v (value-of (k .state) v +ℤ x) (f .0))
+  act-good a (add-to v x) f = look-stays (Good c) _ (λ k g. assign-good v (value-at (k .state) v +ℤ x) (f .0))
   act-good a (take-to v) f = assign-good v a (f .0)
   act-good a (send e x) f = then-stays (Good c) _ _ (emit-good c (sent e x) (f .0 .0, f .0 .1, f .1)) (enqueue-good (pos e) x (sent-fits e x (f .0 .0) (f .0 .1) (f .1)))
   act-good a (tell x) f = emit-good c (told x) (f .1)

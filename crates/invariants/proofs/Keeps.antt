@@ -13,7 +13,7 @@ use Rattle.meaning.specs.Effects.{act-on, act-var, acts-of, assign, enqueue, en
 use Rattle.meaning.specs.Entry.{Visit, by-default, plain, state-of, visit}
 use Rattle.meaning.specs.Steps.{Res, Step, _then_, bind, each, look, ok, refuse, require}
 use Rattle.meaning.specs.Tree.{var-row}
-use Rattle.meaning.specs.Widget.{Ctx, ENTRY, Entry, change, emit, numbers, set-active, set-queue, set-value, value-of, written}
+use Rattle.meaning.specs.Widget.{Ctx, ENTRY, Entry, change, emit, numbers, set-active, set-queue, set-value, value-at, add-numbers}
 use Rattle.meaning.specs.declared.State.{State}
 use Rattle.meaning.specs.declared.chart.Act.{Act}
 use Rattle.meaning.specs.declared.chart.Act.the-variants.{AddTo as add-to, Send as send, SetTo as set-to, TakeTo as take-to, Tell as tell}
@@ -72,10 +72,10 @@ each-keeps Q F f [] k h = h
 each-keeps Q F f (x ∷ xs) k h = gives-bind (λ j. Q (j .state)) (λ j. Q (j .state)) (F x k) (each F xs) (f x k h) (each-keeps Q F f xs)
 
 pub emit-keeps : (Q : State → Type 0) (e : Entry) → Keeps Q (emit e)
-unfolding emit written _then_ require bind
+unfolding emit add-numbers _then_ require bind
 emit-keeps Q e k h = go (leb ENTRY (k .room))
   where
-    go : (b : Bool) → Gives (bind (require 11 b k) (written (numbers e))) (λ j. Q (j .state))
+    go : (b : Bool) → Gives (bind (require 11 b k) (add-numbers (numbers e))) (λ j. Q (j .state))
     go true = h
     go false = (λ x. omega arith, λ x. omega arith, λ x. omega arith)
 
@@ -108,7 +108,7 @@ module _ (Q : State → Type 0) (o : Outside Q) where
   pub act-keeps : (r : VarRow) (a : ℤ) (x : Act) → Keeps Q (act-on r a x)
   unfolding act-on look
   act-keeps r a (set-to v x) = assign-keeps r v x
-  act-keeps r a (add-to v x) = λ k h. assign-keeps r v (value-of (k .state) v +ℤ x) k h
+  act-keeps r a (add-to v x) = λ k h. assign-keeps r v (value-at (k .state) v +ℤ x) k h
   act-keeps r a (take-to v) = assign-keeps r v a
   act-keeps r a (send e x) = then-leads Q Q Q _ _ (emit-keeps Q _) (enqueue-keeps (pos e) x)
   act-keeps r a (tell x) = emit-keeps Q _

@@ -48,7 +48,7 @@ use Rattle.meaning.specs.declared.chart.Kind.the-variants.{O as kind-o}
 use Rattle.meaning.specs.declared.chart.VarRow.{VarRow}
 use Rattle.numbers.specs.Place.{placeOf as as-slot}
 use Rattle.numbers.specs.declared.Place.the-variants.{At as holds, Empty as empty}
-use Rattle.queue.specs.Queue.{empty-queue, none as none-item}
+use Rattle.queue.specs.Queue.{empty-queue, no-item as none-item}
 use Rattle.sizes.specs.Sizes.{QUEUE, STATES, VARIABLES}
 
 -- a started state that is its chart's own

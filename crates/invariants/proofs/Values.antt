@@ -26,7 +26,7 @@ use Rattle.numbers.proofs.Ranges.{hold-within, leZ-trans}
 use Rattle.numbers.specs.Equal.{eqZ}
 use Rattle.numbers.specs.Range.{within}
 use Rattle.queue.proofs.Waiting.{appended-room, appended-waits, empty-waits, removed-front, removed-waits}
-use Rattle.queue.specs.Queue.{appended, empty-queue, item, none as none-item, removed, shifted, waiting}
+use Rattle.queue.specs.Queue.{appended, empty-queue, item, no-item as none-item, removed, shifted, waiting}
 use Rattle.queue.specs.declared.Item.{Item}
 use Rattle.queue.specs.declared.Queue.{Queue}
 use Rattle.sizes.specs.Sizes.{QUEUE}

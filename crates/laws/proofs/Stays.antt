@@ -14,7 +14,7 @@ use Rattle.meaning.specs.Entry.{Visit, all-below, by-default, by-defaults, by-s
 use Rattle.meaning.specs.Reaction.{chosen, fire, fire-to, if-any, leave-active, leave-all, settle, settle-in, step}
 use Rattle.meaning.specs.Steps.{Step, _then_, each, look, require, skip, when}
 use Rattle.meaning.specs.Tree.{var-row}
-use Rattle.meaning.specs.Widget.{Ctx, Entry, change, emit, slot, value-of}
+use Rattle.meaning.specs.Widget.{Ctx, Entry, change, emit, slot, value-at}
 use Rattle.meaning.specs.declared.State.{State}
 use Rattle.meaning.specs.declared.chart.Act.{Act}
 use Rattle.meaning.specs.declared.chart.Act.the-variants.{AddTo as add-to, Send as send, SetTo as set-to, TakeTo as take-to, Tell as tell}
@@ -84,7 +84,7 @@ module _ (P : Ctx → Type 0) (p : Plain P) where
   act-plain : (r : VarRow) (a : ℤ) (x : Act) → Stays P (act-on r a x)
   unfolding act-on
   act-plain r a (set-to v x) = assign-plain r v x
-  act-plain r a (add-to v x) = look-stays P _ (λ k h. assign-plain r v (value-of (k .state) v +ℤ x))
+  act-plain r a (add-to v x) = look-stays P _ (λ k h. assign-plain r v (value-at (k .state) v +ℤ x))
   act-plain r a (take-to v) = assign-plain r v a
   act-plain r a (send e x) = then-stays P _ _ (p .entries _) (enqueue-plain (pos e) x)
   act-plain r a (tell x) = p .entries _

@@ -16,7 +16,7 @@ use Rattle.meaning.specs.Chart.{Chart}
 use Rattle.meaning.specs.Foreign.{own}
 use Rattle.meaning.specs.Lists.{concat-map}
 use Rattle.meaning.specs.Steps.{Res, _then_, bind, ok, refuse, require}
-use Rattle.meaning.specs.Widget.{Ctx, ENTRY, Entry, begin, change, changed, emit, entered, left, numbers, sent, taken, told, written}
+use Rattle.meaning.specs.Widget.{Ctx, ENTRY, Entry, begin, change, changed, emit, entered, left, numbers, sent, taken, told, add-numbers}
 use Rattle.meaning.specs.declared.State.{State}
 use Rattle.queue.specs.Queue.{removed}
 
@@ -54,13 +54,13 @@ numbers-long (e ∷ es) = length-append (numbers e) (concat-map numbers es) ∙ 
     one-more-entry n = omega arith
 
 written-plain : (n : ℕ) → Plain (Written n)
-unfolding emit written change _then_ require bind
+unfolding emit add-numbers change _then_ require bind
 written-plain n = record {
   entries = λ e k h. go e k h (leb ENTRY (k .room)) refl;
   changes = λ f k h. record { entries = h .entries; room = h .room };
 }
   where
-    go : (e : Entry) (k : Ctx) → Written n k → (b : Bool) → leb ENTRY (k .room) ≡ b → Holds (bind (require 11 b k) (written (numbers e))) (Written n)
+    go : (e : Entry) (k : Ctx) → Written n k → (b : Bool) → leb ENTRY (k .room) ≡ b → Holds (bind (require 11 b k) (add-numbers (numbers e))) (Written n)
     go e k h true q = record {
       entries = (h .entries .0 ++ (e ∷ []), numbers-more (h .entries .0) (k .out) e (h .entries .1));
       room = ap (λ i. i + (k .room - ENTRY)) (length-append (k .out) (numbers e)) ∙ ap (λ i. (length (k .out) + i) + (k .room - ENTRY)) (entry-long e) ∙ left-over (length (k .out)) (k .room) (leb-true ENTRY (k .room) q) (h .room);

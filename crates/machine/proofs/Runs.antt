@@ -10,7 +10,7 @@ use lib.IntN.{ℤ}
 use borrow.Author.Tests.{leb-true}
 use Rattle.sizes.specs.Sizes.{STATES, QUEUE}
 use Rattle.numbers.specs.Reference.{ref}
-use Rattle.queue.specs.Queue.{none, shifted, removed}
+use Rattle.queue.specs.Queue.{no-item, shifted, removed}
 use Rattle.queue.specs.Numbers.{QUEUE-NUMBERS, queue-by, numbers-of}
 use Rattle.queue.specs.declared.Queue.{Queue}
 use Rattle.queue.specs.declared.Removed.{Removed}
@@ -103,11 +103,11 @@ removed-few : (q : Queue) → q .len ≤ QUEUE → removed q .queue .len ≤ QUE
 unfolding removed
 removed-few q l = go (eqb (q .len) 0) (ltb QUEUE (q .len))
   where
-    go : (a b : Bool) → cond {A = Removed} a (record { done = false; front = none; queue = q })
-        (cond b (record { done = false; front = none; queue = q })
+    go : (a b : Bool) → cond {A = Removed} a (record { done = false; front = no-item; queue = q })
+        (cond b (record { done = false; front = no-item; queue = q })
         (record {
           done = true;
-          front = getD (q .items) 0 none;
+          front = getD (q .items) 0 no-item;
           queue = record {
             len = q .len - 1;
             items = shifted

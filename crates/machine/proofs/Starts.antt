@@ -10,7 +10,7 @@ use lib.ListN.{length, getD, take, drop, replicate, set, length-map, length-repl
 use lib.Seq.{take-all}
 use lib.IntN.{ℤ, pos, negsuc}
 use Rattle.sizes.specs.Sizes.{STATES, VARIABLES, QUEUE}
-use Rattle.queue.specs.Queue.{none, empty-queue}
+use Rattle.queue.specs.Queue.{no-item, empty-queue}
 use Rattle.queue.specs.Numbers.{QUEUE-NUMBERS, queue-by, numbers-of}
 use Rattle.queue.specs.declared.Queue.{Queue}
 use Rattle.queue.proofs.Copy.{copied, copied-suc}
@@ -90,7 +90,7 @@ none-lent = held-lent empty-queue (omega arith)
 
 none-whole : length (numbers-of empty-queue) ≡ QUEUE-NUMBERS
 unfolding empty-queue
-none-whole = numbers-long empty-queue (length-replicate QUEUE none)
+none-whole = numbers-long empty-queue (length-replicate QUEUE no-item)
 
 -- a fresh widget as it is lent
 abbrev pub fresh-lent : List VarRow → List ℤ → Lent

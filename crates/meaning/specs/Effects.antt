@@ -14,7 +14,7 @@ use Rattle.meaning.specs.Steps.{Res, ok, refuse, Step, _then_, require, 
 use Rattle.meaning.specs.Lists.{concat-map}
 use Rattle.meaning.specs.Chart.{Act, set-to, add-to, take-to, send, tell, Owner, entry-of, exit-of, default-of, transition-of, VarRow, ActRow, Chart}
 use Rattle.meaning.specs.Tree.{parent-of, kind-of, var-row, is-o}
-use Rattle.meaning.specs.Widget.{Ctx, Slot, empty, holds, value-of, set-active, set-slot, set-value, set-queue, change, emit}
+use Rattle.meaning.specs.Widget.{Ctx, Slot, empty, holds, value-at, set-active, set-slot, set-value, set-queue, change, emit}
 use Rattle.meaning.specs.Widget.{Entry, left, entered, changed, sent, told}
 
 -- ---- the acts
@@ -38,7 +38,7 @@ enqueue e x = look (λ k. take-queue (appended (k .state .queue) e x))
 -- an act with the argument a of the event, over the row of its variable; "at a send 11 before 9"
 unfoldable pub act-on : VarRow → ℤ → Act → Step Ctx
 act-on r a (set-to v x) = assign r v x
-act-on r a (add-to v x) = look (λ k. assign r v (value-of (k .state) v +ℤ x))
+act-on r a (add-to v x) = look (λ k. assign r v (value-at (k .state) v +ℤ x))
 act-on r a (take-to v) = assign r v a
 act-on r a (send e x) = emit (sent e x) then enqueue (pos e) x
 act-on r a (tell x) = emit (told x)

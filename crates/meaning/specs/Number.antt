@@ -44,10 +44,10 @@ capped (some n) = cond (ltb MOST n) nat.Beyond (nat.Is n)
 unfoldable pub natural-of : List ℕ → Nat
 natural-of bs = capped (natural bs)
 
-abbrev pub plain : Nat → Num
-plain (nat.Is n) = num.Is (pos n)
-plain nat.Beyond = num.Beyond
-plain nat.Not = num.Not
+abbrev pub with-no-sign : Nat → Num
+with-no-sign (nat.Is n) = num.Is (pos n)
+with-no-sign nat.Beyond = num.Beyond
+with-no-sign nat.Not = num.Not
 
 -- behind a minus: there is no minus zero
 abbrev pub minus : Nat → Num
@@ -58,7 +58,7 @@ minus nat.Not = num.Not
 
 abbrev pub signed : Bool → List ℕ → List ℕ → Num
 signed true bs all = minus (natural-of bs)
-signed false bs all = plain (natural-of all)
+signed false bs all = with-no-sign (natural-of all)
 
 -- a field as a number
 unfoldable pub number-of : List ℕ → Num

@@ -19,8 +19,8 @@ use Rattle.meaning.specs.Split.{LF, fields, lines}
 use Rattle.meaning.specs.Text.{read}
 use Rattle.meaning.specs.Text as text
 -- a line of the input: an event and its argument to post, or a line of another form
-pub use Rattle.meaning.specs.declared.Line.{Line}
-pub use Rattle.meaning.specs.declared.Line.the-variants.{Posts as posts, Wrong as wrong}
+pub use Rattle.meaning.specs.declared.Input.{Input}
+pub use Rattle.meaning.specs.declared.Input.the-variants.{Posts as posts, Wrong as another-form}
 
 -- "With room for 1,000 entries"
 abbrev pub ENTRIES : ℕ
@@ -48,23 +48,23 @@ report n trace = 82 ∷ SPACE ∷ digits n ++ SPACE ∷ digits (length trace / E
 -- ---- the form of an input line
 
 -- "a number past ±1,000,000,000 is posted as 1,000,000,001"
-unfoldable pub line-by : Num → Num → Line
-line-by (Is e) (Is a) = posts e a
-line-by (Is e) Beyond = posts e (pos BEYOND)
-line-by (Is e) Not = wrong
-line-by Beyond (Is a) = posts (pos BEYOND) a
-line-by Beyond Beyond = posts (pos BEYOND) (pos BEYOND)
-line-by Beyond Not = wrong
-line-by Not (Is a) = wrong
-line-by Not Beyond = wrong
-line-by Not Not = wrong
+unfoldable pub input-by : Num → Num → Input
+input-by (Is e) (Is a) = posts e a
+input-by (Is e) Beyond = posts e (pos BEYOND)
+input-by (Is e) Not = another-form
+input-by Beyond (Is a) = posts (pos BEYOND) a
+input-by Beyond Beyond = posts (pos BEYOND) (pos BEYOND)
+input-by Beyond Not = another-form
+input-by Not (Is a) = another-form
+input-by Not Beyond = another-form
+input-by Not Not = another-form
 
 -- "lines of event, tab, argument"
-unfoldable pub line-of : List (List ℕ) → Line
-line-of [] = wrong
-line-of (e ∷ []) = wrong
-line-of (e ∷ a ∷ []) = line-by (number-of e) (number-of a)
-line-of (e ∷ a ∷ b ∷ more) = wrong
+unfoldable pub input-of : List (List ℕ) → Input
+input-of [] = another-form
+input-of (e ∷ []) = another-form
+input-of (e ∷ a ∷ []) = input-by (number-of e) (number-of a)
+input-of (e ∷ a ∷ b ∷ more) = another-form
 
 -- the lines of the input: "The last line may lack its LF"
 unfoldable pub input-lines : List (List ℕ) → List (List ℕ)
@@ -91,16 +91,16 @@ after-post c o = elim (eqb (o .number) 0) [
 ]
 
 -- "A line of another form prints `R 1 0`"
-unfoldable pub turn : Chart → State → Line → Turn
-turn c u (posts e a) = after-post c (post c u e a)
-turn c u wrong = record { state = u; printed = report 1 [] }
+unfoldable pub do-line : Chart → State → Input → Turn
+do-line c u (posts e a) = after-post c (post c u e a)
+do-line c u another-form = record { state = u; printed = report 1 [] }
 
 -- ---- the whole output
 
 -- "then posts and runs each line"
 unfoldable pub turns : Chart → State → List (List ℕ) → List ℕ
 turns c u [] = []
-turns c u (l ∷ ls) = let t = turn c u (line-of (fields l)) in t .printed ++ turns c (t .state) ls
+turns c u (l ∷ ls) = let t = do-line c u (input-of (fields l)) in t .printed ++ turns c (t .state) ls
 
 unfoldable pub session : Chart → Turn → List ℕ → List ℕ
 session c t input = t .printed ++ turns c (t .state) (input-lines (lines input))
@@ -116,5 +116,5 @@ output chart input = output-by (read chart VALUE) input
 
 -- everything above, opened: for statements that compute
 unfoldable pub program-open : ℕ
-unfolding entry-lines report line-by line-of input-lines after-post turn turns session output-by output
+unfolding entry-lines report input-by input-of input-lines after-post do-line turns session output-by output
 program-open = 0

@@ -15,7 +15,7 @@ use Rattle.meaning.specs.Steps.{Res, refuse, Step, _then_, skip, when, l
 use Rattle.meaning.specs.Lists.{has, keep, exists, concat-map}
 use Rattle.meaning.specs.Chart.{Sign, equal, less, more, Guard, always, compares, Target, to, history, in-place, transition-of, TransRow, Chart}
 use Rattle.meaning.specs.Tree.{trans-row, all-states, all-transitions, descendants, scope, span}
-use Rattle.meaning.specs.Widget.{Ctx, is-active, value-of, emit, Entry, taken}
+use Rattle.meaning.specs.Widget.{Ctx, is-active, value-at, emit, Entry, taken}
 use Rattle.meaning.specs.Effects.{perform-all, leave}
 use Rattle.meaning.specs.Entry.{all-below, towards, towards-owner, visit, visit-towards}
 
@@ -28,7 +28,7 @@ compare-by more x y = ltZ y x
 
 unfoldable pub guard-holds : Guard → State → Bool
 guard-holds always u = true
-guard-holds (compares v g x) u = compare-by g (value-of u v) x
+guard-holds (compares v g x) u = compare-by g (value-at u v) x
 
 unfoldable pub enabled-by : TransRow → ℕ → State → Bool
 enabled-by r e u = eqb (r .trigger) e && (is-active u (r .source) && guard-holds (r .guard) u)

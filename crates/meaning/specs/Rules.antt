@@ -7,6 +7,7 @@ use lib.ListN.{length, getD}
 use lib.IntN.{ℤ}
 use lib.Signed.{leZ}
 use lib.Dec.{eqb, leb, ltb}
+use Rattle.sizes.specs.Sizes.{LEAST-STATES}
 use Rattle.meaning.specs.declared.Answer.{Answer}
 use Rattle.meaning.specs.Lists.{has, every, from}
 use Rattle.meaning.specs.Chart.{Kind, kind-o, kind-a, kind-b, Guard, always, compares, Target, to, history, in-place}
@@ -27,7 +28,7 @@ is-var c v = ltb v (length (c .vars))
 
 -- R1 "at least two states; state 0, the root, is kind o"
 unfoldable pub rule-1 : Chart → Bool
-rule-1 c = leb 2 (length (c .states)) && is-o (kind-of c 0)
+rule-1 c = leb LEAST-STATES (length (c .states)) && is-o (kind-of c 0)
 
 -- R2 "the parent of state n > 0 is n-1 or an ancestor of n-1"
 unfoldable pub parent-fits : Chart → ℕ → Bool

@@ -7,7 +7,7 @@ use lib.ListN.{length, getD, drop}
 use lib.IntN.{ℤ, pos, negsuc}
 use lib.Signed.{leZ}
 use lib.Dec.{leb, ltb, eqb}
-use Rattle.sizes.specs.Sizes.{STATES, VARIABLES, EVENTS, TRANSITIONS, INSTRUCTIONS}
+use Rattle.sizes.specs.Sizes.{LEAST-STATES, STATES, VARIABLES, EVENTS, TRANSITIONS, INSTRUCTIONS}
 use Rattle.numbers.specs.Equal.{eqZ}
 use Rattle.numbers.specs.Range.{inRange}
 use Rattle.numbers.specs.Reference.{ref}
@@ -119,7 +119,7 @@ plan-by ns =
 
 unfoldable pub counts-keep : List ℤ → Bool
 counts-keep ns =
-    count-fits 2 STATES (num ns 0) && (count-fits 0 VARIABLES (num ns 1) && (count-fits 0 EVENTS (num ns 2)
+    count-fits LEAST-STATES STATES (num ns 0) && (count-fits 0 VARIABLES (num ns 1) && (count-fits 0 EVENTS (num ns 2)
     && (count-fits 0 TRANSITIONS (num ns 3) && count-fits 0 INSTRUCTIONS (num ns 4))))
 
 -- ---- "each variable row keeps R5 and the number range"
@@ -162,49 +162,49 @@ all-blocks-fill ns k = leZ (pos 0) (num ns 5) && blocks-fill (k .instructions) (
 -- ---- instructions
 
 -- what a number of an instruction is
-pub data Field : Type 0 where
-  a-state a-parent a-variable an-event a-constant a-skip unused : Field
+pub data Operand : Type 0 where
+  a-state a-parent a-variable an-event a-constant a-skip unused : Operand
 
 -- the three numbers after the code
-pub data Form : Type 0 where
-  no-form : Form
-  form : Field → Field → Field → Form
+pub data Shape : Type 0 where
+  no-shape : Shape
+  shape : Operand → Operand → Operand → Shape
 
 -- for the codes 0 to 11; "codes are 1 to 11"
-abbrev pub FORMS : List Form
-FORMS =
-    no-form
-    ∷ form a-state unused unused
-    ∷ form a-state a-parent unused
-    ∷ form a-state a-skip unused
-    ∷ form a-state a-skip unused
-    ∷ form a-state a-skip unused
-    ∷ form a-state a-state a-skip
-    ∷ form a-variable a-constant unused
-    ∷ form a-variable a-constant unused
-    ∷ form a-variable unused unused
-    ∷ form an-event a-constant unused
-    ∷ form a-constant unused unused
+abbrev pub SHAPES : List Shape
+SHAPES =
+    no-shape
+    ∷ shape a-state unused unused
+    ∷ shape a-state a-parent unused
+    ∷ shape a-state a-skip unused
+    ∷ shape a-state a-skip unused
+    ∷ shape a-state a-skip unused
+    ∷ shape a-state a-state a-skip
+    ∷ shape a-variable a-constant unused
+    ∷ shape a-variable a-constant unused
+    ∷ shape a-variable unused unused
+    ∷ shape an-event a-constant unused
+    ∷ shape a-constant unused unused
     ∷ []
 
 -- "states, variables and events named exist, p may be -1, a sent event is 1 or more, constants are in range, unused numbers are 0; and a
 -- skip is 0 or more and stays within its block", of which so many instructions follow
-unfoldable pub field-fits : Counts → ℕ → Field → ℤ → Bool
-field-fits k left a-state z = one-of (k .states) z
-field-fits k left a-parent z = eqZ z (negsuc 0) || one-of (k .states) z
-field-fits k left a-variable z = one-of (k .vars) z
-field-fits k left an-event z = count-fits 1 (k .events) z
-field-fits k left a-constant z = inRange z
-field-fits k left a-skip z = count-fits 0 left z
-field-fits k left unused z = eqZ z (pos 0)
+unfoldable pub operand-fits : Counts → ℕ → Operand → ℤ → Bool
+operand-fits k left a-state z = one-of (k .states) z
+operand-fits k left a-parent z = eqZ z (negsuc 0) || one-of (k .states) z
+operand-fits k left a-variable z = one-of (k .vars) z
+operand-fits k left an-event z = count-fits 1 (k .events) z
+operand-fits k left a-constant z = inRange z
+operand-fits k left a-skip z = count-fits 0 left z
+operand-fits k left unused z = eqZ z (pos 0)
 
-unfoldable pub form-fits : Counts → ℕ → Form → List ℤ → Bool
-form-fits k left no-form row = false
-form-fits k left (form f g h) row = field-fits k left f (num row 1) && (field-fits k left g (num row 2) && field-fits k left h (num row 3))
+unfoldable pub shape-fits : Counts → ℕ → Shape → List ℤ → Bool
+shape-fits k left no-shape row = false
+shape-fits k left (shape f g h) row = operand-fits k left f (num row 1) && (operand-fits k left g (num row 2) && operand-fits k left h (num row 3))
 
 -- the instruction that the row begins with
 unfoldable pub instr-fits : Counts → ℕ → List ℤ → Bool
-instr-fits k left row = form-fits k left (getD FORMS (ref (num row 0)) no-form) row
+instr-fits k left row = shape-fits k left (getD SHAPES (ref (num row 0)) no-shape) row
 
 -- for each instruction of a block of n: how many of the block follow it
 unfoldable pub left-after-each : ℕ → List ℕ
@@ -245,5 +245,5 @@ well-formed ns =
 
 -- everything above, opened: for statements that compute
 unfoldable pub well-formed-open : ℕ
-unfolding counts-of heads-at code-at plan-end var-rows head-rows code-rows head-guard-by head-by instr-act-by instr-of instr-by plan-by counts-keep var-keeps head-guard-fits span-fits head-fits blocks-fill all-blocks-fill field-fits form-fits instr-fits left-after-each left-in-blocks code-fits rows-well-formed is-whole well-formed
+unfolding counts-of heads-at code-at plan-end var-rows head-rows code-rows head-guard-by head-by instr-act-by instr-of instr-by plan-by counts-keep var-keeps head-guard-fits span-fits head-fits blocks-fill all-blocks-fill operand-fits shape-fits instr-fits left-after-each left-in-blocks code-fits rows-well-formed is-whole well-formed
 well-formed-open = 0

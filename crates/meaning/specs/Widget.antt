@@ -38,8 +38,8 @@ unfoldable pub is-filled : Slot → Bool
 is-filled empty = false
 is-filled (holds d) = true
 
-unfoldable pub value-of : State → ℕ → ℤ
-value-of u v = getD (u .vars) v (pos 0)
+unfoldable pub value-at : State → ℕ → ℤ
+value-at u v = getD (u .vars) v (pos 0)
 
 -- ---- changing a place
 
@@ -79,12 +79,12 @@ numbers (told x) = pos 6 ∷ x ∷ pos 0 ∷ []
 abbrev pub ENTRY : ℕ
 ENTRY = 3
 
-unfoldable pub written : List ℤ → Step Ctx
-written ns k = ok (record { state = k .state; out = k .out ++ ns; room = k .room - ENTRY })
+unfoldable pub add-numbers : List ℤ → Step Ctx
+add-numbers ns k = ok (record { state = k .state; out = k .out ++ ns; room = k .room - ENTRY })
 
 -- an entry is "written before the effect goes on"; 11 "no room for the next trace entry"
 unfoldable pub emit : Entry → Step Ctx
-emit e k = (require NO-ROOM (leb ENTRY (k .room)) then written (numbers e)) k
+emit e k = (require NO-ROOM (leb ENTRY (k .room)) then add-numbers (numbers e)) k
 
 -- a call starts with nothing written in a lent slice of n numbers
 unfoldable pub begin : State → ℕ → Ctx
@@ -92,5 +92,5 @@ begin u n = record { state = u; out = []; room = n }
 
 -- everything above, opened: for statements that compute
 unfoldable pub widget-open : ℕ
-unfolding is-active slot is-empty is-filled value-of set-active set-slot set-value set-queue change numbers written emit begin
+unfolding is-active slot is-empty is-filled value-at set-active set-slot set-value set-queue change numbers add-numbers emit begin
 widget-open = 0

@@ -59,7 +59,7 @@ pub struct Written {
 }
 
 // A line of the trace program's input (01, "Checked by example"): an event and its argument to post, or a line of another form.
-pub enum Line {
+pub enum Input {
     Posts(i32, i32),
     Wrong,
 }

@@ -11,7 +11,7 @@ use lib.ListN.{length, getD}
 use lib.Seq.{slice, slice-empty, slice-cons}
 use borrow.Author.Tests.{ltb-true, ltb-false, lt-ltb, le-ltb, eq-eqb, ne-eqb}
 use Rattle.sizes.specs.Sizes.{MOST}
-use Rattle.meaning.specs.Number.{BEYOND, value, natural, capped, natural-of, plain, minus, number-of}
+use Rattle.meaning.specs.Number.{BEYOND, value, natural, capped, natural-of, with-no-sign, minus, number-of}
 use Rattle.numerals.specs.Small.{Small}
 use Rattle.meaning.specs.declared.Num.{Num}
 use Rattle.meaning.specs.declared.Num.the-variants as num
@@ -88,7 +88,7 @@ module _ (s : List ℕ) (from to : ℕ) where
     unfolding number-of
     num-minus p = rw (slice-cons from to s 0 h k, p, add-one)
 
-    pub num-plain : (getD s from 0 ≡ 45 → ⊥) → number-of (slice from to s) ≡ plain (natural-of (slice from to s))
+    pub num-plain : (getD s from 0 ≡ 45 → ⊥) → number-of (slice from to s) ≡ with-no-sign (natural-of (slice from to s))
     unfolding number-of
     num-plain p = rw (slice-cons from to s 0 h k) (rw (ne-eqb (getD s from 0) 45 p))
 

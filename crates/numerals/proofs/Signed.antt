@@ -10,7 +10,7 @@ use lib.Signed.{mag, ltZ, nonNeg}
 use mir.Syntax.{w32, w64}
 use mir.Val.{SFits, Fits, toZ, ofZ}
 use mir.Facts.{toZ-ofZ, toZ-pos}
-use Rattle.meaning.specs.Number.{plain, minus}
+use Rattle.meaning.specs.Number.{with-no-sign, minus}
 use Rattle.numerals.specs.Small.{Small}
 use Rattle.sizes.specs.Sizes.{MOST}
 use Rattle.meaning.specs.declared.Num.{Num}
@@ -34,7 +34,7 @@ module _ (v : Nat) (n : ℕ) (e : v ≡ nat.Is n) (s : Small v) where
   pub is-fits : SFits w32 (pos n)
   is-fits = record { sfits = omega (arith, small-is) }
 
-  pub plain-is : num.Is (toZ w32 n) ≡ plain v
+  pub plain-is : num.Is (toZ w32 n) ≡ with-no-sign v
   plain-is = rw (e, toZ-pos w32 {n = n} (omega (arith, small-is)))
 
   module _ (h : n ≡ 0 → ⊥) where

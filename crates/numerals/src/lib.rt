@@ -8,7 +8,7 @@ ghost use Prim.Native.Nat.{_+_, _*_, _-_, _<_, _≤_, min};
 ghost use lib.ListN.{length};
 ghost use lib.Seq.{slice};
 ghost use Rattle.sizes.specs.Sizes.{MOST as Most};
-ghost use Rattle.meaning.specs.Number.{BEYOND as Beyond, value, capped, natural-of, plain, minus, number-of};
+ghost use Rattle.meaning.specs.Number.{BEYOND as Beyond, value, capped, natural-of, with-no-sign, minus, number-of};
 ghost use Rattle.numerals.specs.Small.{Small};
 
 // One past the range: it stands for every number beyond.
@@ -64,7 +64,7 @@ pub fn natural(s: &[u8], from: usize, to: usize) -> Nat
 // With no sign.
 fn plain_of(v: Nat) -> Num
     requires { ⌜ Small v ⌝ }
-    ensures { λ r. ⌜ r ≡ plain v ⌝ }
+    ensures { λ r. ⌜ r ≡ with-no-sign v ⌝ }
 {
     match v {
         Nat::Is(n) => Num::Is(n as i32),

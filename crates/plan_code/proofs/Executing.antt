@@ -21,7 +21,7 @@ use Rattle.meaning.specs.Chart.{no-var}
 use Rattle.meaning.specs.Tree.{var-row}
 use Rattle.meaning.specs.Effects.{mark-left, mark-entered, assign, act-on, act-var, perform, store-in}
 use Rattle.meaning.specs.Widget.{Ctx, ENTRY, is-active, slot, is-empty, is-filled}
-use Rattle.meaning.specs.Widget.{set-active, set-slot, change, written, emit, numbers, left, told}
+use Rattle.meaning.specs.Widget.{set-active, set-slot, change, add-numbers, emit, numbers, left, told}
 use Rattle.meaning.specs.Machine.{Mach, passing, go-on, on-if, holds-it, exec-now}
 use Rattle.meaning.specs.Value.{VAR-ROW, var-by}
 use Rattle.meaning.specs.WellFormed.{SIX, counts-of, plan-by}
@@ -101,10 +101,10 @@ Long n (ok k) = length (k .state .slots) ≡ n
 Long n (refuse m) = Unit {0}
 
 left-long : (p : Slot) (s : ℕ) (k : Ctx) → Long (length (k .state .slots)) (mark-left p s k)
-unfolding Long mark-left emit _then_ bind require written change store-in set-active set-slot
+unfolding Long mark-left emit _then_ bind require add-numbers change store-in set-active set-slot
 left-long p s k = go p (leb ENTRY (k .room))
   where
-    go : (p : Slot) (b : Bool) → Long (length (k .state .slots)) (bind (bind (require 11 b k) (written (numbers (left s))))
+    go : (p : Slot) (b : Bool) → Long (length (k .state .slots)) (bind (bind (require 11 b k) (add-numbers (numbers (left s))))
         (change (λ u. store-in p s (set-active s false u))))
     go empty true = refl
     go (holds q) true = length-set (k .state .slots) q (pos s)

@@ -21,11 +21,11 @@ use Rattle.meaning.specs.Lists.{concat-map}
 use Rattle.meaning.specs.Value.{VAR-ROW, count-fits, num}
 use Rattle.meaning.specs.declared.plan.Counts.{Counts}
 use Rattle.meaning.specs.declared.plan.Instr.{Instr}
-use Rattle.meaning.specs.WellFormed.{FORMS, Field, SIX, HEAD-ROW, INSTR-ROW, a-parent, a-skip}
-use Rattle.meaning.specs.WellFormed.{a-state, form, unused, counts-of, heads-at, code-at, head-rows}
+use Rattle.meaning.specs.WellFormed.{SHAPES, Operand, SIX, HEAD-ROW, INSTR-ROW, a-parent, a-skip}
+use Rattle.meaning.specs.WellFormed.{a-state, shape, unused, counts-of, heads-at, code-at, head-rows}
 use Rattle.meaning.specs.WellFormed.{head-by, instr-of, instr-act-by, instr-by, plan-by}
-use Rattle.meaning.specs.WellFormed.{all-blocks-fill, blocks-fill, field-fits, form-fits, instr-fits}
-use Rattle.meaning.specs.WellFormed.{left-after-each, left-in-blocks, code-fits, no-form, well-formed}
+use Rattle.meaning.specs.WellFormed.{all-blocks-fill, blocks-fill, operand-fits, shape-fits, instr-fits}
+use Rattle.meaning.specs.WellFormed.{left-after-each, left-in-blocks, code-fits, no-shape, well-formed}
 use Rattle.plan_rows.specs.Rows.{row, Sized}
 use Rattle.plan_rows.proofs.Rows.{code-length, head-rows-length, head-rows-at, instr-of-plan, instr-there}
 use Rattle.plan_rows.proofs.Blocks.{fills-within, fills-first, fills-rest, left-cons, code-next, code-first, code-block}
@@ -57,23 +57,23 @@ module _ (k : Counts) (sized : Sized k) (left : ℕ) (near : left ≤ INSTRUCTIO
   says z = instr-of z (num row 1) (num row 2) (num row 3)
 
   -- the second and the third of an instruction's three numbers
-  second : (f g h : Field) → form-fits k left (form f g h) row ≡ true → field-fits k left g (num row 2) ≡ true
-  unfolding form-fits
-  second f g h e = and-left (field-fits k left g (num row 2)) _ (and-right (field-fits k left f (num row 1)) _ e)
+  second : (f g h : Operand) → shape-fits k left (shape f g h) row ≡ true → operand-fits k left g (num row 2) ≡ true
+  unfolding shape-fits
+  second f g h e = and-left (operand-fits k left g (num row 2)) _ (and-right (operand-fits k left f (num row 1)) _ e)
 
-  third : (f g h : Field) → form-fits k left (form f g h) row ≡ true → field-fits k left h (num row 3) ≡ true
-  unfolding form-fits
-  third f g h e = and-right (field-fits k left g (num row 2)) _ (and-right (field-fits k left f (num row 1)) _ e)
+  third : (f g h : Operand) → shape-fits k left (shape f g h) row ≡ true → operand-fits k left h (num row 3) ≡ true
+  unfolding shape-fits
+  third f g h e = and-right (operand-fits k left g (num row 2)) _ (and-right (operand-fits k left f (num row 1)) _ e)
 
   state : ltb (ref (num row 1)) (k .states) ≡ true → ref (num row 1) < STATES
   state e = below (k .states) STATES (num row 1) (sized .states) e
 
-  skips : (f : Field) → form-fits k left (form f a-skip unused) row ≡ true → ref (num row 2) ≤ INSTRUCTIONS
-  unfolding field-fits
+  skips : (f : Operand) → shape-fits k left (shape f a-skip unused) row ≡ true → ref (num row 2) ≤ INSTRUCTIONS
+  unfolding operand-fits
   skips f e = skip left (num row 2) near (second f a-skip unused e)
 
-  code-named : (c : ℕ) → form-fits k left (getD FORMS c no-form) row ≡ true → Runs (k .vars) (says (pos c))
-  unfolding form-fits field-fits instr-of instr-act-by
+  code-named : (c : ℕ) → shape-fits k left (getD SHAPES c no-shape) row ≡ true → Runs (k .vars) (says (pos c))
+  unfolding shape-fits operand-fits instr-of instr-act-by
   code-named zero e = absurd (false≢true e)
   code-named (suc zero) e = state (and-left _ _ e)
   code-named (suc (suc zero)) e = (
@@ -99,12 +99,12 @@ module _ (k : Counts) (sized : Sized k) (left : ℕ) (near : left ≤ INSTRUCTIO
   code-named (suc (suc (suc (suc (suc (suc (suc (suc (suc (suc (suc (suc c)))))))))))) e = absurd (false≢true e)
 
   -- a code below 0 has no form
-  any-code-named : (z : ℤ) → form-fits k left (getD FORMS (ref z) no-form) row ≡ true → Runs (k .vars) (says z)
-  unfolding form-fits
+  any-code-named : (z : ℤ) → shape-fits k left (getD SHAPES (ref z) no-shape) row ≡ true → Runs (k .vars) (says z)
+  unfolding shape-fits
   any-code-named (pos c) e = code-named c e
   any-code-named (negsuc c) e =
-      let past : length FORMS ≤ NOWHERE = omega arith in
-      absurd (false≢true (subst (λ f. form-fits k left f row ≡ true) (List·getD-eq-default FORMS no-form past) e))
+      let past : length SHAPES ≤ NOWHERE = omega arith in
+      absurd (false≢true (subst (λ f. shape-fits k left f row ≡ true) (List·getD-eq-default SHAPES no-shape past) e))
 
 -- the row of four numbers, and the numbers that begin with it
 in-row : (n i : ℕ) (l : List ℤ) → i < n → num (take n l) i ≡ num l i

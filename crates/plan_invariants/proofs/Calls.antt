@@ -33,7 +33,7 @@ use Rattle.invariants.specs.Named.{all-named}
 use Rattle.plan_invariants.specs.Names.{of-plan}
 use Rattle.queue.proofs.Tidy.{removed-long}
 use Rattle.queue.proofs.Waiting.{removed-front, removed-none}
-use Rattle.queue.specs.Queue.{empty-queue, none as none-item, removed}
+use Rattle.queue.specs.Queue.{empty-queue, no-item as none-item, removed}
 use Rattle.queue.specs.declared.Removed.{Removed}
 use Rattle.sizes.specs.Sizes.{QUEUE, STATES, VARIABLES}
 

@@ -15,9 +15,9 @@ use Rattle.laws.proofs.Lists.{Each, and-left, and-right, none-left, one-more, o
 use Rattle.meaning.specs.Lists.{every}
 use Rattle.meaning.specs.Rules.{row-fits}
 use Rattle.meaning.specs.Value.{count-fits, num, var-by, var-statable}
-use Rattle.meaning.specs.WellFormed.{FORMS, Field, INSTR-ROW, a-constant, a-parent, a-skip, a-state, a-variable, an-event, field-fits, form}
-use Rattle.meaning.specs.WellFormed.{form-fits, head-by, head-fits, head-guard-by, head-guard-fits, instr-act-by, instr-by, instr-fits}
-use Rattle.meaning.specs.WellFormed.{instr-of, no-form, one-of, span-fits, unused, var-keeps}
+use Rattle.meaning.specs.WellFormed.{SHAPES, Operand, INSTR-ROW, a-constant, a-parent, a-skip, a-state, a-variable, an-event, operand-fits, shape}
+use Rattle.meaning.specs.WellFormed.{shape-fits, head-by, head-fits, head-guard-by, head-guard-fits, instr-act-by, instr-by, instr-fits}
+use Rattle.meaning.specs.WellFormed.{instr-of, no-shape, one-of, span-fits, unused, var-keeps}
 use Rattle.meaning.specs.declared.chart.Guard.the-variants.{Always as always, Compares as compares}
 use Rattle.meaning.specs.declared.chart.Sign.the-variants.{Equal as equal, Less as less, More as more}
 use Rattle.meaning.specs.declared.plan.Counts.{Counts}
@@ -56,21 +56,21 @@ module _ (k : Counts) (left : ℕ) (row : List ℤ) where
   says z = instr-of z (num row 1) (num row 2) (num row 3)
 
   -- the second and third of an instruction's three numbers
-  second : (f g h : Field) → form-fits k left (form f g h) row ≡ true → field-fits k left g (num row 2) ≡ true
-  unfolding form-fits
-  second f g h e = and-left (field-fits k left g (num row 2)) _ (and-right (field-fits k left f (num row 1)) _ e)
+  second : (f g h : Operand) → shape-fits k left (shape f g h) row ≡ true → operand-fits k left g (num row 2) ≡ true
+  unfolding shape-fits
+  second f g h e = and-left (operand-fits k left g (num row 2)) _ (and-right (operand-fits k left f (num row 1)) _ e)
 
-  third : (f g h : Field) → form-fits k left (form f g h) row ≡ true → field-fits k left h (num row 3) ≡ true
-  unfolding form-fits
-  third f g h e = and-right (field-fits k left g (num row 2)) _ (and-right (field-fits k left f (num row 1)) _ e)
+  third : (f g h : Operand) → shape-fits k left (shape f g h) row ≡ true → operand-fits k left h (num row 3) ≡ true
+  unfolding shape-fits
+  third f g h e = and-right (operand-fits k left g (num row 2)) _ (and-right (operand-fits k left f (num row 1)) _ e)
 
   -- SKIPOUT, SKIPEMPTY and SKIPFULL
-  skips : form-fits k left (form a-state a-skip unused) row ≡ true → (ref (num row 1) < k .states) × (ref (num row 2) ≤ left)
-  unfolding form-fits field-fits
+  skips : shape-fits k left (shape a-state a-skip unused) row ≡ true → (ref (num row 1) < k .states) × (ref (num row 2) ≤ left)
+  unfolding shape-fits operand-fits
   skips e = (below-of (k .states) (num row 1) (and-left _ _ e), count-of 0 left (num row 2) (second a-state a-skip unused e) .1)
 
-  code-fitting : (c : ℕ) → form-fits k left (getD FORMS c no-form) row ≡ true → Instr-fits k left (says (pos c))
-  unfolding form-fits field-fits instr-of instr-act-by
+  code-fitting : (c : ℕ) → shape-fits k left (getD SHAPES c no-shape) row ≡ true → Instr-fits k left (says (pos c))
+  unfolding shape-fits operand-fits instr-of instr-act-by
   code-fitting zero e = absurd (false≢true e)
   code-fitting (suc zero) e = below-of (k .states) (num row 1) (and-left _ _ e)
   code-fitting (suc (suc zero)) e =
@@ -95,12 +95,12 @@ module _ (k : Counts) (left : ℕ) (row : List ℤ) where
   code-fitting (suc (suc (suc (suc (suc (suc (suc (suc (suc (suc (suc (suc c)))))))))))) e = absurd (false≢true e)
 
   -- a code below 0 has no form
-  any-code-fitting : (z : ℤ) → form-fits k left (getD FORMS (ref z) no-form) row ≡ true → Instr-fits k left (says z)
-  unfolding form-fits
+  any-code-fitting : (z : ℤ) → shape-fits k left (getD SHAPES (ref z) no-shape) row ≡ true → Instr-fits k left (says z)
+  unfolding shape-fits
   any-code-fitting (pos c) e = code-fitting c e
   any-code-fitting (negsuc c) e =
-      let past : length FORMS ≤ NOWHERE = omega arith in
-      absurd (false≢true (subst (λ f. form-fits k left f row ≡ true) (List·getD-eq-default FORMS no-form past) e))
+      let past : length SHAPES ≤ NOWHERE = omega arith in
+      absurd (false≢true (subst (λ f. shape-fits k left f row ≡ true) (List·getD-eq-default SHAPES no-shape past) e))
 
 -- the row of four numbers, and the numbers that begin with it
 in-row : (n i : ℕ) (l : List ℤ) → i < n → num (take n l) i ≡ num l i

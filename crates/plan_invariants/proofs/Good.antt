@@ -25,7 +25,7 @@ use Rattle.meaning.specs.Rules.{row-fits, within-row}
 use Rattle.meaning.specs.Steps.{_then_, bind, look, require}
 use Rattle.meaning.specs.Tree.{var-row}
 use Rattle.meaning.specs.Widget.{Ctx, ENTRY, Entry, change, changed, emit, entered, is-active, is-empty, is-filled, left, numbers, sent}
-use Rattle.meaning.specs.Widget.{set-active, set-queue, set-slot, set-value, slot, taken, told, value-of, written}
+use Rattle.meaning.specs.Widget.{set-active, set-queue, set-slot, set-value, slot, taken, told, value-at, add-numbers}
 use Rattle.meaning.specs.declared.State.{State}
 use Rattle.meaning.specs.declared.chart.Act.{Act}
 use Rattle.meaning.specs.declared.chart.Act.the-variants.{AddTo as add-to, Send as send, SetTo as set-to, TakeTo as take-to, Tell as tell}
@@ -154,10 +154,10 @@ module _ (p : Plan) where
   change-good f h k g = record { state = h (k .state) (g .state); trace = g .trace }
 
   pub emit-good : (e : Entry) → Entry-named (of-plan p) e → Runs Refusal (Good p) (emit e)
-  unfolding emit written _then_ require bind
+  unfolding emit add-numbers _then_ require bind
   emit-good e h k g = go (leb ENTRY (k .room))
     where
-      go : (b : Bool) → Ends Refusal (bind (require 11 b k) (written (numbers e))) (Good p)
+      go : (b : Bool) → Ends Refusal (bind (require 11 b k) (add-numbers (numbers e))) (Good p)
       go true = record { state = g .state; trace = named-more (of-plan p) (k .out) (numbers e) (g .trace) (numbers-named (of-plan p) e h) }
       go false = λ z. omega arith
 
@@ -211,7 +211,7 @@ module _ (p : Plan) (w : Well p) where
   act-good : (a : ℤ) (x : Act) → Act-fits (counts p) x → Runs Refusal (Good p) (perform (p .vars) a x)
   unfolding perform act-on act-var of-plan counts
   act-good a (set-to v x) f = assign-good v x (f .0)
-  act-good a (add-to v x) f = look-runs Refusal (Good p) _ (λ k g. assign-good v (value-of (k .state) v +ℤ x) (f .0))
+  act-good a (add-to v x) f = look-runs Refusal (Good p) _ (λ k g. assign-good v (value-at (k .state) v +ℤ x) (f .0))
   act-good a (take-to v) f = assign-good v a f
   act-good a (send e x) f =
       let h = sent-fits e x (f .0) (f .1) (f .2) in

@@ -14,7 +14,7 @@ use Rattle.meaning.specs.Plan.{Plan}
 use Rattle.meaning.specs.Steps.{_then_, bind, look, require}
 use Rattle.meaning.specs.Tree.{var-row}
 use Rattle.meaning.specs.Widget.{Ctx, ENTRY, Entry, change, emit, entered, is-active, is-empty, is-filled, left, numbers, set-active}
-use Rattle.meaning.specs.Widget.{set-queue, set-slot, set-value, slot, value-of, written}
+use Rattle.meaning.specs.Widget.{set-queue, set-slot, set-value, slot, value-at, add-numbers}
 use Rattle.meaning.specs.declared.State.{State}
 use Rattle.meaning.specs.declared.chart.Act.{Act}
 use Rattle.meaning.specs.declared.chart.Act.the-variants.{AddTo as add-to, Send as send, SetTo as set-to, TakeTo as take-to, Tell as tell}
@@ -38,10 +38,10 @@ On M k = M (k .state .active)
 
 module _ (R : ℕ → Type 0) (M : List Bool → Type 0) where
   pub emit-marked : R 11 → (e : Entry) → Runs R (On M) (emit e)
-  unfolding emit written _then_ require bind
+  unfolding emit add-numbers _then_ require bind
   emit-marked no-room e k h = go (leb ENTRY (k .room))
     where
-      go : (b : Bool) → Ends R (bind (require 11 b k) (written (numbers e))) (On M)
+      go : (b : Bool) → Ends R (bind (require 11 b k) (add-numbers (numbers e))) (On M)
       go true = h
       go false = no-room
 
@@ -70,7 +70,7 @@ module _ (R : ℕ → Type 0) (M : List Bool → Type 0) where
   act-marked : R 9 → R 11 → (r : VarRow) (a : ℤ) (x : Act) → Runs R (On M) (act-on r a x)
   unfolding act-on
   act-marked full no-room r a (set-to v x) = assign-marked no-room r v x
-  act-marked full no-room r a (add-to v x) = look-runs R (On M) _ (λ k h. assign-marked no-room r v (value-of (k .state) v +ℤ x))
+  act-marked full no-room r a (add-to v x) = look-runs R (On M) _ (λ k h. assign-marked no-room r v (value-at (k .state) v +ℤ x))
   act-marked full no-room r a (take-to v) = assign-marked no-room r v a
   act-marked full no-room r a (send e x) = then-runs R (On M) _ _ (emit-marked no-room _) (enqueue-marked full (pos e) x)
   act-marked full no-room r a (tell x) = emit-marked no-room _

@@ -16,7 +16,7 @@ use Rattle.meaning.specs.Plan.{Plan, act-numbers, guard-numbers, head-numbers, 
 use Rattle.meaning.specs.Plan.{var-numbers}
 use Rattle.meaning.specs.Value.{VAR-ROW, num, var-by, var-statable}
 use Rattle.meaning.specs.WellFormed.{HEAD-ROW, INSTR-ROW, all-blocks-fill, blocks-fill, code-at, code-fits, counts-keep, counts-of}
-use Rattle.meaning.specs.WellFormed.{field-fits, form-fits, head-fits, head-guard-fits, head-rows, heads-at, instr-fits, is-whole}
+use Rattle.meaning.specs.WellFormed.{operand-fits, shape-fits, head-fits, head-guard-fits, head-rows, heads-at, instr-fits, is-whole}
 use Rattle.meaning.specs.WellFormed.{left-after-each, left-in-blocks, plan-end, rows-well-formed, span-fits, var-keeps, var-rows}
 use Rattle.meaning.specs.WellFormed.{well-formed}
 use Rattle.meaning.specs.declared.chart.Act.the-variants.{AddTo as add-to, Send as send, SetTo as set-to, TakeTo as take-to, Tell as tell}
@@ -157,7 +157,7 @@ lengths-back (h ∷ hs) = rw (head-end h 3, lengths-back hs)
 
 instr-passes : (k : Counts) (left : ℕ) (i : Instr) (rest : List ℤ) → Instr-fits k left i
     → instr-fits k left (instr-numbers i ++ rest) ≡ true
-unfolding instr-fits form-fits field-fits instr-numbers act-numbers slot-number
+unfolding instr-fits shape-fits operand-fits instr-numbers act-numbers slot-number
 instr-passes k left (go-in s) rest h = rw (lt-ltb s (k .states) h)
 instr-passes k left (go-out s empty) rest h = rw (lt-ltb s (k .states) (h .0))
 instr-passes k left (go-out s (holds p)) rest h = rw (lt-ltb s (k .states) (h .0), lt-ltb p (k .states) (h .1))

@@ -33,9 +33,9 @@ use Rattle.meaning.specs.declared.plan.Instr.the-variants.{In as go-in, Out as 
 use Rattle.meaning.specs.declared.plan.Instr.the-variants.{SkipFull as skip-full, SkipNot as skip-not, Does as does}
 use Rattle.meaning.specs.Value.{num, size-by, count-fits}
 use Rattle.meaning.specs.WellFormed.{INSTR-ROW, head-guard-by, head-by, instr-act-by, instr-of, instr-by, one-of}
-use Rattle.meaning.specs.WellFormed.{head-guard-fits, span-fits, head-fits, Field, a-state, a-parent, a-variable, an-event}
+use Rattle.meaning.specs.WellFormed.{head-guard-fits, span-fits, head-fits, Operand, a-state, a-parent, a-variable, an-event}
 use Rattle.meaning.specs.WellFormed.{a-constant, a-skip, unused}
-use Rattle.meaning.specs.WellFormed.{Form, no-form, form, FORMS, field-fits, form-fits, instr-fits}
+use Rattle.meaning.specs.WellFormed.{Shape, no-shape, shape, SHAPES, operand-fits, shape-fits, instr-fits}
 
 -- ---- the facts
 
@@ -154,51 +154,51 @@ module _ (k : Counts) where
 -- ---- an instruction, by its code
 
 module _ (k : Counts) (left : ℕ) where
-  state-kept : (z : ℤ) → field-fits k left a-state z ≡ true → ref z < k .states
-  unfolding field-fits
+  state-kept : (z : ℤ) → operand-fits k left a-state z ≡ true → ref z < k .states
+  unfolding operand-fits
   state-kept z e = ltb-true (ref z) (k .states) e
 
-  parent-kept : (z : ℤ) → field-fits k left a-parent z ≡ true → Slot-kept k (placeOf z)
-  unfolding field-fits
+  parent-kept : (z : ℤ) → operand-fits k left a-parent z ≡ true → Slot-kept k (placeOf z)
+  unfolding operand-fits
   parent-kept (pos p) e = ltb-true p (k .states) e
   parent-kept (negsuc p) e = tt
 
-  variable-kept : (z : ℤ) → field-fits k left a-variable z ≡ true → ref z < k .vars
-  unfolding field-fits
+  variable-kept : (z : ℤ) → operand-fits k left a-variable z ≡ true → ref z < k .vars
+  unfolding operand-fits
   variable-kept z e = ltb-true (ref z) (k .vars) e
 
-  event-kept : (z : ℤ) → field-fits k left an-event z ≡ true → (1 ≤ ref z) × (ref z ≤ k .events)
-  unfolding field-fits
+  event-kept : (z : ℤ) → operand-fits k left an-event z ≡ true → (1 ≤ ref z) × (ref z ≤ k .events)
+  unfolding operand-fits
   event-kept z e = count-named 1 (k .events) z e
 
-  constant-kept : (z : ℤ) → field-fits k left a-constant z ≡ true → inRange z ≡ true
-  unfolding field-fits
+  constant-kept : (z : ℤ) → operand-fits k left a-constant z ≡ true → inRange z ≡ true
+  unfolding operand-fits
   constant-kept z e = e
 
-  skip-kept : (z : ℤ) → field-fits k left a-skip z ≡ true → ref z ≤ left
-  unfolding field-fits
+  skip-kept : (z : ℤ) → operand-fits k left a-skip z ≡ true → ref z ≤ left
+  unfolding operand-fits
   skip-kept z e = count-named 0 left z e .1
 
   -- the three numbers of a form
-  abbrev fit : Form → ℤ → ℤ → ℤ → Bool
-  fit no-form x y z = false
-  fit (form f g h) x y z = field-fits k left f x && (field-fits k left g y && field-fits k left h z)
+  abbrev fit : Shape → ℤ → ℤ → ℤ → Bool
+  fit no-shape x y z = false
+  fit (shape f g h) x y z = operand-fits k left f x && (operand-fits k left g y && operand-fits k left h z)
 
-  fit-row : (f : Form) (l : List ℤ) → form-fits k left f l ≡ fit f (num l 1) (num l 2) (num l 3)
-  unfolding form-fits
-  fit-row no-form l = refl
-  fit-row (form f g h) l = refl
+  fit-row : (f : Shape) (l : List ℤ) → shape-fits k left f l ≡ fit f (num l 1) (num l 2) (num l 3)
+  unfolding shape-fits
+  fit-row no-shape l = refl
+  fit-row (shape f g h) l = refl
 
-  three : (f g h : Field) (x y z : ℤ) → fit (form f g h) x y z ≡ true
-      → (field-fits k left f x ≡ true) × (field-fits k left g y ≡ true) × (field-fits k left h z ≡ true)
+  three : (f g h : Operand) (x y z : ℤ) → fit (shape f g h) x y z ≡ true
+      → (operand-fits k left f x ≡ true) × (operand-fits k left g y ≡ true) × (operand-fits k left h z ≡ true)
   three f g h x y z e =
-      let r = and-right (field-fits k left f x) (field-fits k left g y && field-fits k left h z) e in (
-        and-left (field-fits k left f x) (field-fits k left g y && field-fits k left h z) e,
-        and-left (field-fits k left g y) (field-fits k left h z) r,
-        and-right (field-fits k left g y) (field-fits k left h z) r,
+      let r = and-right (operand-fits k left f x) (operand-fits k left g y && operand-fits k left h z) e in (
+        and-left (operand-fits k left f x) (operand-fits k left g y && operand-fits k left h z) e,
+        and-left (operand-fits k left g y) (operand-fits k left h z) r,
+        and-right (operand-fits k left g y) (operand-fits k left h z) r,
       )
 
-  code-kept : (c x y z : ℤ) → fit (getD FORMS (ref c) no-form) x y z ≡ true → Instr-kept k left (instr-of c x y z)
+  code-kept : (c x y z : ℤ) → fit (getD SHAPES (ref c) no-shape) x y z ≡ true → Instr-kept k left (instr-of c x y z)
   unfolding instr-of instr-act-by
   code-kept (pos zero) x y z e = absurd (false≢true e)
   code-kept (pos (suc zero)) x y z e = state-kept x (three a-state unused unused x y z e .0)
@@ -242,4 +242,4 @@ module _ (k : Counts) (left : ℕ) where
         getD-take INSTR-ROW l 2 (pos 0) (omega arith),
         getD-take INSTR-ROW l 3 (pos 0) (omega arith),
       )
-      (code-kept (num l 0) (num l 1) (num l 2) (num l 3) (sym (fit-row (getD FORMS (ref (num l 0)) no-form) l) ∙ e))
+      (code-kept (num l 0) (num l 1) (num l 2) (num l 3) (sym (fit-row (getD SHAPES (ref (num l 0)) no-shape) l) ∙ e))

@@ -15,7 +15,7 @@ use files::chart_text;
 use libc::STDERR_FILENO;
 use libc::STDIN_FILENO;
 use libc::STDOUT_FILENO;
-use meaning::Line;
+use meaning::Input;
 use meaning::answers::WRONG_LINE;
 ghost use Prim.Native.Nat.{_≤_};
 ghost use lib.ListN.{length};
@@ -177,8 +177,8 @@ fn do_line(plan: &[i32], here: Stand) -> Stand
     let state = here.state;
     let line = scan.line();
     match line {
-        Line::Posts(event, arg) => do_event(plan, here, event, arg),
-        Line::Wrong => Stand {
+        Input::Posts(event, arg) => do_event(plan, here, event, arg),
+        Input::Wrong => Stand {
             shown: here.shown,
             answer: refusal(here.shown, WRONG_LINE),
             state: state,

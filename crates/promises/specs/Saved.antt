@@ -13,7 +13,7 @@ use Rattle.numbers.specs.Equal.{eqZ}
 use Rattle.numbers.specs.Range.{within}
 use Rattle.numbers.specs.Reference.{NOWHERE}
 use Rattle.queue.specs.Queue.{empty-queue}
-use Rattle.queue.specs.Numbers.{QUEUE-NUMBERS, queue-by, flat}
+use Rattle.queue.specs.Numbers.{QUEUE-NUMBERS, queue-by, item-numbers}
 use Rattle.meaning.specs.declared.State.{State}
 use Rattle.meaning.specs.Lists.{every}
 
@@ -42,7 +42,7 @@ unfoldable pub small : ℕ → ℤ
 small n = cond (ltb n NOWHERE) (pos n) (negsuc 0)
 
 unfoldable pub saved : State → List ℤ
-saved u = (mark (u .started) ∷ map mark (u .active)) ++ u .slots ++ u .vars ++ (small (u .queue .len) ∷ flat (u .queue .items))
+saved u = (mark (u .started) ∷ map mark (u .active)) ++ u .slots ++ u .vars ++ (small (u .queue .len) ∷ item-numbers (u .queue .items))
 
 -- ---- the state that numbers give
 

@@ -13,18 +13,18 @@ use Rattle.sizes.specs.Sizes.{QUEUE}
 use Rattle.numbers.specs.Reference.{ref}
 use Rattle.queue.specs.declared.Item.{Item}
 use Rattle.queue.specs.declared.Queue.{Queue}
-use Rattle.queue.specs.Queue.{appended, removed, shifted, none, item}
+use Rattle.queue.specs.Queue.{appended, removed, shifted, no-item, item}
 use Rattle.queue.proofs.Copy.{copied, copied-suc}
 use Rattle.queue.proofs.Waiting.{removed-front, removed-none}
-use Rattle.queue.specs.Numbers.{QUEUE-NUMBERS, places, queue-by, flat, told, numbers-of}
+use Rattle.queue.specs.Numbers.{QUEUE-NUMBERS, places, queue-by, item-numbers, told-length, numbers-of}
 
 -- ---- places
 
 double : (n : ℕ) → 2 * suc n ≡ suc (suc (2 * n))
 double n = omega arith
 
-pub flat-long : (xs : List Item) → length (flat xs) ≡ 2 * length xs
-unfolding flat
+pub flat-long : (xs : List Item) → length (item-numbers xs) ≡ 2 * length xs
+unfolding item-numbers
 flat-long [] = refl
 flat-long (x ∷ xs) = rw double (ap (λ n. suc (suc n)) (flat-long xs))
 
@@ -35,20 +35,20 @@ places-long (x ∷ []) n e = absurd (omega arith)
 places-long (x ∷ y ∷ ns) zero e = absurd (omega arith)
 places-long (x ∷ y ∷ ns) (suc n) e = ap suc (places-long ns n (omega arith))
 
-pub flat-event : (xs : List Item) (i : ℕ) (z : ℤ) → i < length xs → getD (flat xs) (2 * i) z ≡ getD xs i none .event
-unfolding flat
+pub flat-event : (xs : List Item) (i : ℕ) (z : ℤ) → i < length xs → getD (item-numbers xs) (2 * i) z ≡ getD xs i no-item .event
+unfolding item-numbers
 flat-event [] i z h = absurd (omega arith)
 flat-event (x ∷ xs) zero z h = refl
 flat-event (x ∷ xs) (suc i) z h = rw (double i) (flat-event xs i z (omega arith))
 
-pub flat-arg : (xs : List Item) (i : ℕ) (z : ℤ) → i < length xs → getD (flat xs) (suc (2 * i)) z ≡ getD xs i none .arg
-unfolding flat
+pub flat-arg : (xs : List Item) (i : ℕ) (z : ℤ) → i < length xs → getD (item-numbers xs) (suc (2 * i)) z ≡ getD xs i no-item .arg
+unfolding item-numbers
 flat-arg [] i z h = absurd (omega arith)
 flat-arg (x ∷ xs) zero z h = refl
 flat-arg (x ∷ xs) (suc i) z h = rw (double i) (flat-arg xs i z (omega arith))
 
 pub places-at : (ns : List ℤ) (i : ℕ) (z : ℤ) → suc (2 * i) < length ns
-    → getD (places ns) i none ≡ item (getD ns (2 * i) z) (getD ns (suc (2 * i)) z)
+    → getD (places ns) i no-item ≡ item (getD ns (2 * i) z) (getD ns (suc (2 * i)) z)
 unfolding places
 places-at [] i z h = absurd (omega arith)
 places-at (x ∷ []) i z h = absurd (omega arith)
@@ -72,24 +72,24 @@ places-append (x ∷ y ∷ ms) ns (suc n) e = ap (λ xs. item x y ∷ xs) (place
 
 -- ---- the two ways round
 
-places-flat : (xs : List Item) → places (flat xs) ≡ xs
-unfolding places flat
+places-flat : (xs : List Item) → places (item-numbers xs) ≡ xs
+unfolding places item-numbers
 places-flat [] = refl
 places-flat (x ∷ xs) = ap (λ ys. x ∷ ys) (places-flat xs)
 
-flat-places : (ns : List ℤ) (n : ℕ) → length ns ≡ 2 * n → flat (places ns) ≡ ns
-unfolding places flat
+flat-places : (ns : List ℤ) (n : ℕ) → length ns ≡ 2 * n → item-numbers (places ns) ≡ ns
+unfolding places item-numbers
 flat-places [] n e = refl
 flat-places (x ∷ []) n e = absurd (omega arith)
 flat-places (x ∷ y ∷ ns) zero e = absurd (omega arith)
 flat-places (x ∷ y ∷ ns) (suc n) e = ap (λ xs. x ∷ y ∷ xs) (flat-places ns n (omega arith))
 
-pub told-is : (n : ℕ) → n ≤ QUEUE → told n ≡ n
-unfolding told
+pub told-is : (n : ℕ) → n ≤ QUEUE → told-length n ≡ n
+unfolding told-length
 told-is n h = rw (le-ltb QUEUE n h)
 
-pub told-over : (n : ℕ) → QUEUE < n → told n ≡ QUEUE + 1
-unfolding told
+pub told-over : (n : ℕ) → QUEUE < n → told-length n ≡ QUEUE + 1
+unfolding told-length
 told-over n h = rw (lt-ltb QUEUE n h)
 
 -- a queue that is lent is held as it was
@@ -108,21 +108,21 @@ abbrev pub zeros : List ℤ
 zeros = replicate QUEUE-NUMBERS (pos 0)
 
 abbrev pub free : List Item
-free = replicate QUEUE none
+free = replicate QUEUE no-item
 
 pub numbers-long : (q : Queue) → length (q .items) ≡ QUEUE → length (numbers-of q) ≡ QUEUE-NUMBERS
 unfolding numbers-of
 numbers-long q l = rw (flat-long (q .items), l)
 
 -- the length stands first
-pub lend-begin : (q : Queue) (x : ℤ) → x ≡ pos (told (q .len)) → set zeros 0 x ≡ copied zeros (numbers-of q) 1
+pub lend-begin : (q : Queue) (x : ℤ) → x ≡ pos (told-length (q .len)) → set zeros 0 x ≡ copied zeros (numbers-of q) 1
 unfolding numbers-of
 lend-begin q x e = rw e
 
 -- one more place is written
 pub lend-more : (q : Queue) (ns : List ℤ) (i : ℕ) (e a : ℤ) → length (q .items) ≡ QUEUE → i < QUEUE
     → ns ≡ copied zeros (numbers-of q) (2 * i + 1)
-    → e ≡ getD (q .items) i none .event → a ≡ getD (q .items) i none .arg
+    → e ≡ getD (q .items) i no-item .event → a ≡ getD (q .items) i no-item .arg
     → set (set ns (2 * i + 1) e) (2 * i + 1 + 1) a ≡ copied zeros (numbers-of q) (2 * (i + 1) + 1)
 unfolding numbers-of
 lend-more q ns i e a l h p f g =
@@ -138,10 +138,10 @@ lend-more q ns i e a l h p f g =
       m,
     )
   where
-    event : getD (numbers-of q) (2 * i + 1) (pos 0) ≡ getD (q .items) i none .event
+    event : getD (numbers-of q) (2 * i + 1) (pos 0) ≡ getD (q .items) i no-item .event
     event = let s : 2 * i + 1 ≡ suc (2 * i) = omega arith in rw s (flat-event (q .items) i (pos 0) (omega arith))
 
-    arg : getD (numbers-of q) (2 * i + 1 + 1) (pos 0) ≡ getD (q .items) i none .arg
+    arg : getD (numbers-of q) (2 * i + 1 + 1) (pos 0) ≡ getD (q .items) i no-item .arg
     arg = let s : 2 * i + 1 + 1 ≡ suc (suc (2 * i)) = omega arith in rw s (flat-arg (q .items) i (pos 0) (omega arith))
 
 pub lend-all : (q : Queue) (ns : List ℤ) (i : ℕ) → length (q .items) ≡ QUEUE → i ≡ QUEUE → ns ≡ copied zeros (numbers-of q) (2 * i + 1)
@@ -161,14 +161,14 @@ module _ (ns : List ℤ) (l : length ns ≡ QUEUE-NUMBERS) where
       → set ps i (item e a) ≡ copied free (places (drop 1 ns)) (i + 1)
   held-more ps i e a h p f g =
       let n = rest-long in
-      let r = length-replicate QUEUE none in
+      let r = length-replicate QUEUE no-item in
       let s : 1 + 2 * i ≡ 2 * i + 1 = omega arith in
       let t : 1 + suc (2 * i) ≡ 2 * i + 1 + 1 = omega arith in
-      let at : getD (places (drop 1 ns)) i none ≡ item e a =
+      let at : getD (places (drop 1 ns)) i no-item ≡ item e a =
       places-at (drop 1 ns) i (pos 0) (rw length-drop (omega arith))
       ∙ ap (λ x. item x (getD (drop 1 ns) (suc (2 * i)) (pos 0))) (getD-drop 1 ns (2 * i) (pos 0) ∙ ap (λ j. getD ns j (pos 0)) s ∙ sym f)
       ∙ ap (item e) (getD-drop 1 ns (suc (2 * i)) (pos 0) ∙ ap (λ j. getD ns j (pos 0)) t ∙ sym g) in
-      rw (p, ← at) (copied-suc free (places (drop 1 ns)) i none (omega arith) (omega arith))
+      rw (p, ← at) (copied-suc free (places (drop 1 ns)) i no-item (omega arith) (omega arith))
 
   pub held-all : (ps : List Item) (i n : ℕ) → i ≡ QUEUE → ps ≡ copied free (places (drop 1 ns)) i → n ≡ ref (getD ns 0 (pos 0))
       → _≡_ {A = Queue} (record { len = n; items = ps }) (queue-by ns)
@@ -268,11 +268,11 @@ places-shifted (x ∷ y ∷ t) l = places-append t (pos 0 ∷ pos 0 ∷ []) (QUE
 
 module _ (ns : List ℤ) (n : ℕ) (e : n ≡ ref (getD ns 0 (pos 0))) where
   -- nothing waits, or the length is none
-  pub remove-none : n ≡ 0 → removed (queue-by ns) ≡ record { done = false; front = none; queue = queue-by ns }
+  pub remove-none : n ≡ 0 → removed (queue-by ns) ≡ record { done = false; front = no-item; queue = queue-by ns }
   unfolding queue-by
   remove-none h = removed-none (queue-by ns) (sym e ∙ h)
 
-  pub remove-over : QUEUE < n → removed (queue-by ns) ≡ record { done = false; front = none; queue = queue-by ns }
+  pub remove-over : QUEUE < n → removed (queue-by ns) ≡ record { done = false; front = no-item; queue = queue-by ns }
   unfolding removed queue-by
   remove-over h = rw (← e, ne-eqb n 0 (λ z. omega arith), lt-ltb QUEUE n h)
 

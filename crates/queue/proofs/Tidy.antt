@@ -14,12 +14,12 @@ use lib.Seq.{set-append-seam, append-snoc, take-append-seam, length-take-le}
 use Rattle.sizes.specs.Sizes.{QUEUE}
 use Rattle.queue.specs.declared.Item.{Item}
 use Rattle.queue.specs.declared.Queue.{Queue}
-use Rattle.queue.specs.Queue.{appended, removed, shifted, none, item, waiting, empty-queue, queue-of}
+use Rattle.queue.specs.Queue.{appended, removed, shifted, no-item, item, waiting, empty-queue, queue-of}
 use Rattle.queue.proofs.Waiting.{appended-room, appended-full, removed-front, removed-none}
 
 pub waiting-of : (w : List Item) → waiting (queue-of w) ≡ w
 unfolding queue-of
-waiting-of w = take-append-seam w (replicate (QUEUE - length w) none)
+waiting-of w = take-append-seam w (replicate (QUEUE - length w) no-item)
 
 pub empty-of : empty-queue ≡ queue-of []
 unfolding empty-queue queue-of
@@ -41,7 +41,7 @@ appended-of w e a h =
     rw (
       appended-room (queue-of w) e a h,
       l,
-      stored w (item e a) none (QUEUE - length w) (QUEUE - (length w + 1)) (omega arith),
+      stored w (item e a) no-item (QUEUE - length w) (QUEUE - (length w + 1)) (omega arith),
     )
 
 pub appended-of-full : (w : List Item) (e a : ℤ) → QUEUE ≤ length w → appended (queue-of w) e a ≡ record { done = false; queue = queue-of w }
@@ -59,16 +59,16 @@ removed-of x w h =
     let n : suc (length w) - 1 ≡ length w = omega arith in
     rw (
       removed-front (queue-of (x ∷ w)) (omega arith) (omega arith),
-      freed w none (QUEUE - suc (length w)) (QUEUE - length w) (omega arith),
+      freed w no-item (QUEUE - suc (length w)) (QUEUE - length w) (omega arith),
       n,
     )
 
-pub removed-of-none : removed (queue-of []) ≡ record { done = false; front = none; queue = queue-of [] }
+pub removed-of-none : removed (queue-of []) ≡ record { done = false; front = no-item; queue = queue-of [] }
 unfolding queue-of
 removed-of-none = removed-none (queue-of []) refl
 
 -- a queue whose places not in use are free is the one of what waits
-pub tidy-is : (q : Queue) → q .len ≤ QUEUE → length (q .items) ≡ QUEUE → drop (q .len) (q .items) ≡ replicate (QUEUE - q .len) none
+pub tidy-is : (q : Queue) → q .len ≤ QUEUE → length (q .items) ≡ QUEUE → drop (q .len) (q .items) ≡ replicate (QUEUE - q .len) no-item
     → q ≡ queue-of (waiting q)
 unfolding queue-of
 tidy-is q h l t =

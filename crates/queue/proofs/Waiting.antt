@@ -11,7 +11,7 @@ use lib.ListN.{length, take, drop, getD, set, length-drop, length-append, length
 use lib.Seq.{take-suc-set, take-append-le, take-nil}
 use Rattle.queue.specs.declared.Item.{Item}
 use Rattle.queue.specs.declared.Queue.{Queue}
-use Rattle.queue.specs.Queue.{appended, removed, shifted, none, item, waiting, empty-queue}
+use Rattle.queue.specs.Queue.{appended, removed, shifted, no-item, item, waiting, empty-queue}
 use Rattle.sizes.specs.Sizes.{QUEUE}
 
 -- nothing waits in an empty queue
@@ -38,7 +38,7 @@ take-drop : (n : ℕ) (l : List Item) → take n (drop 1 l) ≡ drop 1 (take (su
 take-drop n [] = take-nil n
 take-drop n (x ∷ l) = refl
 
-front-first : (n : ℕ) (l : List Item) → 0 < n → 0 < length l → take n l ≡ getD l 0 none ∷ drop 1 (take n l)
+front-first : (n : ℕ) (l : List Item) → 0 < n → 0 < length l → take n l ≡ getD l 0 no-item ∷ drop 1 (take n l)
 front-first zero l h k = absurd (omega arith)
 front-first (suc n) [] h k = absurd (omega arith)
 front-first (suc n) (x ∷ l) h k = refl
@@ -46,11 +46,11 @@ front-first (suc n) (x ∷ l) h k = refl
 -- a removal from a queue in which something waits, and from one in which nothing does
 module _ (q : Queue) where
   pub removed-front : 0 < q .len → q .len ≤ QUEUE
-      → removed q ≡ record { done = true; front = getD (q .items) 0 none; queue = record { len = q .len - 1; items = shifted (q .items) } }
+      → removed q ≡ record { done = true; front = getD (q .items) 0 no-item; queue = record { len = q .len - 1; items = shifted (q .items) } }
   unfolding removed
   removed-front h k = rw (ne-eqb (q .len) 0 (λ e. omega arith), le-ltb QUEUE (q .len) k)
 
-  pub removed-none : q .len ≡ 0 → removed q ≡ record { done = false; front = none; queue = q }
+  pub removed-none : q .len ≡ 0 → removed q ≡ record { done = false; front = no-item; queue = q }
   unfolding removed
   removed-none h = rw (eq-eqb (q .len) 0 h)
 
@@ -59,7 +59,7 @@ module _ (q : Queue) where
   removed-waits h k l =
       let s : suc (q .len - 1) ≡ q .len = omega arith in
       rw (ne-eqb (q .len) 0 (λ e. omega arith), le-ltb QUEUE (q .len) k)
-      (take-append-le (q .len - 1) (drop 1 (q .items)) (none ∷ []) (rw length-drop (omega arith)) ∙ take-drop (q .len - 1) (q .items) ∙ rw s)
+      (take-append-le (q .len - 1) (drop 1 (q .items)) (no-item ∷ []) (rw length-drop (omega arith)) ∙ take-drop (q .len - 1) (q .items) ∙ rw s)
 
   -- what waited is the front that was handed out, and then what waits now
   pub removed-splits : 0 < q .len → q .len ≤ QUEUE → length (q .items) ≡ QUEUE

@@ -27,14 +27,14 @@ unfoldable pub queue-by : List ℤ → Queue
 queue-by ns = record { len = ref (getD ns 0 (pos 0)); items = places (drop 1 ns) }
 
 -- places as numbers
-unfoldable pub flat : List Item → List ℤ
-flat [] = []
-flat (x ∷ xs) = x .event ∷ x .arg ∷ flat xs
+unfoldable pub item-numbers : List Item → List ℤ
+item-numbers [] = []
+item-numbers (x ∷ xs) = x .event ∷ x .arg ∷ item-numbers xs
 
 -- a length as a number: all that are over the places are alike
-unfoldable pub told : ℕ → ℕ
-told n = cond (ltb QUEUE n) (QUEUE + 1) n
+unfoldable pub told-length : ℕ → ℕ
+told-length n = cond (ltb QUEUE n) (QUEUE + 1) n
 
 -- the numbers of a queue
 unfoldable pub numbers-of : Queue → List ℤ
-numbers-of q = pos (told (q .len)) ∷ flat (q .items)
+numbers-of q = pos (told-length (q .len)) ∷ item-numbers (q .items)

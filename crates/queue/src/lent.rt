@@ -11,7 +11,7 @@ ghost use mathlib.Core.Path.{_≡_};
 ghost use lib.IntN.{pos};
 ghost use lib.ListN.{length};
 ghost use Rattle.queue.specs.Queue.{appended, removed};
-ghost use Rattle.queue.specs.Numbers.{QUEUE-NUMBERS as all, queue-by, numbers-of, told};
+ghost use Rattle.queue.specs.Numbers.{QUEUE-NUMBERS as all, queue-by, numbers-of, told-length};
 
 // One number for the length, two for each place.
 pub const QUEUE_NUMBERS: usize = 1 + 2 * QUEUE;
@@ -27,7 +27,7 @@ pub struct Taken {
 
 // A length as a number; all that are over the places are alike.
 fn told_length(len: usize) -> i32
-    ensures { λ r. ⌜ r ≡ pos (told len) ⌝ }
+    ensures { λ r. ⌜ r ≡ pos (told-length len) ⌝ }
 {
     if QUEUE < len {
         return number(QUEUE + 1);

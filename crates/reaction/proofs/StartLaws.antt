@@ -9,7 +9,7 @@ use lib.ListN.{length, take, drop, replicate, set, length-map, length-replicate}
 use lib.Seq.{take-all}
 use lib.IntN.{ℤ, pos, negsuc}
 use Rattle.sizes.specs.Sizes.{STATES, VARIABLES, QUEUE}
-use Rattle.queue.specs.Queue.{none, empty-queue}
+use Rattle.queue.specs.Queue.{no-item, empty-queue}
 use Rattle.queue.specs.Numbers.{QUEUE-NUMBERS, queue-by, numbers-of}
 use Rattle.queue.proofs.Numbers.{held-lent, numbers-long}
 use Rattle.queue.proofs.Copy.{copied, copied-suc}
@@ -91,7 +91,7 @@ none-lent = held-lent empty-queue (omega arith)
 
 none-whole : length (numbers-of empty-queue) ≡ QUEUE-NUMBERS
 unfolding empty-queue
-none-whole = numbers-long empty-queue (length-replicate QUEUE none)
+none-whole = numbers-long empty-queue (length-replicate QUEUE no-item)
 
 -- a fresh widget as it is lent
 abbrev pub fresh-lent : List ℤ → List ℤ → Lent

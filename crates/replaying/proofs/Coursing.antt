@@ -9,7 +9,7 @@ use lib.ListN.{length, getD, take, drop, take-append-drop, length-drop}
 use lib.Seq.{drop-cons, take-all, take-suc}
 use Rattle.sizes.specs.Sizes.{QUEUE, STATES}
 use Rattle.queue.specs.Numbers.{QUEUE-NUMBERS, queue-by}
-use Rattle.queue.specs.Queue.{none}
+use Rattle.queue.specs.Queue.{no-item}
 use Rattle.queue.specs.declared.Item.{Item}
 use Rattle.queue.proofs.Numbers.{places-long}
 use Rattle.invariants.proofs.Good.{Sized}
@@ -84,10 +84,10 @@ module _ {p : Plan} (w : Well p) {xs : List Item} {u : State} {n d : ℕ} {k : L
     whole = c .whole;
   }
 
-  module _ (l : d < length xs) {x : Item} (i : getD xs d none ≡ x) {r : Turn} {k′ : Lent} (t : Turned p x k r k′) where
+  module _ (l : d < length xs) {x : Item} (i : getD xs d no-item ≡ x) {r : Turn} {k′ : Lent} (t : Turned p x k r k′) where
     -- the events from this one on
     split : xs ≡ take d xs ++ (x ∷ drop (suc d) xs)
-    split = sym (take-append-drop d xs) ∙ ap (λ ys. take d xs ++ ys) (drop-cons xs d none l ∙ ap (λ y. y ∷ drop (suc d) xs) i)
+    split = sym (take-append-drop d xs) ∙ ap (λ ys. take d xs ++ ys) (drop-cons xs d no-item l ∙ ap (λ y. y ∷ drop (suc d) xs) i)
 
     from-here : (zs : List Item) → through p n u (take d xs ++ zs) ≡ replay-by (post-on p) (run-on p n) d (widget k) (take at (k .trace)) zs
     from-here zs = replay-on (post-on p) (run-on p n) (take d xs) 0 u [] zs (c .so-far)
@@ -109,7 +109,7 @@ module _ {p : Plan} (w : Well p) {xs : List Item} {u : State} {n d : ℕ} {k : L
       pub coursing-more : Coursing p xs u n (d + 1) k′ (r .at)
       unfolding replay-by
       coursing-more = record {
-        so-far = ap (through p n u) (ap (λ j. take j xs) (add-one d) ∙ take-suc xs d none l ∙ ap (λ y. take d xs ++ (y ∷ [])) i)
+        so-far = ap (through p n u) (ap (λ j. take j xs) (add-one d) ∙ take-suc xs d no-item l ∙ ap (λ y. take d xs ++ (y ∷ [])) i)
             ∙ from-here (x ∷ [])
             ∙ one-done (post-on p) (run-on p n) d (widget k) (take at (k .trace)) x [] posts ran
             ∙ ap (λ j. course j 0 (widget k′) (take (r .at) (k′ .trace))) (sym (add-one d));

@@ -8,7 +8,7 @@ use lib.ListN.{length, getD, take}
 use lib.Seq.{getD-take, length-take-le, take-all}
 use lib.IntN.{ℤ, pos}
 use Rattle.queue.specs.Numbers.{places}
-use Rattle.queue.specs.Queue.{item, none}
+use Rattle.queue.specs.Queue.{item, no-item}
 use Rattle.queue.proofs.Numbers.{places-at}
 use Rattle.invariants.proofs.Good.{Sized}
 use Rattle.meaning.specs.WellFormed.{plan-by, well-formed}
@@ -45,17 +45,17 @@ all-items ns n h = let g = places-few ns in take-all n (places ns) (omega (arith
 
 -- the event at a place, with its argument
 pub event-at : (ns : List ℤ) (n d : ℕ) (e a : ℤ) → d < n → 2 * n ≤ length ns → e ≡ getD ns (2 * d) (pos 0)
-    → a ≡ getD ns (2 * d + 1) (pos 0) → getD (take n (items-of ns)) d none ≡ item e a
+    → a ≡ getD ns (2 * d + 1) (pos 0) → getD (take n (items-of ns)) d no-item ≡ item e a
 event-at ns n d e a l h f g =
     let s : suc (2 * d) ≡ 2 * d + 1 = omega arith in
-    getD-take n (places ns) d none l
+    getD-take n (places ns) d no-item l
     ∙ places-at ns d (pos 0) (omega (arith, l, h))
     ∙ ap (λ x. item x (getD ns (suc (2 * d)) (pos 0))) (sym f)
     ∙ ap (item e) (ap (λ j. getD ns j (pos 0)) s ∙ sym g)
 
 -- the same of all of them
 pub event-here : (ns : List ℤ) (d : ℕ) (e a : ℤ) → d < length (items-of ns) → e ≡ getD ns (2 * d) (pos 0)
-    → a ≡ getD ns (2 * d + 1) (pos 0) → getD (items-of ns) d none ≡ item e a
+    → a ≡ getD ns (2 * d + 1) (pos 0) → getD (items-of ns) d no-item ≡ item e a
 event-here ns d e a l f g =
     let h = places-few ns in
     let s : suc (2 * d) ≡ 2 * d + 1 = omega arith in

@@ -11,7 +11,7 @@ use Rattle.sizes.specs.Sizes.{QUEUE}
 use Rattle.numbers.specs.Equal.{eqZ}
 use Rattle.numbers.specs.Reference.{ref}
 use Rattle.numbers.proofs.Laws.{eqZ-true}
-use Rattle.queue.specs.Queue.{appended, item, none, removed}
+use Rattle.queue.specs.Queue.{appended, item, no-item, removed}
 use Rattle.queue.specs.Numbers.{QUEUE-NUMBERS, numbers-of, places, queue-by}
 use Rattle.queue.specs.declared.Item.{Item}
 use Rattle.queue.specs.declared.Queue.{Queue}
@@ -27,19 +27,19 @@ use Rattle.replaying.specs.Turns.{Free, Passes}
 
 -- ---- free places
 
-free-is : (x : Item) → is-none x ≡ true → x ≡ none
+free-is : (x : Item) → is-none x ≡ true → x ≡ no-item
 unfolding is-none
 free-is x h =
     let e : x .event ≡ pos 0 = eqZ-true (x .event) (pos 0) (and-left (eqZ (x .event) (pos 0)) _ h) in
     let a : x .arg ≡ pos 0 = eqZ-true (x .arg) (pos 0) (and-right (eqZ (x .event) (pos 0)) _ h) in
     ap (λ y. item y (x .arg)) e ∙ ap (item (pos 0)) a
 
-all-free : (xs : List Item) → every is-none xs ≡ true → xs ≡ replicate (length xs) none
+all-free : (xs : List Item) → every is-none xs ≡ true → xs ≡ replicate (length xs) no-item
 unfolding every
 all-free [] h = refl
 all-free (x ∷ xs) h =
     ap (λ y. y ∷ xs) (free-is x (and-left (is-none x) (every is-none xs) h))
-    ∙ ap (λ ys. none ∷ ys) (all-free xs (and-right (is-none x) (every is-none xs) h))
+    ∙ ap (λ ys. no-item ∷ ys) (all-free xs (and-right (is-none x) (every is-none xs) h))
 
 -- ---- an event that is appended can be taken
 
@@ -70,7 +70,7 @@ module _ (q : Queue) (e a : ℤ) (h : q .len < QUEUE) where
   left-whole l = numbers-long (removed (appended q e a .queue) .queue) (left-long l)
 
 -- nothing waits before it: it comes out as it went in, and the queue is as it was
-through-empty : (n : ℕ) (xs : List Item) (e a : ℤ) → n ≡ 0 → xs ≡ replicate QUEUE none
+through-empty : (n : ℕ) (xs : List Item) (e a : ℤ) → n ≡ 0 → xs ≡ replicate QUEUE no-item
     → removed (appended (record { len = n; items = xs }) e a .queue)
     ≡ record { done = true; front = item e a; queue = record { len = n; items = xs } }
 unfolding removed appended
@@ -110,9 +110,9 @@ module _ (ns : List ℤ) (w : length ns ≡ QUEUE-NUMBERS) (n : ℕ) (l : n ≡ 
           whole = refl;
         }
       where
-        none-there : queue-by ns .items ≡ replicate QUEUE none
+        none-there : queue-by ns .items ≡ replicate QUEUE no-item
         none-there = all-free (queue-by ns .items) (subst (λ m. every is-none (drop m (queue-by ns .items)) ≡ true) (sym l ∙ z) f)
-            ∙ ap (λ m. replicate m none) items-long
+            ∙ ap (λ m. replicate m no-item) items-long
 
     pub pass-on : (ms : List ℤ) (r : Removed) → r ≡ removed (appended (queue-by ns) e a .queue) → ms ≡ numbers-of (r .queue)
         → Passes ns e a (record { done = true; front = r .front }) ms

@@ -9,7 +9,7 @@ use lib.Seq.{length-take-le}
 use lib.IntN.{ℤ, pos}
 use Rattle.sizes.specs.Sizes.{QUEUE}
 use Rattle.queue.specs.Numbers.{numbers-of, queue-by}
-use Rattle.queue.specs.Queue.{appended, item, none}
+use Rattle.queue.specs.Queue.{appended, item, no-item}
 use Rattle.queue.specs.declared.Item.{Item}
 use Rattle.queue.specs.declared.Queue.{Queue}
 use Rattle.queue.proofs.Numbers.{held-lent, numbers-long}
@@ -150,12 +150,12 @@ module _ {p : Plan} {u : State} (h : Starts p u) (z : Sized u) {ns : List ℤ} (
         let s = ap (λ v. through p (length t) v (take d xs)) (widget-is h z l t) ∙ w .broken y .ends in
         absurd (w .broken y .refused (ap (λ (c : Course). c .number) (sym s) ∙ b .done))
 
-    module _ {x : Item} (i : getD xs d none ≡ x) (ms : List ℤ) (q : queue-by ms ≡ appended (queue-by (k .queue)) (x .event) (x .arg) .queue)
+    module _ {x : Item} (i : getD xs d no-item ≡ x) (ms : List ℤ) (q : queue-by ms ≡ appended (queue-by (k .queue)) (x .event) (x .arg) .queue)
       where
-        after-is : post-on p (getD xs d none) (through p (length t) u (take d xs) .after) ≡ post-on p x (widget k)
+        after-is : post-on p (getD xs d no-item) (through p (length t) u (take d xs) .after) ≡ post-on p x (widget k)
         after-is = ap (λ y. post-on p y (through p (length t) u (take d xs) .after)) i ∙ ap (post-on p x) (again (g .posted) refl)
 
-        state-is : post-on p (getD xs d none) (through p (length t) u (take d xs) .after) .after ≡ widget (with-queue ms k)
+        state-is : post-on p (getD xs d no-item) (through p (length t) u (take d xs) .after) .after ≡ widget (with-queue ms k)
         unfolding set-queue
         state-is =
             ap (λ (o : Outcome). o .after) after-is

@@ -7,7 +7,7 @@ use mathlib.Core.List.{List, []}
 use lib.ListN.{length, getD, take}
 use lib.IntN.{ℤ, pos}
 use Rattle.sizes.specs.Sizes.{STATES, VARIABLES}
-use Rattle.queue.specs.Queue.{none}
+use Rattle.queue.specs.Queue.{no-item}
 use Rattle.queue.specs.declared.Item.{Item}
 use Rattle.meaning.specs.Machine.{plan-own}
 use Rattle.meaning.specs.Lists.{padded}
@@ -41,8 +41,8 @@ pub record Broken (p : Plan) (n : ℕ) (xs : List Item) (u : State) (d m : ℕ) 
   pub within : d < length xs
   pub refused : m ≡ 0 → ⊥
   pub done : through p n u (take d xs) .number ≡ 0
-  pub posted : post-on p (getD xs d none) (through p n u (take d xs) .after) .number ≡ 0
-  pub ends : through p n u xs ≡ course d m (post-on p (getD xs d none) (through p n u (take d xs) .after) .after) []
+  pub posted : post-on p (getD xs d no-item) (through p n u (take d xs) .after) .number ≡ 0
+  pub ends : through p n u xs ≡ course d m (post-on p (getD xs d no-item) (through p n u (take d xs) .after) .after) []
 
 -- events that were gone through: none is left or a post is refused, and then what is lent says the state; or a run is refused
 pub record Gone-through (p : Plan) (xs : List Item) (before : Lent) (r : Gone) (after : Lent) : Type 0 where

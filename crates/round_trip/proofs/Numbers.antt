@@ -13,7 +13,7 @@ use borrow.Author.Tests.{ltb-true, ltb-false, lt-ltb, le-ltb, leb-true, le-leb, 
 use Rattle.sizes.specs.Sizes.{MOST}
 use Rattle.numbers.specs.Range.{inRange, lowest, highest}
 use Rattle.numbers.proofs.Ranges.{within-low, within-high, within-both}
-use Rattle.meaning.specs.Number.{BEYOND, value, alone, unless-zero, natural, capped, natural-of, plain, minus, signed, number-of, by-size, digits-in, digits, numeral}
+use Rattle.meaning.specs.Number.{BEYOND, value, alone, unless-zero, natural, capped, natural-of, with-no-sign, minus, signed, number-of, by-size, digits-in, digits, numeral}
 use Rattle.meaning.specs.declared.Num.the-variants as num
 use Rattle.meaning.specs.declared.Nat.{Nat}
 use Rattle.meaning.specs.declared.Nat.the-variants as nat
@@ -245,7 +245,7 @@ number-writes (b ∷ bs) z e = go (eqb b 45) refl e
     below nat.Beyond p e = no cc
     below nat.Not p e = no cc
 
-    above : (v : Nat) → natural-of (b ∷ bs) ≡ v → plain v ≡ num.Is z → (numeral z ≡ b ∷ bs) × (natAbs z ≤ MOST)
+    above : (v : Nat) → natural-of (b ∷ bs) ≡ v → with-no-sign v ≡ num.Is z → (numeral z ≡ b ∷ bs) × (natAbs z ≤ MOST)
     above (nat.Is n) p e = let k : z ≡ pos n = cc in rw k (natural-of-writes (b ∷ bs) n p)
     above nat.Beyond p e = no cc
     above nat.Not p e = no cc

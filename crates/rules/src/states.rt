@@ -8,6 +8,7 @@ use chart_rows::tree::is_ancestor;
 use chart_rows::tree::is_child;
 use chart_rows::tree::is_o;
 use meaning::chart::Kind;
+use sizes::LEAST_STATES;
 use sizes::STATES;
 ghost use mathlib.Core.Path.{_≡_};
 ghost use mathlib.Core.Bool.{_&&_};
@@ -28,7 +29,7 @@ pub fn is_state(chart: &[i32], s: usize) -> bool
 pub fn rule_1(chart: &[i32]) -> bool
     ensures { λ r. ⌜ r ≡ rule-1 (chart-of (now (chart .entry))) ⌝ }
 {
-    if state_count(chart) < 2 {
+    if state_count(chart) < LEAST_STATES {
         return false;
     }
     is_o(kind_of(chart, 0))

@@ -15,7 +15,7 @@ use lib.Seq.{take-at, drop-at, getD-at, take-add, length-take-le, getD-take, get
 use Rattle.sizes.specs.Sizes.{STATES, VARIABLES, QUEUE, STATE-NUMBERS}
 use Rattle.numbers.specs.Reference.{ref, NOWHERE}
 use Rattle.queue.specs.declared.Item.{Item}
-use Rattle.queue.specs.Numbers.{QUEUE-NUMBERS, places, flat, queue-by, numbers-of}
+use Rattle.queue.specs.Numbers.{QUEUE-NUMBERS, places, item-numbers, queue-by, numbers-of}
 use Rattle.queue.proofs.Numbers.{held-lent, lent-held, flat-long}
 use Rattle.meaning.specs.declared.State.{State}
 use Rattle.meaning.specs.Lists.{every}
@@ -31,11 +31,11 @@ part-of : (a p r : List ℤ) (at n : ℕ) → length a ≡ at → length p ≡ n
 unfolding part
 part-of a p r at n h k = rw (drop-at a (p ++ r) at h) (take-at p r n k)
 
-places-back : (xs : List Item) → places (flat xs) ≡ xs
+places-back : (xs : List Item) → places (item-numbers xs) ≡ xs
 unfolding queue-by numbers-of
 places-back xs = ap (λ q. q .items) (held-lent (record { len = 0; items = xs }) (omega arith))
 
-flat-back : (ns : List ℤ) → length ns ≡ 2 * QUEUE → flat (places ns) ≡ ns
+flat-back : (ns : List ℤ) → length ns ≡ 2 * QUEUE → item-numbers (places ns) ≡ ns
 unfolding queue-by numbers-of
 flat-back ns h = ap (drop 1) (lent-held 0 ns (omega arith) h)
 
@@ -59,7 +59,7 @@ module _ (u : State) (z : Sized u) where
   head = mark (u .started) ∷ map mark (u .active)
 
   abbrev tail : List ℤ
-  tail = small (u .queue .len) ∷ flat (u .queue .items)
+  tail = small (u .queue .len) ∷ item-numbers (u .queue .items)
 
   head-long : length head ≡ MARKS
   head-long = let h = length-map (u .active) mark in omega (arith, z .active)
@@ -114,7 +114,7 @@ module _ (u : State) (z : Sized u) where
     length-part : getD ns LENGTH-AT (pos 0) ≡ small (u .queue .len)
     length-part =
         rw vars-first
-        (getD-at (head ++ u .slots ++ u .vars) (small (u .queue .len)) (flat (u .queue .items) ++ rest) (pos 0) LENGTH-AT vars-long)
+        (getD-at (head ++ u .slots ++ u .vars) (small (u .queue .len)) (item-numbers (u .queue .items) ++ rest) (pos 0) LENGTH-AT vars-long)
 
     first-part : getD ns 0 (pos 0) ≡ mark (u .started)
     first-part = rw head-first refl
@@ -195,7 +195,7 @@ module _ (ns : List ℤ) (h : states-widget ns ≡ true) where
 
   -- the queue
   tail-back : (xs : List ℤ) → length xs ≡ QUEUE-NUMBERS → ltZ (getD xs 0 (pos 0)) (pos 0) ≡ false → ref (getD xs 0 (pos 0)) < NOWHERE
-      → small (queue-by xs .len) ∷ flat (queue-by xs .items) ≡ xs
+      → small (queue-by xs .len) ∷ item-numbers (queue-by xs .items) ≡ xs
   unfolding queue-by
   tail-back [] l e f = absurd (omega arith)
   tail-back (x ∷ xs) l e f = rw (small-ref x e f, flat-back xs (omega arith))
@@ -217,7 +217,7 @@ module _ (ns : List ℤ) (h : states-widget ns ≡ true) where
   stated-back f =
       let k = enough in
       let q = part LENGTH-AT QUEUE-NUMBERS ns in
-      ap (λ m. m ++ part SLOTS-AT STATES ns ++ part VARS-AT VARIABLES ns ++ (small (queue-by q .len) ∷ flat (queue-by q .items)))
+      ap (λ m. m ++ part SLOTS-AT STATES ns ++ part VARS-AT VARIABLES ns ++ (small (queue-by q .len) ∷ item-numbers (queue-by q .items)))
       (head-back ns all-marks (omega arith))
       ∙ ap (λ t. take MARKS ns ++ part SLOTS-AT STATES ns ++ part VARS-AT VARIABLES ns ++ t)
       (tail-back q queue-long (rw queue-first not-below) (rw queue-first f))

@@ -11,7 +11,7 @@ use lib.ListN.{length, getD, take, drop, set, length-map, length-append, List·g
 use lib.Seq.{paste, set-at, length-take-le}
 use Rattle.sizes.specs.Sizes.{STATES, VARIABLES, QUEUE, STATE-NUMBERS}
 use Rattle.queue.specs.declared.Queue.{Queue}
-use Rattle.queue.specs.Numbers.{QUEUE-NUMBERS, flat, told, numbers-of}
+use Rattle.queue.specs.Numbers.{QUEUE-NUMBERS, item-numbers, told-length, numbers-of}
 use Rattle.queue.proofs.Numbers.{flat-long}
 use Rattle.meaning.specs.declared.State.{State}
 use Rattle.invariants.proofs.Good.{Sized}
@@ -30,7 +30,7 @@ mark-more d now active i x l k h e f =
 -- the queue as it is lent, and then its own length
 pub length-written : (d now : List ℤ) (q : Queue) (x : ℤ) → length (q .items) ≡ QUEUE → STATE-NUMBERS ≤ length d
     → now ≡ paste d LENGTH-AT (numbers-of q) QUEUE-NUMBERS → x ≡ small (q .len)
-    → set now LENGTH-AT x ≡ paste d LENGTH-AT (small (q .len) ∷ flat (q .items)) QUEUE-NUMBERS
+    → set now LENGTH-AT x ≡ paste d LENGTH-AT (small (q .len) ∷ item-numbers (q .items)) QUEUE-NUMBERS
 unfolding numbers-of
 length-written d now q x k l e f =
     let n = flat-long (q .items) in
@@ -39,9 +39,9 @@ length-written d now q x k l e f =
       e,
       f,
       append-assoc (take LENGTH-AT d) (take QUEUE-NUMBERS (numbers-of q)) (drop (LENGTH-AT + QUEUE-NUMBERS) d),
-      append-assoc (take LENGTH-AT d) (take QUEUE-NUMBERS (small (q .len) ∷ flat (q .items))) (drop (LENGTH-AT + QUEUE-NUMBERS) d),
+      append-assoc (take LENGTH-AT d) (take QUEUE-NUMBERS (small (q .len) ∷ item-numbers (q .items))) (drop (LENGTH-AT + QUEUE-NUMBERS) d),
     )
-    (set-at (take LENGTH-AT d) (pos (told (q .len))) (take (2 * QUEUE) (flat (q .items)) ++ drop (LENGTH-AT + QUEUE-NUMBERS) d)
+    (set-at (take LENGTH-AT d) (pos (told-length (q .len))) (take (2 * QUEUE) (item-numbers (q .items)) ++ drop (LENGTH-AT + QUEUE-NUMBERS) d)
     (small (q .len)) LENGTH-AT at)
 
 -- too few numbers stay
@@ -76,7 +76,7 @@ module _ (u : State) (z : Sized u) (ns : List ℤ) (l : STATE-NUMBERS ≤ length
   pub all-written : (n0 n1 n2 n3 n4 : List ℤ) → n0 ≡ on first ns
       → n1 ≡ paste n0 1 (map mark (u .active)) STATES → n2 ≡ paste n1 SLOTS-AT (u .slots) STATES
       → n3 ≡ paste n2 VARS-AT (u .vars) VARIABLES
-      → n4 ≡ paste n3 LENGTH-AT (small (u .queue .len) ∷ flat (u .queue .items)) QUEUE-NUMBERS
+      → n4 ≡ paste n3 LENGTH-AT (small (u .queue .len) ∷ item-numbers (u .queue .items)) QUEUE-NUMBERS
       → n4 ≡ stored u ns
   unfolding stored saved
   all-written n0 n1 n2 n3 n4 e0 e1 e2 e3 e4 =
@@ -85,16 +85,16 @@ module _ (u : State) (z : Sized u) (ns : List ℤ) (l : STATE-NUMBERS ≤ length
       let s1 = length-append first (map mark (u .active)) in
       let s2 = length-append marks (u .slots) in
       let s3 = length-append (marks ++ u .slots) (u .vars) in
-      let s4 = length-append (marks ++ u .slots ++ u .vars) (small (u .queue .len) ∷ flat (u .queue .items)) in
+      let s4 = length-append (marks ++ u .slots ++ u .vars) (small (u .queue .len) ∷ item-numbers (u .queue .items)) in
       let f1 = e1 ∙ paste-next first ns (map mark (u .active)) n0 1 STATES e0 refl (omega (arith, z .active)) in
       let f2 = e2 ∙ paste-next marks ns (u .slots) n1 SLOTS-AT STATES f1 (omega (arith, z .active)) (omega (arith, z .slots)) in
       let f3 =
       e3 ∙ paste-next (marks ++ u .slots) ns (u .vars) n2 VARS-AT VARIABLES f2 (omega (arith, z .active, z .slots))
       (omega (arith, z .vars)) in
       let f4 =
-      e4 ∙ paste-next (marks ++ u .slots ++ u .vars) ns (small (u .queue .len) ∷ flat (u .queue .items)) n3 LENGTH-AT QUEUE-NUMBERS f3
+      e4 ∙ paste-next (marks ++ u .slots ++ u .vars) ns (small (u .queue .len) ∷ item-numbers (u .queue .items)) n3 LENGTH-AT QUEUE-NUMBERS f3
       (omega (arith, z .active, z .slots, z .vars)) (omega (arith, z .items)) in
-      let all : length (marks ++ u .slots ++ u .vars ++ (small (u .queue .len) ∷ flat (u .queue .items))) ≡ STATE-NUMBERS =
+      let all : length (marks ++ u .slots ++ u .vars ++ (small (u .queue .len) ∷ item-numbers (u .queue .items))) ≡ STATE-NUMBERS =
       omega (arith, z .active, z .slots, z .vars, z .items) in
       rw (le-ltb (length ns) STATE-NUMBERS l)
-      (f4 ∙ ap (λ k. (marks ++ u .slots ++ u .vars ++ (small (u .queue .len) ∷ flat (u .queue .items))) ++ drop k ns) all)
+      (f4 ∙ ap (λ k. (marks ++ u .slots ++ u .vars ++ (small (u .queue .len) ∷ item-numbers (u .queue .items))) ++ drop k ns) all)

@@ -20,7 +20,7 @@ ghost use Rattle.queue.specs.Numbers.{queue-by};
 ghost use Rattle.meaning.specs.Lists.{every};
 ghost use Rattle.promises.specs.Saved.{MARKS as marks, mark, small, part, is-mark, is-set};
 ghost use Rattle.promises.specs.Saved.{LENGTH-AT as length-at, states-widget, no-widget, widget-of, stored, moved-on};
-ghost use Rattle.queue.specs.Numbers.{QUEUE-NUMBERS as queue-numbers, flat};
+ghost use Rattle.queue.specs.Numbers.{QUEUE-NUMBERS as queue-numbers, item-numbers};
 ghost use mathlib.Core.List.{_∷_};
 
 // The started mark and the active ones.
@@ -186,7 +186,7 @@ fn store_active(active: [bool; STATES], numbers: &mut [i32])
 fn store_queue(queue: Queue, numbers: &mut [i32])
     requires { ⌜ all ≤ length (now numbers) ⌝ }
     ensures { λ _. ⌜ now (numbers .exit)
-        ≡ paste (now (numbers .entry)) length-at (small (queue .len) ∷ flat (queue .items)) queue-numbers ⌝ }
+        ≡ paste (now (numbers .entry)) length-at (small (queue .len) ∷ item-numbers (queue .items)) queue-numbers ⌝ }
 {
     let len = small(queue.len);
     let waiting = lend(queue);

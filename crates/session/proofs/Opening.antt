@@ -14,7 +14,7 @@ use Rattle.meaning.specs.Value.{Rows, VALUE, chart-of, chart-by}
 use Rattle.meaning.specs.Rules.{failing-rule}
 use Rattle.meaning.specs.Calls.{start, unstarted}
 use Rattle.meaning.specs.Text.{Outcome, done, refused, answer-of, lent, lent-numbers, read, read-text, checked, checked-if, by-rule}
-use Rattle.meaning.specs.Program.{ROOM, reported, turn, output-by, output}
+use Rattle.meaning.specs.Program.{ROOM, reported, do-line, output-by, output}
 use Rattle.promises.specs.Promises.{Accepted}
 use Rattle.reader.proofs.ReadLaws.{read-never-zero}
 use Rattle.round_trip.proofs.Round.{read-then-rules, passes}
@@ -110,7 +110,7 @@ module _ (text input : List ℕ) where
 
   pub whole-started : (v : List ℤ) → read text VALUE ≡ done v
       → (let t = reported (start (chart-of v) unstarted ROOM) in
-      t .printed ++ all-printed (turn (chart-of v)) (fresh (t .state)) input) ≡ output text input
+      t .printed ++ all-printed (do-line (chart-of v)) (fresh (t .state)) input) ≡ output text input
   unfolding output output-by
   whole-started v e = rw e (session-printed (chart-of v) (reported (start (chart-of v) unstarted ROOM)) input)
 
@@ -149,8 +149,8 @@ module _ (f : Turns) where
 
 -- the start, the stretches in turn and the end of the input print the whole output, wherever the input was cut
 pub whole-in-stretches : (text : List ℕ) (ls : List (List ℕ)) (v : List ℤ) → read text VALUE ≡ done v
-    → (let f = turn (chart-of v) in let t = reported (start (chart-of v) unstarted ROOM) in let p = in-turn f (fresh (t .state)) ls in
+    → (let f = do-line (chart-of v) in let t = reported (start (chart-of v) unstarted ROOM) in let p = in-turn f (fresh (t .state)) ls in
     t .printed ++ (p .printed ++ finished f (p .under) .printed)) ≡ output text (joined ls)
 whole-in-stretches text ls v e =
     let t = reported (start (chart-of v) unstarted ROOM) in
-    ap (λ bs. t .printed ++ bs) (stretches-printed (turn (chart-of v)) (fresh (t .state)) ls) ∙ whole-started text (joined ls) v e
+    ap (λ bs. t .printed ++ bs) (stretches-printed (do-line (chart-of v)) (fresh (t .state)) ls) ∙ whole-started text (joined ls) v e

@@ -10,15 +10,15 @@ use lib.ListN.{length}
 use Rattle.pen.specs.Pen.{pen, put-all}
 use Rattle.meaning.specs.declared.State.{State}
 use Rattle.meaning.specs.declared.Called.{Called}
-use Rattle.meaning.specs.declared.Line.{Line}
-use Rattle.meaning.specs.declared.Line.the-variants.{Posts, Wrong}
+use Rattle.meaning.specs.declared.Input.{Input}
+use Rattle.meaning.specs.declared.Input.the-variants.{Posts, Wrong}
 use Rattle.meaning.specs.Chart.{Chart}
 use Rattle.meaning.specs.Steps.{Res, ok, refuse}
 use Rattle.meaning.specs.Split.{LF}
 use Rattle.meaning.specs.Widget.{Ctx, ENTRY}
 use Rattle.meaning.specs.Value.{chart-of}
 use Rattle.meaning.specs.Calls.{Outcome, called, lent, outcome, refused, start, post, run, start-of, run-of}
-use Rattle.meaning.specs.Program.{ROOM, report, reported, turn, after-post}
+use Rattle.meaning.specs.Program.{ROOM, report, reported, do-line, after-post}
 use Rattle.promises.specs.Promises.{Accepted, Started, Ran}
 use Rattle.chart_engine.proofs.ByRules.{start-on, run-on}
 use Rattle.console.specs.declared.scan.Scan.{Scan}
@@ -93,21 +93,21 @@ after-done : (c : Chart) (o : Outcome) → o .number ≡ 0 → after-post c o �
 unfolding after-post
 after-done c o h = rw (eq-eqb (o .number) 0 h, after-post)
 
-module _ (c : Chart) (u : State) (l : Line) (before after : List ℕ) (at : ℕ) (r : Turned) where
-  pub turn-wrong : l ≡ Wrong → Went (quiet 1 u) before at after r → Went (turn c u l) before at after r
-  unfolding turn
+module _ (c : Chart) (u : State) (l : Input) (before after : List ℕ) (at : ℕ) (r : Turned) where
+  pub turn-wrong : l ≡ Wrong → Went (quiet 1 u) before at after r → Went (do-line c u l) before at after r
+  unfolding do-line
   turn-wrong e w = rw e w
 
   module _ (e a : ℤ) (is : l ≡ Posts e a) (p : Called) (posted : p ≡ called (post c u e a)) where
     pub turn-refused : (p .answer .number ≡ 0 → ⊥) → Went (quiet (p .answer .number) (p .state)) before at after r
-        → Went (turn c u l) before at after r
-    unfolding turn called
+        → Went (do-line c u l) before at after r
+    unfolding do-line called
     turn-refused h w =
         let k : post c u e a .number ≡ 0 → ⊥ = λ z. h (ap (λ x. x .answer .number) posted ∙ z) in
         rw (is, after-refused c (post c u e a) k, post-quiet c u e a k) (rw posted at w)
 
-    pub turn-ran : p .answer .number ≡ 0 → Went (reported (run c (p .state) ROOM)) before at after r → Went (turn c u l) before at after r
-    unfolding turn called
+    pub turn-ran : p .answer .number ≡ 0 → Went (reported (run c (p .state) ROOM)) before at after r → Went (do-line c u l) before at after r
+    unfolding do-line called
     turn-ran h w = rw (is, after-done c (post c u e a) (sym (ap (λ x. x .answer .number) posted) ∙ h)) (rw posted at w)
 
 -- ---- a line that ends, as a step of the session
@@ -115,7 +115,7 @@ module _ (f : Turns) (s : Scan) (u : State) (before : List ℕ) (at : ℕ) where
   abbrev under : Seen
   under = record { state = u; scan = s }
 
-  pub line-went : (after : List ℕ) (l : Line) (k : Scan) (r : Turned) → l ≡ line-at s → k ≡ empty
+  pub line-went : (after : List ℕ) (l : Input) (k : Scan) (r : Turned) → l ≡ line-at s → k ≡ empty
       → Went (f u l) before at after r
       → Passes (ended (f u (line-at s))) before at after (record { state = r .state; scan = k; at = r .at })
   line-went after l k r e g w = go (rw e at w)

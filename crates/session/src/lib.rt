@@ -7,7 +7,7 @@ use console::HEAD;
 use console::LINE;
 use console::Scan;
 use console::collect;
-use meaning::Line;
+use meaning::Input;
 use meaning::State;
 use meaning::answers::WRONG_LINE;
 ghost use mathlib.Core.Path.{_≡_};
@@ -16,7 +16,7 @@ ghost use Rattle.promises.specs.Promises.{Accepted};
 ghost use Rattle.meaning.specs.Value.{VALUE, chart-of};
 ghost use Rattle.meaning.specs.Calls.{start as starts, run as runs, unstarted as none};
 ghost use Rattle.meaning.specs.Text.{read};
-ghost use Rattle.meaning.specs.Program.{ROOM as Room, reported, turn as turn-of};
+ghost use Rattle.meaning.specs.Program.{ROOM as Room, reported, do-line as turn-of};
 ghost use Rattle.console.specs.Scan.{line-at};
 ghost use Rattle.console.specs.Session.{ended, finished};
 ghost use Rattle.pen.specs.Pen.{pen};
@@ -133,7 +133,7 @@ fn ran(chart: &[i32], state: State, out: &mut [u8], at: usize, trace: &mut [i32]
 pub fn turn(
     chart: &[i32],
     state: State,
-    line: Line,
+    line: Input,
     out: &mut [u8],
     at: usize,
     trace: &mut [i32],
@@ -142,7 +142,7 @@ pub fn turn(
     ensures { λ r. ⌜ Went (turn-of (chart-of (now (chart .entry))) state line) (now (out .entry)) at (now (out .exit)) r ⌝ }
 {
     match line {
-        Line::Posts(event, argument) => {
+        Input::Posts(event, argument) => {
             let posted = engine::checked::post_checked(chart, state, event, argument);
             let answer = posted.answer;
             let number = answer.number;
@@ -152,7 +152,7 @@ pub fn turn(
             }
             ran(chart, after, out, at, trace)
         }
-        Line::Wrong => refusal(WRONG_LINE, state, out, at),
+        Input::Wrong => refusal(WRONG_LINE, state, out, at),
     }
 }
 

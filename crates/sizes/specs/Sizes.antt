@@ -2,6 +2,9 @@
 use Prim.Native.Nat.{ℕ, _+_, _*_}
 
 -- states 2 to 64
+abbrev pub LEAST-STATES : ℕ
+LEAST-STATES = 2
+
 abbrev pub STATES : ℕ
 STATES = 64
 

@@ -16,7 +16,7 @@ ghost use mathlib.Core.Path.{_≡_};
 ghost use Prim.Native.Nat.{_+_, _≤_};
 ghost use lib.ListN.{length};
 ghost use Rattle.meaning.specs.Value.{chart-of};
-ghost use Rattle.meaning.specs.Program.{ROOM as Room, turn};
+ghost use Rattle.meaning.specs.Program.{ROOM as Room, do-line};
 ghost use Rattle.promises.specs.Promises.{Accepted};
 ghost use Rattle.session.specs.Turned.{LARGEST as Largest, seen};
 ghost use Rattle.session.specs.Walked.{Fed};
@@ -49,7 +49,7 @@ fn with_room(out: &[u8], at: usize) -> usize
 // All bytes of a part of the input, in as many walks as the room needs: what was collected is written between them.
 fn feed_all(chart: &[i32], part: &[u8], under: Under, out: &mut [u8], trace: &mut [i32]) -> Under
     requires { ⌜ Accepted (now chart) × (under .at + Largest ≤ length (now out)) × (length (now trace) ≡ Room) ⌝ }
-    ensures { λ r. ⌜ Fed (turn (chart-of (now (chart .entry)))) (now (part .entry)) (seen under) (now (out .exit)) r ⌝ }
+    ensures { λ r. ⌜ Fed (do-line (chart-of (now (chart .entry)))) (now (part .entry)) (seen under) (now (out .exit)) r ⌝ }
 {
     let mut now = under;
     let mut i = 0;

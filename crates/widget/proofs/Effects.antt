@@ -11,7 +11,7 @@ use Rattle.queue.proofs.Numbers.{Appends}
 use Rattle.numbers.specs.declared.Place.{Place as Slot}
 use Rattle.numbers.specs.declared.Place.the-variants.{Empty as empty, At as holds}
 use Rattle.meaning.specs.Steps.{ok, Step, bind, _then_, require, look}
-use Rattle.meaning.specs.Widget.{Ctx, Entry, left, entered, changed, sent, told, taken, numbers, emit, change, set-active, set-slot, set-value, set-queue, value-of}
+use Rattle.meaning.specs.Widget.{Ctx, Entry, left, entered, changed, sent, told, taken, numbers, emit, change, set-active, set-slot, set-value, set-queue, value-at}
 use Rattle.numbers.specs.Hold.{holdZ}
 use Rattle.meaning.specs.declared.chart.VarRow.{VarRow}
 use Rattle.meaning.specs.declared.chart.Act.{Act}
@@ -124,7 +124,7 @@ module _ {k : Lent} {at : ℕ} {r : Went} {k₁ : Lent} (row : VarRow) (v : ℕ)
   assigned d = d
 
   pub added : Did (stored v (holdZ (getD (k .vars) v (pos 0) +ℤ x) (row .low) (row .high))) k at r k₁ → Did (adding row v x) k at r k₁
-  unfolding adding assign held stored look value-of ctx tracing
+  unfolding adding assign held stored look value-at ctx tracing
   added d = same-step (adding row v x) refl d
 
 module _ {k : Lent} {at : ℕ} {r : Went} {k₁ : Lent} (row : VarRow) (arg : ℤ) {act : Act} where

@@ -10,7 +10,7 @@ use lib.ListN.{length, take, drop, getD, set, replicate, length-set, length-appe
 use lib.Seq.{length-take-le, take-suc-set, drop-length, drop-cons, set-at}
 use lib.IntN.{ℤ, pos}
 use Rattle.meaning.specs.Steps.{bind, _then_, require}
-use Rattle.meaning.specs.Widget.{Ctx, written, Entry, emit, numbers}
+use Rattle.meaning.specs.Widget.{Ctx, add-numbers, Entry, emit, numbers}
 use Rattle.widget.specs.View.{tracing, said, note, Noted}
 
 -- an entry is written as its numbers are noted
@@ -41,7 +41,7 @@ three s n a b c l =
 
 pub noted : (t : List ℤ) (at : ℕ) (a b c : ℤ) → at ≤ length t → 3 ≤ length t - at
     → Noted (a ∷ b ∷ c ∷ []) t at (record { number = 0; at = at + 3 }) (set (set (set t at a) (at + 1) b) (at + 2) c)
-unfolding said note tracing require _then_ bind written
+unfolding said note tracing require _then_ bind add-numbers
 noted t at a b c l m = record {
   does = λ u.
       let q : length t - (at + 3) ≡ length t - at - 3 = omega arith in

@@ -8,7 +8,7 @@ use lib.Dec.{leb}
 use lib.ListN.{length, getD, drop}
 use lib.Seq.{length-take-le, getD-take}
 use Rattle.sizes.specs.Sizes.{QUEUE}
-use Rattle.queue.specs.Queue.{none, waiting}
+use Rattle.queue.specs.Queue.{no-item, waiting}
 use Rattle.queue.specs.declared.Queue.{Queue}
 use Rattle.meaning.specs.Lists.{every}
 use lib.IntN.{ℤ, pos, negsuc}
@@ -64,10 +64,10 @@ module _ (q : Queue) (long : length (q .items) ≡ QUEUE) (fits : q .len ≤ QUE
   pub waiting-long : length (waiting q) ≡ q .len
   waiting-long = length-take-le (q .len) (q .items) (omega arith)
 
-  pub waiting-at : (n : ℕ) (b : Bool) → i < q .len → b ≡ event-fits n (getD (q .items) i none .event) (getD (q .items) i none .arg)
-      → item-fits n (getD (waiting q) i none) ≡ b
+  pub waiting-at : (n : ℕ) (b : Bool) → i < q .len → b ≡ event-fits n (getD (q .items) i no-item .event) (getD (q .items) i no-item .arg)
+      → item-fits n (getD (waiting q) i no-item) ≡ b
   unfolding item-fits
-  waiting-at n b h e = rw (getD-take (q .len) (q .items) i none h) (sym e)
+  waiting-at n b h e = rw (getD-take (q .len) (q .items) i no-item h) (sym e)
 
 -- ---- the whole queue
 

@@ -10,7 +10,7 @@ use Rattle.meaning.specs.declared.chart.Act.{Act}
 use Rattle.meaning.specs.declared.chart.Act.the-variants.{SetTo as set-to, AddTo as add-to, TakeTo as take-to, Send as send, Tell as tell}
 use Rattle.numbers.specs.declared.Place.{Place as Slot}
 use Rattle.numbers.specs.declared.Place.the-variants.{Empty as empty, At as holds}
-use Rattle.meaning.specs.Widget.{Ctx, emit, changed, sent, change, set-value, value-of}
+use Rattle.meaning.specs.Widget.{Ctx, emit, changed, sent, change, set-value, value-at}
 use Rattle.meaning.specs.Effects.{assign, enqueue}
 
 -- the variable v takes the value x: "written before the effect goes on"
@@ -19,7 +19,7 @@ stored v x = emit (changed v x) then change (set-value v x)
 
 -- the variable v, whose row is r, takes the sum of its value and x
 unfoldable pub adding : VarRow → ℕ → ℤ → Step Ctx
-adding r v x = look (λ k. assign r v (value-of (k .state) v +ℤ x))
+adding r v x = look (λ k. assign r v (value-at (k .state) v +ℤ x))
 
 -- the event e is sent with the argument x: "at a send 11 before 9"
 unfoldable pub sending : ℕ → ℤ → Step Ctx

@@ -11,7 +11,7 @@ use lib.IntN.{ℤ}
 use Rattle.queue.specs.Numbers.{QUEUE-NUMBERS, queue-by}
 use Rattle.meaning.specs.declared.State.{State}
 use Rattle.meaning.specs.Steps.{Res, ok, refuse, Step, _then_, require}
-use Rattle.meaning.specs.Widget.{Ctx, written, ENTRY}
+use Rattle.meaning.specs.Widget.{Ctx, add-numbers, ENTRY}
 use Rattle.widget.specs.declared.Went.{Went}
 
 -- ---- what is lent
@@ -96,7 +96,7 @@ pub record Owes (D : Step Ctx) (before : Lent) (at : ℕ) (E : Step Ctx) (after 
 
 -- three numbers into the trace, or 11: `emit` of the entry that has these numbers
 unfoldable pub note : List ℤ → Step Ctx
-note ns k = (require 11 (leb ENTRY (k .room)) then written ns) k
+note ns k = (require 11 (leb ENTRY (k .room)) then add-numbers ns) k
 
 -- the promise of writing an entry, of whatever state
 pub record Noted (ns : List ℤ) (trace : List ℤ) (at : ℕ) (r : Went) (trace′ : List ℤ) : Type 0 where

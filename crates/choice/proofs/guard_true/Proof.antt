@@ -8,7 +8,7 @@ use mir.Syntax.{w32}
 use mir.Val.{SFits}
 use borrow.Author.Needs.{needs}
 use Rattle.meaning.specs.Reaction.{guard-holds}
-use Rattle.meaning.specs.Widget.{value-of}
+use Rattle.meaning.specs.Widget.{value-at}
 use Rattle.choice.proofs.guard_true.Statement.{statement}
 use Rattle.choice.proofs.guard_true.Tie as tie
 
@@ -32,7 +32,7 @@ compare-requires : tie.Need-compare-requires
 compare-requires c κs = search needs
 
 returns-2 : tie.Need-returns-2
-unfolding guard-holds value-of
+unfolding guard-holds value-at
 returns-2 c =
     let g = c .before .before .before .guard .given in
     let fv : SFits w32 (getD (c .before .before .before .before .before .args .vars .now) (g .0 .0) (pos 0)) = search needs in

@@ -2,7 +2,7 @@
 use mathlib.Core.Path.{_∙_, sym, ap, subst}
 use Prim.Native.Nat.{_<_}
 use native.Mathlib.Omega.{arith}
-use Rattle.meaning.specs.Number.{plain, minus}
+use Rattle.meaning.specs.Number.{with-no-sign, minus}
 use Rattle.numerals.proofs.ReadLaws.{num-empty, num-minus, num-plain, nat-small}
 use borrow.Author.Needs.{needs}
 use Rattle.numerals.proofs.number.Statement.{statement}
@@ -39,7 +39,7 @@ returns-3 : tie.Need-returns-3
 returns-3 c =
     let s = c .before .before .before .before .before .before in
     let h : s .args .from < s .args .to = omega arith in
-    c .plain-of .ensures ∙ ap plain (c .before .natural2 .ensures) ∙ sym (num-plain _ _ _ h (s .pre .1) (c .before .before .if2 .left))
+    c .plain-of .ensures ∙ ap with-no-sign (c .before .natural2 .ensures) ∙ sym (num-plain _ _ _ h (s .pre .1) (c .before .before .if2 .left))
 
 pub number-spec : {M : Type 1} → statement M
 number-spec =

@@ -1,7 +1,7 @@
 -- `finish` is the end of the input. Assumes nothing.
 use mathlib.Core.Path.{sym, _∙_}
 use Rattle.meaning.specs.Value.{chart-of}
-use Rattle.meaning.specs.Program.{turn}
+use Rattle.meaning.specs.Program.{do-line}
 use Rattle.session.proofs.Steps.{end-begun, end-none}
 use borrow.Author.Needs.{needs}
 use Rattle.session.proofs.finish.Statement.{statement}
@@ -11,7 +11,7 @@ returns : tie.Need-returns
 returns c =
     let test = c .before .before .before .before .before .before in
     let began = test .before in
-    end-begun (turn (chart-of (began .before .before .before .args .chart .now))) _ _ _ _ _ _
+    end-begun (do-line (chart-of (began .before .before .before .args .chart .now))) _ _ _ _ _ _
     (c .before .before .before .line-ends .ensures)
     (sym (began .began .ensures) ∙ test .if1 .taken)
 

@@ -5,7 +5,7 @@ use borrow.Author.Tests.{not-true, not-false}
 use native.Mathlib.Omega.{arith}
 use lib.ListN.{length}
 use Rattle.meaning.specs.Value.{chart-of}
-use Rattle.meaning.specs.Program.{ROOM, turn}
+use Rattle.meaning.specs.Program.{ROOM, do-line}
 use Rattle.session.specs.Turned.{seen}
 use Rattle.session.proofs.WalkLaws.{Walking, walk-begins, walk-line, walk-ends, walk-done, walk-full}
 use borrow.Author.Needs.{needs}
@@ -14,7 +14,7 @@ use Rattle.session.proofs.walk.Tie as tie
 
 abbrev Inv-loop : tie.InvT-loop
 Inv-loop chart part from out₀ trace₀ now₀ i₀ out trace now i =
-    Walking (turn (chart-of chart)) part from (seen now₀) out₀ (now₀ .at) i out now × (length trace ≡ ROOM)
+    Walking (do-line (chart-of chart)) part from (seen now₀) out₀ (now₀ .at) i out now × (length trace ≡ ROOM)
 
 abbrev μ-loop : tie.MeasureT-loop
 μ-loop chart part from out₀ trace₀ now₀ i₀ out trace now i = length part - i

@@ -6,7 +6,7 @@ use native.Mathlib.Omega.{arith}
 use lib.ListN.{length}
 use borrow.Author.Needs.{needs}
 use Rattle.meaning.specs.Value.{chart-of}
-use Rattle.meaning.specs.Program.{ROOM, turn}
+use Rattle.meaning.specs.Program.{ROOM, do-line}
 use Rattle.session.specs.Turned.{LARGEST, seen}
 use Rattle.session.proofs.WalkLaws.{walks-on}
 use Rattle.trace.proofs.Feeding.{Feeding, feeding-begins, feeding-on, feeding-done}
@@ -15,7 +15,7 @@ use Rattle.trace.proofs.feed_all.Tie as tie
 
 abbrev Inv-loop : tie.InvT-loop
 Inv-loop chart part out₀ trace₀ now₀ i₀ out trace now i =
-    Feeding (turn (chart-of chart)) part (seen now₀) i (seen now) × (length out ≡ length out₀) × (now .at + LARGEST ≤ length out)
+    Feeding (do-line (chart-of chart)) part (seen now₀) i (seen now) × (length out ≡ length out₀) × (now .at + LARGEST ≤ length out)
     × (length trace ≡ ROOM)
 
 abbrev μ-loop : tie.MeasureT-loop

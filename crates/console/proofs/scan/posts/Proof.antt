@@ -3,7 +3,7 @@ use Rattle.numbers.proofs.Laws.{back32}
 use mir.Facts.{toZ-ofZ}
 use Rattle.console.proofs.ScanLaws.{posts-number, posts-beyond}
 use borrow.Author.Needs.{needs}
-use Rattle.meaning.specs.Program.{line-by}
+use Rattle.meaning.specs.Program.{input-by}
 use Rattle.console.proofs.scan.posts.Statement.{statement}
 use Rattle.console.proofs.scan.posts.Tie as tie
 
@@ -23,7 +23,7 @@ returns-2 : tie.Need-returns-2
 returns-2 c = rw (toZ-ofZ (c .before .before .fits .event)) (posts-beyond _ _ (c .enum-told .given .1))
 
 returns-3 : tie.Need-returns-3
-unfolding line-by
+unfolding input-by
 returns-3 c = search needs
 
 pub posts-spec : {M : Type 1} → statement M

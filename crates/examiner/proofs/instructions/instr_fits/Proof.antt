@@ -5,8 +5,8 @@ use mathlib.Core.Bool.{Bool, _&&_}
 use lib.ListN.{getD, drop}
 use mir.Syntax.{w32}
 use mir.Val.{toZ, ofZ}
-use Rattle.meaning.specs.WellFormed.{Field, a-state, a-parent, a-variable, an-event, a-constant, a-skip, unused}
-use Rattle.meaning.specs.WellFormed.{FORMS, no-form, form, field-fits, instr-fits}
+use Rattle.meaning.specs.WellFormed.{Operand, a-state, a-parent, a-variable, an-event, a-constant, a-skip, unused}
+use Rattle.meaning.specs.WellFormed.{SHAPES, no-shape, shape, operand-fits, instr-fits}
 use Rattle.chart_rows.proofs.Said.{said-of}
 use Rattle.examiner.proofs.RowTests.{instr-wrong, instr-read, no-code}
 use borrow.Author.Needs.{needs}
@@ -14,13 +14,13 @@ use Rattle.examiner.proofs.instructions.instr_fits.Statement.{statement
 use Rattle.examiner.proofs.instructions.instr_fits.Tie as tie
 
 -- the code is n, and the three numbers that were read have been tested as its form says
-tested : (c : tie.After-read3) (n : ℕ) (f g h : Field) {p q s r : Bool} → getD FORMS n no-form ≡ form f g h
+tested : (c : tie.After-read3) (n : ℕ) (f g h : Operand) {p q s r : Bool} → getD SHAPES n no-shape ≡ shape f g h
     → c .before .before .before .named .result ≡ n
-    → p ≡ field-fits (c .before .before .before .before .args .k) (c .before .before .before .before .args .left) f
+    → p ≡ operand-fits (c .before .before .before .before .args .k) (c .before .before .before .before .args .left) f
     (toZ w32 (ofZ w32 (c .before .before .read .result)))
-    → q ≡ field-fits (c .before .before .before .before .args .k) (c .before .before .before .before .args .left) g
+    → q ≡ operand-fits (c .before .before .before .before .args .k) (c .before .before .before .before .args .left) g
     (toZ w32 (ofZ w32 (c .before .read2 .result)))
-    → s ≡ field-fits (c .before .before .before .before .args .k) (c .before .before .before .before .args .left) h
+    → s ≡ operand-fits (c .before .before .before .before .args .k) (c .before .before .before .before .args .left) h
     (toZ w32 (ofZ w32 (c .read3 .result)))
     → r ≡ p && (q && s)
     → r ≡ instr-fits (c .before .before .before .before .args .k) (c .before .before .before .before .args .left)
@@ -31,11 +31,11 @@ tested c n f g h t e u v w o =
     let y = c .before .read2 in
     let z = c .read3 in
     instr-read (a .k) (a .plan .now) (a .at) (a .left) n f g h t (sym (c .before .before .before .named .ensures) ∙ e)
-    (said-of (field-fits (a .k) (a .left) f) (x .ok) (x .ensures) u) (said-of (field-fits (a .k) (a .left) g) (y .ok) (y .ensures) v)
-    (said-of (field-fits (a .k) (a .left) h) (z .ok) (z .ensures) w) o
+    (said-of (operand-fits (a .k) (a .left) f) (x .ok) (x .ensures) u) (said-of (operand-fits (a .k) (a .left) g) (y .ok) (y .ensures) v)
+    (said-of (operand-fits (a .k) (a .left) h) (z .ok) (z .ensures) w) o
 
 returns : tie.Need-returns
-unfolding field-fits
+unfolding operand-fits
 returns c =
     let m = c .before .before .before .before in
     tested (m .before) 1 a-state unused unused refl (m .match .keys1)
@@ -43,7 +43,7 @@ returns c =
     (c .before .same2 .ensures) (c .all-three .ensures)
 
 returns-2 : tie.Need-returns-2
-unfolding field-fits
+unfolding operand-fits
 returns-2 c =
     let m = c .before .before .before .before in
     tested (m .before) 2 a-state a-parent unused refl (m .match .keys2)
@@ -51,7 +51,7 @@ returns-2 c =
     (c .before .same3 .ensures) (c .all-three2 .ensures)
 
 returns-3 : tie.Need-returns-3
-unfolding field-fits
+unfolding operand-fits
 returns-3 c =
     let m = c .before .before .before .before in
     tested (m .before) 3 a-state a-skip unused refl (m .match .keys3)
@@ -59,7 +59,7 @@ returns-3 c =
     (c .before .same4 .ensures) (c .all-three3 .ensures)
 
 returns-4 : tie.Need-returns-4
-unfolding field-fits
+unfolding operand-fits
 returns-4 c =
     let m = c .before .before .before .before in
     tested (m .before) 4 a-state a-skip unused refl (m .match .keys4)
@@ -67,7 +67,7 @@ returns-4 c =
     (c .before .same5 .ensures) (c .all-three4 .ensures)
 
 returns-5 : tie.Need-returns-5
-unfolding field-fits
+unfolding operand-fits
 returns-5 c =
     let m = c .before .before .before .before in
     tested (m .before) 5 a-state a-skip unused refl (m .match .keys5)
@@ -75,7 +75,7 @@ returns-5 c =
     (c .before .same6 .ensures) (c .all-three5 .ensures)
 
 returns-6 : tie.Need-returns-6
-unfolding field-fits
+unfolding operand-fits
 returns-6 c =
     let m = c .before .before .before .before in
     tested (m .before) 6 a-state a-state a-skip refl (m .match .keys6)
@@ -83,7 +83,7 @@ returns-6 c =
     (c .before .skip-fits4 .ensures) (c .all-three6 .ensures)
 
 returns-7 : tie.Need-returns-7
-unfolding field-fits
+unfolding operand-fits
 returns-7 c =
     let m = c .before .before .before .before in
     tested (m .before) 7 a-variable a-constant unused refl (m .match .keys7)
@@ -91,7 +91,7 @@ returns-7 c =
     (c .before .same7 .ensures) (c .all-three7 .ensures)
 
 returns-8 : tie.Need-returns-8
-unfolding field-fits
+unfolding operand-fits
 returns-8 c =
     let m = c .before .before .before .before in
     tested (m .before) 8 a-variable a-constant unused refl (m .match .keys8)
@@ -99,7 +99,7 @@ returns-8 c =
     (c .before .same8 .ensures) (c .all-three8 .ensures)
 
 returns-9 : tie.Need-returns-9
-unfolding field-fits
+unfolding operand-fits
 returns-9 c =
     let m = c .before .before .before .before in
     tested (m .before) 9 a-variable unused unused refl (m .match .keys9)
@@ -107,7 +107,7 @@ returns-9 c =
     (c .before .same10 .ensures) (c .all-three9 .ensures)
 
 returns-10 : tie.Need-returns-10
-unfolding field-fits
+unfolding operand-fits
 returns-10 c =
     let m = c .before .before .before .before in
     tested (m .before) 10 an-event a-constant unused refl (m .match .keys10)
@@ -115,7 +115,7 @@ returns-10 c =
     (c .before .same11 .ensures) (c .all-three10 .ensures)
 
 returns-11 : tie.Need-returns-11
-unfolding field-fits
+unfolding operand-fits
 returns-11 c =
     let m = c .before .before .before .before in
     tested (m .before) 11 a-constant unused unused refl (m .match .keys11)

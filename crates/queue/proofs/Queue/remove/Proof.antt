@@ -10,13 +10,13 @@ use borrow.Author.Tests.{eq-eqb, ne-eqb, lt-ltb, le-ltb}
 use lib.ListN.{length-map, length-drop, length, drop, replicate}
 use lib.Seq.{take-all}
 use Rattle.queue.proofs.Copy.{copied, shifted-suc}
-use Rattle.queue.specs.Queue.{none, shifted, removed}
+use Rattle.queue.specs.Queue.{no-item, shifted, removed}
 use Rattle.sizes.specs.Sizes.{QUEUE}
 use lib.Dec.{lit≤}
 use Rattle.queue.specs.declared.Item.{Item}
 
 abbrev free : List Item
-free = replicate QUEUE none
+free = replicate QUEUE no-item
 
 abbrev Inv-loop : tie.InvT-loop
 Inv-loop self n front rest₀ i₀ rest i = (i ≤ QUEUE - 1) × (rest ≡ copied free (drop 1 (self .items)) i)
@@ -46,7 +46,7 @@ loop-again : tie.Need-loop-again Inv-loop μ-loop
 loop-again c =
     let l = c .before .before .before .before .before .before .args .t1 .items in
     let h = long (c .before .before .before .before .before .before) in
-    (omega arith, rw (c .before .before .loop .inv .1) (shifted-suc free l (c .before .before .loop .i) none (omega arith) (omega arith)))
+    (omega arith, rw (c .before .before .loop .inv .1) (shifted-suc free l (c .before .before .loop .i) no-item (omega arith) (omega arith)))
 
 returns-3 : tie.Need-returns-3 Inv-loop μ-loop
 unfolding removed

@@ -4,7 +4,7 @@ use Prim.Native.Nat.{_≤_, _-_, _+_, _*_}
 use native.Mathlib.Omega.{arith}
 use borrow.Author.Needs.{needs}
 use lib.ListN.{length, length-map, getD}
-use Rattle.queue.specs.Queue.{none}
+use Rattle.queue.specs.Queue.{no-item}
 use mir.Syntax.{w32}
 use mir.Val.{SFits}
 use mir.Facts.{toZ-ofZ}
@@ -35,8 +35,8 @@ loop-again : tie.Need-loop-again Inv-loop μ-loop
 loop-again c =
     let k = at-loop-from-struct-told2 c .before .before in
     let l = at-loop-from-struct-told2 c .loop in
-    let fe : SFits w32 (getD (k .args .t1 .items) (l .i) none .event) = search needs in
-    let fa : SFits w32 (getD (k .args .t1 .items) (l .i) none .arg) = search needs in
+    let fe : SFits w32 (getD (k .args .t1 .items) (l .i) no-item .event) = search needs in
+    let fa : SFits w32 (getD (k .args .t1 .items) (l .i) no-item .arg) = search needs in
     (omega arith, lend-more _ _ _ _ _ (long k) (c .before .before .before .loop-test .taken) (l .inv .1) (toZ-ofZ fe) (toZ-ofZ fa))
 
 returns : tie.Need-returns Inv-loop μ-loop

@@ -11,7 +11,7 @@ use Rattle.numbers.proofs.Laws.{back32}
 use Rattle.sizes.specs.Sizes.{TRANSITIONS}
 use Rattle.meaning.specs.WellFormed.{plan-by}
 use Rattle.promises.specs.Replay.{items-of}
-use Rattle.queue.specs.Queue.{item, none}
+use Rattle.queue.specs.Queue.{item, no-item}
 use Rattle.widget.specs.View.{all-lent, widget}
 use Rattle.plan_invariants.proofs.Well.{well}
 use Rattle.replaying.proofs.Coursing.{Coursing, coursing-begin, coursing-end, coursing-free, coursing-more, coursing-slots}
@@ -55,7 +55,7 @@ next-there c =
 next-is : (c : tie.After-post-and-run Inv-loop μ-loop)
     → getD (take (in-loop-from-call (c .before) .before .before .args .count)
     (items-of (in-loop-from-call (c .before) .before .before .args .events .now)))
-    (in-loop-from-call (c .before) .before .loop .done) none
+    (in-loop-from-call (c .before) .before .loop .done) no-item
     ≡ item (toZ w32 (ofZ w32 (getD (in-loop-from-call (c .before) .before .before .args .events .now)
     (2 * in-loop-from-call (c .before) .before .loop .done) (pos 0))))
     (toZ w32 (ofZ w32 (getD (in-loop-from-call (c .before) .before .before .args .events .now)

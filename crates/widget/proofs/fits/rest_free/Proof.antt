@@ -6,7 +6,7 @@ use Prim.Native.Nat.{_+_, _-_}
 use mathlib.Core.Bool.{_&&_}
 use lib.ListN.{drop, length, length-map}
 use Rattle.sizes.specs.Sizes.{QUEUE}
-use Rattle.queue.specs.Queue.{none}
+use Rattle.queue.specs.Queue.{no-item}
 use Rattle.meaning.specs.Lists.{every}
 use Rattle.meaning.specs.Foreign.{is-none}
 use Rattle.widget.proofs.Every.{every-and, every-all}
@@ -26,7 +26,7 @@ loop-again : tie.Need-loop-again Inv-loop μ-loop
 loop-again c =
     let at = c .before .before .before in
     ap (λ b. (at .loop .fit && b) && every is-none (drop (at .loop .i + 1) (at .before .args .t1 .items))) (c .is-free .ensures)
-    ∙ every-and is-none (at .before .args .t1 .items) (at .loop .i) (at .loop .fit) none (at .loop .inv) (omega (arith, long (at .before)))
+    ∙ every-and is-none (at .before .args .t1 .items) (at .loop .i) (at .loop .fit) no-item (at .loop .inv) (omega (arith, long (at .before)))
 
 returns : tie.Need-returns Inv-loop μ-loop
 returns c =

@@ -9,7 +9,7 @@ use Prim.Native.Nat.{_-_}
 use borrow.Author.Tests.{not-true, not-false}
 use lib.ListN.{drop, getD, length, length-map}
 use Rattle.sizes.specs.Sizes.{QUEUE}
-use Rattle.queue.specs.Queue.{none, waiting}
+use Rattle.queue.specs.Queue.{no-item, waiting}
 use Rattle.meaning.specs.Lists.{every}
 use Rattle.meaning.specs.Foreign.{item-fits}
 use Rattle.widget.proofs.Every.{every-more, every-no, every-done}
@@ -45,11 +45,11 @@ loop-holds c = (refl, refl)
 returns : tie.Need-returns Inv-loop μ-loop
 returns c =
     let fe : SFits w32
-    (getD (start-from-then1 c .args .t2 .items) (at-loop-from-then1 c .loop .i) none .event) = search needs in
+    (getD (start-from-then1 c .args .t2 .items) (at-loop-from-then1 c .loop .i) no-item .event) = search needs in
     let fa : SFits w32
-    (getD (start-from-then1 c .args .t2 .items) (at-loop-from-then1 c .loop .i) none .arg) = search needs in
+    (getD (start-from-then1 c .args .t2 .items) (at-loop-from-then1 c .loop .i) no-item .arg) = search needs in
     every-no (item-fits (start-from-then1 c .args .events)) (waiting (start-from-then1 c .args .t2))
-    (at-loop-from-then1 c .loop .i) none (at-loop-from-then1 c .loop .inv .1)
+    (at-loop-from-then1 c .loop .i) no-item (at-loop-from-then1 c .loop .inv .1)
     (rw (waiting-long (start-from-then1 c .args .t2) (long (start-from-then1 c)) (start-from-then1 c .pre) 0)
     (omega arith)) (waiting-at (start-from-then1 c .args .t2) (long (start-from-then1 c))
     (start-from-then1 c .pre) (at-loop-from-then1 c .loop .i) (start-from-then1 c .args .events) _
@@ -60,11 +60,11 @@ loop-again : tie.Need-loop-again Inv-loop μ-loop
 loop-again c = (
   at-loop-from-else1 c .loop .inv .0,
   let fe : SFits w32
-      (getD (start-from-else1 c .args .t2 .items) (at-loop-from-else1 c .loop .i) none .event) = search
+      (getD (start-from-else1 c .args .t2 .items) (at-loop-from-else1 c .loop .i) no-item .event) = search
       needs in let fa : SFits w32
-      (getD (start-from-else1 c .args .t2 .items) (at-loop-from-else1 c .loop .i) none .arg) = search
+      (getD (start-from-else1 c .args .t2 .items) (at-loop-from-else1 c .loop .i) no-item .arg) = search
       needs in every-more (item-fits (start-from-else1 c .args .events))
-      (waiting (start-from-else1 c .args .t2)) (at-loop-from-else1 c .loop .i) none
+      (waiting (start-from-else1 c .args .t2)) (at-loop-from-else1 c .loop .i) no-item
       (at-loop-from-else1 c .loop .inv .1)
       (rw (waiting-long (start-from-else1 c .args .t2) (long (start-from-else1 c))
       (start-from-else1 c .pre) 0) (omega arith))
