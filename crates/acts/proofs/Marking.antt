@@ -8,7 +8,7 @@ use lib.IntN.{ℤ}
 use Rattle.sizes.specs.Sizes.{STATES}
 use Rattle.numbers.specs.declared.Place.{Place}
 use Rattle.numbers.specs.declared.Place.the-variants.{Empty, At}
-use Rattle.laws.proofs.Tree.{Ordered}
+use Rattle.laws.specs.Facts.{Ordered}
 use Rattle.meaning.specs.Chart.{Chart}
 use Rattle.meaning.specs.declared.chart.Owner.{Owner}
 use Rattle.meaning.specs.declared.chart.Owner.the-variants.{EntryOf as entry-of, ExitOf as exit-of}

@@ -11,6 +11,7 @@ use Rattle.invariants.specs.CallLists.{Call, make-of, to-discard, to-post, to-r
 use Rattle.invariants.proofs.CallLists.{Lived}
 use Rattle.meaning.specs.Calls.{Outcome, called, lent, start-of}
 use Rattle.meaning.specs.Compile.{compile-of, compiled, plan-lent}
+use Rattle.meaning.specs.Text.{answer-of}
 use Rattle.meaning.specs.Value.{chart-of}
 use Rattle.meaning.specs.declared.Called.{Called}
 use Rattle.meaning.specs.declared.State.{State}
@@ -20,7 +21,7 @@ use Rattle.promises.specs.Promises.{Compiles, Discarded, PlanDiscarded, PlanPos
 -- what compiling promises, where it is done, makes each call over the slice it left the call over the chart
 module _ {v plan ns : List ℤ} {k : Compiled} (compiles : Compiles v plan k ns) (done : k .answer .number ≡ 0) {u : State}
     (l : Lived (chart-of v) u) where
-  number-0 : compile-of v (length plan) .number ≡ 0
+  number-0 : answer-of (compile-of v (length plan)) .number ≡ 0
   unfolding compiled
   number-0 = sym (ap (λ c. c .answer .number) (compiles .result)) ∙ done
 

@@ -13,8 +13,9 @@ use Rattle.agreement.proofs.ListsOfCalls.{lists-agree}
 use Rattle.agreement.specs.PlanCalls.{machine-make, outcomes}
 use Rattle.invariants.specs.CallLists.{Call, make-of}
 use Rattle.meaning.specs.Compile.{compile-of, plan-lent}
+use Rattle.meaning.specs.Text.{answer-of}
 use Rattle.meaning.specs.declared.State.{State}
 
-pub agreement : (v : List ℤ) (n : ℕ) → compile-of v n .number ≡ 0 → (xs : List Call) (u : State) → u .started ≡ false
+pub agreement : (v : List ℤ) (n : ℕ) → answer-of (compile-of v n) .number ≡ 0 → (xs : List Call) (u : State) → u .started ≡ false
     → outcomes (machine-make (plan-lent n (compile-of v n))) xs u ≡ outcomes (make-of v) xs u
 agreement v n done xs u l = lists-agree v n done xs u (inl l)

@@ -13,16 +13,17 @@ use Rattle.agreement.proofs.Entered.{acts-do, enter-does, visits-do}
 use Rattle.agreement.proofs.Exits.{exits-do}
 use Rattle.agreement.proofs.Running.{Does, Does-where, append-does, append-does-where, block-does}
 use Rattle.agreement.proofs.Towards.{itinerary-rises, towards-do}
-use Rattle.invariants.proofs.Good.{Good, acts-good}
+use Rattle.invariants.proofs.Good.{acts-good}
+use Rattle.invariants.specs.Good.{Good}
 use Rattle.invariants.proofs.GoodReaction.{below-inside, leave-all-good}
 use Rattle.invariants.proofs.Keeps.{acts-keep, gives-holds, holds-of}
 use Rattle.invariants.proofs.Left.{Left, leave-all-leads, left-on, left-outside}
 use Rattle.invariants.proofs.Stepping.{Whole}
-use Rattle.laws.proofs.Rules.{Target-facts}
+use Rattle.laws.specs.Facts.{Target-facts, Under}
 use Rattle.laws.proofs.Scope.{scope-facts}
 use Rattle.laws.proofs.Sound.{Sound-chart}
 use Rattle.laws.proofs.Steps.{Holds}
-use Rattle.laws.proofs.Tree.{Under, under-has, under-trans}
+use Rattle.laws.proofs.Tree.{under-has, under-trans}
 use Rattle.laws.proofs.Value.{Sized-chart}
 use Rattle.laws.proofs.Ways.{owner-sound}
 use Rattle.meaning.specs.Chart.{Chart}

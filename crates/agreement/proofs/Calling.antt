@@ -17,7 +17,7 @@ use Rattle.invariants.proofs.CallLists.{Lived}
 use Rattle.invariants.proofs.Calls.{front-stands}
 use Rattle.invariants.proofs.Keeps.{holds-of}
 use Rattle.invariants.proofs.Own.{Own-state, own-whole, start-enters}
-use Rattle.invariants.proofs.Slots.{Slot-ok, Slots-ok}
+use Rattle.invariants.specs.Good.{Slot-ok, Slots-ok}
 use Rattle.invariants.proofs.Stepping.{Whole, step-stands}
 use Rattle.laws.proofs.Lists.{and-both, and-left, and-right, at-every}
 use Rattle.laws.proofs.Rules.{o-inside}

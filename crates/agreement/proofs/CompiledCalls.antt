@@ -13,6 +13,7 @@ use Rattle.invariants.specs.CallLists.{Call, make, make-of, to-discard, to-post
 use Rattle.invariants.proofs.CallLists.{Lived, value-sized, value-sound}
 use Rattle.meaning.specs.Calls.{Outcome, discard-of, post-of, refused, run-of, start-of}
 use Rattle.meaning.specs.Compile.{compile-of, plan-lent, plan-of}
+use Rattle.meaning.specs.Text.{answer-of}
 use Rattle.meaning.specs.Machine.{machine-discard, machine-post, machine-run, machine-start}
 use Rattle.meaning.specs.Plan.{Plan}
 use Rattle.meaning.specs.Rules.{failing-rule-of}
@@ -50,7 +51,7 @@ module _ (v : List ℤ) (e : failing-rule-of v ≡ none) where
 
 -- ---- one call
 
-pub one-call : (v : List ℤ) (n : ℕ) → compile-of v n .number ≡ 0 → (x : Call) (u : State) → Lived (chart-of v) u
+pub one-call : (v : List ℤ) (n : ℕ) → answer-of (compile-of v n) .number ≡ 0 → (x : Call) (u : State) → Lived (chart-of v) u
     → machine-make (plan-lent n (compile-of v n)) x u ≡ make-of v x u
 unfolding _then_
 one-call v n h x u l =

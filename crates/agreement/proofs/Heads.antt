@@ -7,7 +7,8 @@ use mathlib.Core.List.{List, [], _++_, _∷_, append-assoc}
 use lib.ListN.{drop, length, length-append, take}
 use lib.Seq.{drop-append-seam, take-append-seam}
 use Rattle.invariants.proofs.Choosing.{ordered-each}
-use Rattle.laws.proofs.Lists.{Each, each-range, none-left, one-more}
+use Rattle.laws.proofs.Lists.{each-range}
+use Rattle.laws.specs.Facts.{Each, none-left, one-more}
 use native.Mathlib.Omega.{arith}
 use Rattle.meaning.specs.Chart.{Chart}
 use Rattle.meaning.specs.Compile.{block, code-of, head-of, head-order, heads-from, plan-of, start-block}

@@ -9,10 +9,11 @@ use Rattle.agreement.specs.PlanCalls.{Made, Runner, by-chart, by-plan, m
 use Rattle.invariants.specs.CallLists.{Call, make-of}
 use Rattle.invariants.proofs.CallLists.{Lived, make-of-lives}
 use Rattle.meaning.specs.Compile.{compile-of, plan-lent}
+use Rattle.meaning.specs.Text.{answer-of}
 use Rattle.meaning.specs.Value.{chart-of}
 use Rattle.meaning.specs.declared.State.{State}
 
-module _ (v : List ℤ) (n : ℕ) (done : compile-of v n .number ≡ 0) where
+module _ (v : List ℤ) (n : ℕ) (done : answer-of (compile-of v n) .number ≡ 0) where
   abbrev plan : List ℤ
   plan = plan-lent n (compile-of v n)
 

@@ -10,13 +10,14 @@ use Rattle.agreement.proofs.ListsOfCalls.{lists-agree, mixed-agree}
 use Rattle.agreement.specs.PlanCalls.{Made, machine-make, mixed-outcomes, outcomes}
 use Rattle.invariants.specs.CallLists.{Call, make-of}
 use Rattle.invariants.proofs.CallLists.{Lived}
-use Rattle.invariants.proofs.Good.{Sized}
+use Rattle.invariants.specs.Good.{Sized}
 use Rattle.meaning.specs.Compile.{compile-of, plan-lent}
+use Rattle.meaning.specs.Text.{answer-of}
 use Rattle.meaning.specs.Foreign.{own}
 use Rattle.meaning.specs.Value.{chart-of}
 use Rattle.meaning.specs.declared.State.{State}
 
-module _ (v : List ℤ) (n : ℕ) (done : compile-of v n .number ≡ 0) where
+module _ (v : List ℤ) (n : ℕ) (done : answer-of (compile-of v n) .number ≡ 0) where
   -- from every started state that passes the chart's test for 6; Sized: its lists are as long as the declared struct's arrays
   pub agreement-onward : (xs : List Call) (u : State) → Sized u → u .started ≡ true → own (chart-of v) u ≡ true
       → outcomes (machine-make (plan-lent n (compile-of v n))) xs u ≡ outcomes (make-of v) xs u

@@ -17,7 +17,7 @@ use Rattle.invariants.proofs.Keeps.{Outside, enter-leads, holds-of}
 use Rattle.invariants.proofs.Slots.{slot-at}
 use Rattle.laws.proofs.Descent.{Reached, picks}
 use Rattle.laws.proofs.Steps.{bind-cong-where}
-use Rattle.laws.proofs.Tree.{Under}
+use Rattle.laws.specs.Facts.{Under}
 use Rattle.meaning.specs.Chart.{Chart}
 use Rattle.meaning.specs.Compile.{enter-code, held-code, past-if-out, stored-arm, stored-code}
 use Rattle.meaning.specs.Effects.{enter}

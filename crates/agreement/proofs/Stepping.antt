@@ -7,11 +7,12 @@ use lib.IntN.{pos, ℤ}
 use Rattle.agreement.proofs.Choosing.{chosen-alike}
 use Rattle.agreement.proofs.Heads.{Head-for, Heads-for, no-heads, one-head}
 use Rattle.invariants.proofs.Choosing.{Apart, chosen-apart, none-apart, one-apart}
-use Rattle.invariants.proofs.Good.{Good, emit-good}
+use Rattle.invariants.proofs.Good.{emit-good}
+use Rattle.invariants.specs.Good.{Good}
 use Rattle.invariants.proofs.Keeps.{emit-keeps, holds-of}
 use Rattle.invariants.proofs.Firing.{Moved-by, Standing}
 use Rattle.invariants.proofs.Stepping.{Armed, Whole, chosen-armed, fire-stands, rest-armed, step-stands}
-use Rattle.laws.proofs.Lists.{Each, none-left, one-more}
+use Rattle.laws.specs.Facts.{Each, none-left, one-more}
 use Rattle.laws.proofs.Sound.{Sound-chart}
 use Rattle.laws.proofs.Steps.{Holds, bind-cong-where}
 use Rattle.laws.proofs.Value.{Sized-chart}

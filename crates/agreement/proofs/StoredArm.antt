@@ -12,14 +12,16 @@ use Rattle.agreement.proofs.Scan.{Upto, scan, scan-all, stored-arm-does
 use Rattle.invariants.proofs.Entering.{Restorable, below-fine, filled-not-empty}
 use Rattle.invariants.proofs.Keeps.{holds-of}
 use Rattle.invariants.proofs.Restoring.{owner-goes}
-use Rattle.invariants.proofs.Slots.{Lead, Slots-ok, slot-at, slot-child}
+use Rattle.invariants.proofs.Slots.{Lead, slot-at, slot-child}
+use Rattle.invariants.specs.Good.{Slots-ok}
 use Rattle.laws.proofs.Descent.{Reached}
-use Rattle.laws.proofs.Lists.{Each, each-mapped, none-left, one-more}
+use Rattle.laws.proofs.Lists.{each-mapped}
+use Rattle.laws.specs.Facts.{Each, Ordered, Under, child, deeper, none-left, one-more}
 use Rattle.laws.proofs.Preorder.{Run, sub-kept, sub-run}
 use Rattle.laws.proofs.Reach.{reach, reached, visit-by, visit-of}
 use Rattle.laws.proofs.Sound.{Sound-chart}
 use Rattle.laws.proofs.Steps.{Holds, bind-cong-where, each-map}
-use Rattle.laws.proofs.Tree.{Ordered, Under, child, deeper, has-under, under-lt}
+use Rattle.laws.proofs.Tree.{has-under, under-lt}
 use Rattle.laws.proofs.Ways.{slots-pass}
 use Rattle.meaning.specs.Chart.{Chart}
 use Rattle.meaning.specs.Compile.{stored-arm}

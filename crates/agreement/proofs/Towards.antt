@@ -17,13 +17,14 @@ use Rattle.agreement.proofs.StoredArm.{Ready}
 use Rattle.invariants.proofs.Entering.{Marks, visit-marks, with-all, with-state}
 use Rattle.invariants.proofs.Keeps.{Gives, gives-map, holds-of, then-leads}
 use Rattle.invariants.proofs.Restoring.{restore-marks, restore-way}
-use Rattle.invariants.proofs.Slots.{Lead, Slots-ok, slot-at}
-use Rattle.laws.proofs.Descent.{Sound}
-use Rattle.laws.proofs.Lists.{Each, none-left, one-more, or-left}
+use Rattle.invariants.proofs.Slots.{Lead, slot-at}
+use Rattle.invariants.specs.Good.{Slots-ok}
+use Rattle.laws.specs.Facts.{Each, Sound, Under, none-left, one-more}
+use Rattle.laws.proofs.Lists.{or-left}
 use Rattle.laws.proofs.Reach.{pass-states, reach}
 use Rattle.laws.proofs.Sound.{Sound-chart}
 use Rattle.laws.proofs.Steps.{Holds}
-use Rattle.laws.proofs.Tree.{Under, range, under-lt}
+use Rattle.laws.proofs.Tree.{range, under-lt}
 use Rattle.meaning.specs.Chart.{Chart}
 use Rattle.meaning.specs.Compile.{arms, towards-code, visit-code}
 use Rattle.meaning.specs.Entry.{Visit, Way, all-below, restore, state-of, visit, visit-towards}

@@ -9,7 +9,8 @@ use Rattle.meaning.specs.Chart.{Chart}
 use Rattle.meaning.specs.declared.chart.Target.{Target}
 use Rattle.meaning.specs.declared.chart.Target.the-variants.{To as to, History as history, InPlace as in-place}
 use Rattle.meaning.specs.Tree.{all-states, ancestors, descendants, scope, span-of}
-use Rattle.laws.proofs.Lists.{Each, one-more, each-kept, each-range}
+use Rattle.laws.proofs.Lists.{each-kept, each-range}
+use Rattle.laws.specs.Facts.{Each, one-more}
 use Rattle.choice.specs.declared.Span.{Span}
 use Rattle.choice.specs.Span.{Spans}
 

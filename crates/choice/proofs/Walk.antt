@@ -12,7 +12,8 @@ use Rattle.meaning.specs.Chart.{Chart}
 use Rattle.meaning.specs.declared.chart.Kind.the-variants.{O as kind-o}
 use Rattle.meaning.specs.Tree.{parent-of, kind-of, is-o, climb, ancestors, descendants, all-states, default-child, is-child, scope}
 use Rattle.laws.proofs.Lists.{le-or-lt, and-left, and-right, and-both}
-use Rattle.laws.proofs.Tree.{Under, child, deeper, under-lt, has-under, under-has, range}
+use Rattle.laws.proofs.Tree.{under-lt, has-under, under-has, range}
+use Rattle.laws.specs.Facts.{Under, child, deeper}
 use Rattle.laws.proofs.Rules.{o-of, of-o}
 use Rattle.laws.proofs.Sound.{Sound-chart, child-parent, no-root-child}
 use Rattle.choice.specs.declared.Span.{Span}

@@ -9,8 +9,8 @@ use lib.Dec.{eqb}
 use lib.IntN.{ℤ}
 use Rattle.sizes.specs.Sizes.{STATES, VARIABLES, TRANSITIONS, ACTIONS}
 use Rattle.numbers.specs.Reference.{NOWHERE}
-use Rattle.laws.proofs.Lists.{Each, none-left, one-more, each-joined, each-kept, each-range}
-use Rattle.laws.proofs.Rules.{Target-facts}
+use Rattle.laws.proofs.Lists.{each-joined, each-kept, each-range}
+use Rattle.laws.specs.Facts.{Each, Target-facts, none-left, one-more}
 use Rattle.laws.proofs.Scope.{scope-facts}
 use Rattle.laws.proofs.Ways.{towards-pass, defaults-pass, owner-pass}
 use Rattle.chart_rows.proofs.Rows.{states-most, transitions-most}

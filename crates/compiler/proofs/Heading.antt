@@ -10,7 +10,8 @@ use lib.Seq.{drop-cons, getD-take, length-take-le, length-sets}
 use lib.IntN.{ℤ, pos}
 use Rattle.sizes.specs.Sizes.{STATES, VARIABLES, EVENTS, TRANSITIONS}
 use Rattle.numbers.specs.Reference.{NOWHERE}
-use Rattle.laws.proofs.Lists.{Each, none-left, one-more, each-at, each-kept, each-range}
+use Rattle.laws.proofs.Lists.{each-at, each-kept, each-range}
+use Rattle.laws.specs.Facts.{Each, none-left, one-more}
 use Rattle.laws.proofs.Rules.{Guard-facts, Transition-facts}
 use Rattle.chart_rows.proofs.Rows.{states-most, vars-most}
 use Rattle.tree_walks.specs.Walks.{Ruled}

@@ -21,7 +21,8 @@ use Rattle.meaning.specs.declared.plan.Compiled.{Compiled}
 use Rattle.meaning.specs.Lists.{concat-map, padded}
 use Rattle.meaning.specs.Plan.{instr-numbers, head-numbers, var-numbers, six, plan-numbers}
 use Rattle.meaning.specs.Compile.{block, head-of, heads-from, head-order, start-block, code-of, plan-of, compile}
-use Rattle.meaning.specs.Compile.{Compiling, not-compiled, compiled-into, compile-of, compiled, plan-lent}
+use Rattle.meaning.specs.Compile.{compiled-into, compile-of, compiled, plan-lent}
+use Rattle.meaning.specs.Text.{done, refused}
 use Rattle.meaning.specs.Rules.{failing-rule-of, verdict}
 use Rattle.meaning.specs.Value.{chart-of}
 use Rattle.emitter.specs.Pen.{Pen, pen, puts, emits}
@@ -115,7 +116,7 @@ heads-at c start l at e = omega (arith, puts-at (concat-map head-numbers (heads-
 module _ (v : List ℤ) (l : List ℤ) where
   passed-as : Ruled v → compile-of v (length l) ≡ compiled-into (length l) (compile (chart-of v))
   unfolding compile-of
-  passed-as r = ap (λ o. elim o [ none ↦ compiled-into (length l) (compile (chart-of v)) | some k ↦ not-compiled 3 k ]) r
+  passed-as r = ap (λ o. elim o [ none ↦ compiled-into (length l) (compile (chart-of v)) | some k ↦ refused 3 k ]) r
 
   -- what was put at the start, and 0 behind it
   laid : (ns after : List ℤ) (end : ℕ) → pen after end ≡ puts ns (pen l 0) → length ns ≤ length l → take end after ++ replicate (length after - end) (pos 0) ≡ padded (length l) (pos 0) ns
@@ -139,8 +140,8 @@ module _ (v : List ℤ) (l : List ℤ) where
   unfolding compiled plan-lent compiled-into
   compiles-whole r n after last end e f =
       let z : end ≡ length (compile (chart-of v)) = puts-at (compile (chart-of v)) l 0 e ∙ (omega arith) in
-      let k : compile-of v (length l) ≡ record { number = 0; place = 0; plan = compile (chart-of v) }
-      = passed-as r ∙ ap (λ b. cond b (not-compiled 4 0) (record { number = 0; place = 0; plan = compile (chart-of v) })) (le-ltb (length l) (length (compile (chart-of v))) n) in (
+      let k : compile-of v (length l) ≡ done (compile (chart-of v))
+      = passed-as r ∙ ap (λ b. cond b (refused 4 0) (done (compile (chart-of v)))) (le-ltb (length l) (length (compile (chart-of v))) n) in (
         ap (λ x. record { answer = record { number = 0; place = 0 }; length = x }) z ∙ ap compiled (sym k),
         f ∙ laid (compile (chart-of v)) after end e n ∙ ap (plan-lent (length l)) (sym k),
       )
@@ -148,16 +149,16 @@ module _ (v : List ℤ) (l : List ℤ) where
   cleared : (last : List ℤ) → last ≡ take 0 l ++ replicate (length l - 0) (pos 0) → last ≡ replicate (length l) (pos 0)
   cleared last f = let z : length l - 0 ≡ length l = omega arith in f ∙ ap (λ n. replicate n (pos 0)) z
 
-  nothing : (n p : ℕ) → plan-lent (length l) (not-compiled n p) ≡ replicate (length l) (pos 0)
-  unfolding plan-lent padded not-compiled
-  nothing n p = let z : length l - 0 ≡ length l = omega arith in ap (λ k. replicate k (pos 0)) z
+  nothing : (n p : ℕ) → plan-lent (length l) (refused n p) ≡ replicate (length l) (pos 0)
+  unfolding plan-lent
+  nothing n p = refl
 
   pub compiles-over : Ruled v → length l < length (compile (chart-of v)) → (last : List ℤ) → last ≡ take 0 l ++ replicate (length l - 0) (pos 0)
       → Compiles v l (record { answer = record { number = 4; place = 0 }; length = 0 }) last
-  unfolding compiled compiled-into not-compiled
+  unfolding compiled compiled-into
   compiles-over r n last f =
-      let k : compile-of v (length l) ≡ not-compiled 4 0
-      = passed-as r ∙ ap (λ b. cond b (not-compiled 4 0) (record { number = 0; place = 0; plan = compile (chart-of v) })) (lt-ltb (length l) (length (compile (chart-of v))) n) in
+      let k : compile-of v (length l) ≡ refused 4 0
+      = passed-as r ∙ ap (λ b. cond b (refused 4 0) (done (compile (chart-of v)))) (lt-ltb (length l) (length (compile (chart-of v))) n) in
       (ap compiled (sym k), cleared last f ∙ sym (nothing 4 0) ∙ ap (plan-lent (length l)) (sym k))
 
   module _ (a : Answer) (e : a ≡ verdict (failing-rule-of v)) where
@@ -170,13 +171,13 @@ module _ (v : List ℤ) (l : List ℤ) where
         go (some k) h₁ = absurd (omega arith)
 
     pub compiles-refused : (a .number ≡ 0 → ⊥) → (last : List ℤ) → last ≡ take 0 l ++ replicate (length l - 0) (pos 0) → Compiles v l (record { answer = a; length = 0 }) last
-    unfolding compile-of compiled not-compiled verdict
+    unfolding compile-of compiled verdict
     compiles-refused h last f = go (failing-rule-of v) refl
       where
         go : (o : Option ℕ) → failing-rule-of v ≡ o → Compiles v l (record { answer = a; length = 0 }) last
         go none x = absurd (h (ap (λ y. y .number) (e ∙ ap verdict x)))
         go (some r) x =
-            let k : compile-of v (length l) ≡ not-compiled 3 r
-            = ap (λ y. elim y [ none ↦ compiled-into (length l) (compile (chart-of v)) | some q ↦ not-compiled 3 q ]) x in
+            let k : compile-of v (length l) ≡ refused 3 r
+            = ap (λ y. elim y [ none ↦ compiled-into (length l) (compile (chart-of v)) | some q ↦ refused 3 q ]) x in
             let w : a ≡ record { number = 3; place = r } = e ∙ ap verdict x in
             (ap (λ y. record { answer = y; length = 0 }) w ∙ ap compiled (sym k), cleared last f ∙ sym (nothing 3 r) ∙ ap (plan-lent (length l)) (sym k))

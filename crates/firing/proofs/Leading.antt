@@ -18,7 +18,8 @@ use Rattle.laws.proofs.Steps.{Holds}
 use Rattle.invariants.proofs.GoodReaction.{descendants-inside}
 use Rattle.laws.proofs.Stays.{Stays, each-stays, look-stays, then-stays, when-stays}
 use Rattle.invariants.proofs.Keeps.{Outside, acts-keep, change-leads, emit-keeps, holds-of, then-leads}
-use Rattle.invariants.proofs.Slots.{Slots-ok, slot-child}
+use Rattle.invariants.proofs.Slots.{slot-child}
+use Rattle.invariants.specs.Good.{Slots-ok}
 use Rattle.meaning.specs.Chart.{Chart}
 use Rattle.meaning.specs.declared.State.{State}
 use Rattle.meaning.specs.declared.chart.Owner.{Owner}

@@ -5,7 +5,7 @@ use mathlib.Core.Bool.{Bool}
 use mathlib.Core.List.{List}
 use lib.ListN.{length}
 use lib.IntN.{ℤ}
-use Rattle.laws.proofs.Rules.{Target-facts}
+use Rattle.laws.specs.Facts.{Target-facts}
 use Rattle.laws.proofs.Scope.{scope-facts}
 use Rattle.chart_rows.proofs.Rows.{states-most}
 use Rattle.meaning.specs.Chart.{Chart}

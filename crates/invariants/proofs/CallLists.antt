@@ -10,9 +10,10 @@ use mathlib.Core.Option.{Option, none, some}
 use lib.IntN.{ℤ}
 use Rattle.invariants.specs.CallLists.{Call, after-all, answers, make, make-of, to-discard, to-post, to-run, to-start}
 use Rattle.invariants.proofs.Calls.{Call-facts, discard-facts, post-facts, run-facts, start-facts}
-use Rattle.invariants.proofs.Good.{Traced}
+use Rattle.invariants.specs.Good.{Traced}
 use Rattle.invariants.proofs.Own.{Own-state, nothing-traced}
-use Rattle.laws.proofs.Lists.{Each, none-left, one-more, same-or}
+use Rattle.laws.proofs.Lists.{same-or}
+use Rattle.laws.specs.Facts.{Each, none-left, one-more}
 use Rattle.laws.proofs.Sound.{Sound-chart, sound-chart}
 use Rattle.laws.proofs.Value.{Sized-chart, sized-chart, value-passes}
 use Rattle.meaning.specs.Calls.{Outcome, discard, discard-of, outcome, post, post-of, react, refused, run, run-of, start, start-of, take-front, tests}

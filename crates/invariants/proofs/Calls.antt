@@ -10,7 +10,8 @@ use mathlib.Core.Option.{none, some}
 use lib.ListN.{length}
 use lib.IntN.{ℤ}
 use Rattle.invariants.proofs.Firing.{Standing, standing-outside}
-use Rattle.invariants.proofs.Good.{Good, Traced, enqueue-good, set-queue-good}
+use Rattle.invariants.proofs.Good.{enqueue-good, set-queue-good}
+use Rattle.invariants.specs.Good.{Good, Traced}
 use Rattle.invariants.proofs.Keeps.{Gives, enqueue-keeps, gives-bind, gives-holds}
 use Rattle.invariants.proofs.Own.{Own-state, nothing-traced, own-whole, start-stands, whole-own}
 use Rattle.invariants.proofs.Stepping.{Whole, settle-stands, step-stands}

@@ -13,10 +13,10 @@ use lib.IntN.{ℤ}
 use borrow.Author.Tests.{eq-eqb, ne-eqb}
 use Rattle.invariants.proofs.Keeps.{Gives, Keeps, Leads, Outside, enter-leads, gives-bind, gives-map, then-leads, visit-leads}
 use Rattle.invariants.proofs.Slots.{Goes, Lead, slot-at}
-use Rattle.laws.proofs.Lists.{Each, each-collected, none-left, one-more, same-or}
+use Rattle.laws.proofs.Lists.{each-collected, same-or}
+use Rattle.laws.specs.Facts.{Each, child, none-left, one-more}
 use Rattle.laws.proofs.Rules.{not-o-of-a}
 use Rattle.laws.proofs.Sound.{Sound-chart}
-use Rattle.laws.proofs.Tree.{child}
 use Rattle.meaning.specs.Chart.{Chart}
 use Rattle.meaning.specs.Effects.{enter}
 use Rattle.meaning.specs.Entry.{Visit, below, goes-on, plain, revisit, slot-way, state-of, visit}

@@ -13,13 +13,14 @@ use borrow.Author.Tests.{eq-eqb, eqb-true, ne-eqb}
 use Rattle.invariants.proofs.Choosing.{or-off}
 use Rattle.invariants.proofs.Fired.{fired, reached-inside}
 use Rattle.invariants.proofs.Left.{left-on}
-use Rattle.laws.proofs.Descent.{Reached, Sound, picks}
+use Rattle.laws.proofs.Descent.{Reached, picks}
+use Rattle.laws.specs.Facts.{Sound, Under, child, deeper}
 use Rattle.laws.proofs.Lists.{and-both, or-cases, or-left, or-right, same-or}
 use Rattle.laws.proofs.Preorder.{above-child, linear}
 use Rattle.laws.proofs.Reach.{pass-states, reach, reached}
 use Rattle.laws.proofs.Scope.{first-found}
 use Rattle.laws.proofs.Sound.{Sound-chart, child-parent, no-root-child, parent-child}
-use Rattle.laws.proofs.Tree.{Under, child, deeper, has-under, under-has, under-lt, under-trans}
+use Rattle.laws.proofs.Tree.{has-under, under-has, under-lt, under-trans}
 use Rattle.meaning.specs.Chart.{Chart}
 use Rattle.meaning.specs.Entry.{Way, all-below, defaults, on-to, state-of, stops, towards, towards-owner}
 use Rattle.meaning.specs.Lists.{first-that, from, has, keep}

@@ -9,11 +9,12 @@ use lib.ListN.{length}
 use lib.Dec.{eqb}
 use borrow.Author.Tests.{eq-eqb, eqb-true}
 use Rattle.invariants.proofs.Config.{Config}
-use Rattle.laws.proofs.Descent.{Reached, Sound, picks}
+use Rattle.laws.proofs.Descent.{Reached, picks}
+use Rattle.laws.specs.Facts.{Sound, Under, child, deeper}
 use Rattle.laws.proofs.Lists.{and-both, and-left, and-right, is-false, le-or-lt}
 use Rattle.laws.proofs.Rules.{outside-parent}
 use Rattle.laws.proofs.Sound.{Sound-chart, child-parent, no-root-child}
-use Rattle.laws.proofs.Tree.{Under, child, deeper, has-under, under-has, under-lt}
+use Rattle.laws.proofs.Tree.{has-under, under-has, under-lt}
 use Rattle.meaning.specs.Chart.{Chart}
 use Rattle.meaning.specs.Entry.{Way, defaults, on-to, stops}
 use Rattle.meaning.specs.Lists.{has}

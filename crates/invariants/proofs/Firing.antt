@@ -11,7 +11,8 @@ use Rattle.invariants.proofs.Config.{Config, config-same, no-hole}
 use Rattle.invariants.proofs.Entering.{Marks, visits-mark, with-all}
 use Rattle.invariants.proofs.Enters.{entered-fired}
 use Rattle.invariants.proofs.Fired.{fired, legal-stays}
-use Rattle.invariants.proofs.Good.{Good, acts-good}
+use Rattle.invariants.proofs.Good.{acts-good}
+use Rattle.invariants.specs.Good.{Good}
 use Rattle.invariants.proofs.GoodReaction.{below-inside, leave-all-good}
 use Rattle.invariants.proofs.HistoryFired.{fired-elsewhere, history-legal, history-marks, on-2, towards-goes}
 use Rattle.invariants.proofs.Keeps.{Gives, Outside, acts-keep, gives-bind, gives-both, gives-holds, gives-map}
@@ -20,10 +21,10 @@ use Rattle.invariants.proofs.Restoring.{restore-way, towards-marks}
 use Rattle.invariants.proofs.Slots.{Lead, slot-at}
 use Rattle.laws.proofs.Lists.{is-false}
 use Rattle.laws.proofs.Reach.{reach, reached}
-use Rattle.laws.proofs.Rules.{Target-facts}
+use Rattle.laws.specs.Facts.{Target-facts, Under}
 use Rattle.laws.proofs.Scope.{scope-facts}
 use Rattle.laws.proofs.Sound.{Sound-chart}
-use Rattle.laws.proofs.Tree.{Under, has-under, under-trans}
+use Rattle.laws.proofs.Tree.{has-under, under-trans}
 use Rattle.laws.proofs.Value.{Sized-chart}
 use Rattle.laws.proofs.Ways.{owner-sound, towards-sound}
 use Rattle.meaning.specs.Chart.{Chart}

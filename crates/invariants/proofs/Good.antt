@@ -13,9 +13,10 @@ use lib.Dec.{leb}
 use lib.IntN.{_+ℤ_, negsuc, pos, ℤ}
 use lib.Signed.{leZ}
 use borrow.Author.Tests.{le-leb}
-use Rattle.invariants.proofs.Slots.{Slot-ok, Slots-ok}
-use Rattle.invariants.proofs.Values.{Values, appended-fits, held-in-row, values-set}
-use Rattle.laws.proofs.Lists.{Each, and-both, each-both, each-joined, le-or-lt, none-left, one-more, same-or}
+use Rattle.invariants.specs.Good.{Entry-ok, Good, Slot-ok, Slots-ok, Traced}
+use Rattle.invariants.proofs.Values.{appended-fits, held-in-row, values-set}
+use Rattle.laws.proofs.Lists.{and-both, each-both, each-joined, le-or-lt, same-or}
+use Rattle.laws.specs.Facts.{none-left, one-more}
 use Rattle.laws.proofs.Rules.{Act-facts, o-of}
 use Rattle.laws.proofs.Sound.{Sound-chart, acts-each, acts-sound, parent-child}
 use Rattle.laws.proofs.Stays.{Stays, each-stays, look-stays, then-stays}
@@ -27,13 +28,11 @@ use Rattle.meaning.specs.Effects.{act-on, act-var, acts-of, assign, enqueue, en
 use Rattle.meaning.specs.Effects.{store-in, take-queue}
 use Rattle.meaning.specs.Entry.{Visit, by-default, plain, state-of, visit}
 use Rattle.meaning.specs.Foreign.{event-fits, queue-fits}
-use Rattle.meaning.specs.Lists.{concat-map}
 use Rattle.meaning.specs.Rules.{within-row}
 use Rattle.meaning.specs.Steps.{_then_, bind, look, require}
 use Rattle.meaning.specs.Tree.{is-o, kind-of, parent-of, var-row}
 use Rattle.meaning.specs.Widget.{Ctx, ENTRY, Entry, change, changed, emit, entered, left, numbers, sent, set-active, set-queue, set-slot, set-value}
-use Rattle.meaning.specs.Widget.{taken, told, value-at, add-numbers}
-use Rattle.meaning.specs.declared.State.{State}
+use Rattle.meaning.specs.Widget.{told, value-at, add-numbers}
 use Rattle.meaning.specs.declared.chart.Act.{Act}
 use Rattle.meaning.specs.declared.chart.Act.the-variants.{AddTo as add-to, Send as send, SetTo as set-to, TakeTo as take-to, Tell as tell}
 use Rattle.meaning.specs.declared.chart.Owner.{Owner}
@@ -45,36 +44,7 @@ use Rattle.queue.proofs.Waiting.{appended-full}
 use Rattle.queue.specs.Queue.{appended}
 use Rattle.queue.specs.declared.Queue.{Queue}
 use Rattle.queue.specs.declared.Queued.{Queued}
-use Rattle.sizes.specs.Sizes.{QUEUE, STATES, VARIABLES}
-
--- the lists of a state at 01's full size, as the declared struct has them
-pub record Sized (u : State) : Type 0 where
-  pub active : length (u .active) ≡ STATES
-  pub slots : length (u .slots) ≡ STATES
-  pub vars : length (u .vars) ≡ VARIABLES
-  pub items : length (u .queue .items) ≡ QUEUE
-
--- an entry names a transition, a state, a variable with a value of its row, or an event of the chart; arguments and told numbers
--- are in 01's range
-abbrev pub Entry-ok : Chart → Entry → Type 0
-Entry-ok c (taken t) = t < length (c .transitions)
-Entry-ok c (left s) = s < length (c .states)
-Entry-ok c (entered s) = s < length (c .states)
-Entry-ok c (changed v x) = (v < length (c .vars)) × (within-row (var-row (c .vars) v) x ≡ true)
-Entry-ok c (sent e x) = (1 ≤ e) × (e ≤ c .events) × (inRange x ≡ true)
-Entry-ok c (told x) = inRange x ≡ true
-
--- the numbers of a trace are those of entries that are all so
-abbrev pub Traced : Chart → List ℤ → Type 0
-Traced c out = (es : List Entry) × (out ≡ concat-map numbers es) × Each (Entry-ok c) es
-
-pub record Good (c : Chart) (k : Ctx) : Type 0 where
-  pub started : k .state .started ≡ true
-  pub sized : Sized (k .state)
-  pub values : Values (c .vars) (k .state .vars)
-  pub queue : queue-fits (c .events) (k .state .queue) ≡ true
-  pub slots : Slots-ok c (k .state .slots)
-  pub trace : Traced c (k .out)
+use Rattle.sizes.specs.Sizes.{QUEUE}
 
 traced-more : (c : Chart) (out : List ℤ) (e : Entry) → Entry-ok c e → Traced c out → Traced c (out ++ numbers e)
 traced-more c out e h t = (t .0 ++ (e ∷ []), numbers-more (t .0) out e (t .1), each-joined (Entry-ok c) (t .0) (e ∷ []) (t .2) (one-more h none-left))

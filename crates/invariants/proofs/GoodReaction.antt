@@ -7,12 +7,12 @@ use mathlib.Core.List.{reverse}
 use lib.ListN.{length}
 use lib.IntN.{pos, ℤ}
 use Rattle.invariants.proofs.Choosing.{chosen-enabled}
-use Rattle.invariants.proofs.Good.{Good, acts-good, emit-good, leave-good, visit-good}
-use Rattle.invariants.proofs.Slots.{Slots-ok, slot-child}
-use Rattle.laws.proofs.Descent.{Sound}
-use Rattle.laws.proofs.Lists.{Each, each-kept, each-mapped, each-range, each-reversed, each-weaker}
+use Rattle.invariants.proofs.Good.{acts-good, emit-good, leave-good, visit-good}
+use Rattle.invariants.specs.Good.{Good, Slots-ok}
+use Rattle.invariants.proofs.Slots.{slot-child}
+use Rattle.laws.specs.Facts.{Each, Sound, Target-facts}
+use Rattle.laws.proofs.Lists.{each-kept, each-mapped, each-range, each-reversed, each-weaker}
 use Rattle.laws.proofs.Reach.{pass-states}
-use Rattle.laws.proofs.Rules.{Target-facts}
 use Rattle.laws.proofs.Scope.{scope-facts}
 use Rattle.laws.proofs.Sound.{Sound-chart}
 use Rattle.laws.proofs.Stays.{Stays, each-stays, if-any-stays, look-stays, then-stays, when-stays}

@@ -15,12 +15,14 @@ use Rattle.invariants.proofs.Enters.{entered-fired, entered-not-under, 
 use Rattle.invariants.proofs.Fired.{fired, legal-stays}
 use Rattle.invariants.proofs.Left.{left-on}
 use Rattle.invariants.proofs.Restoring.{no-child-of-b, owner-goes, restore-sound, restore-way}
-use Rattle.invariants.proofs.Slots.{Goes, Lead, Slots-ok, slot-at}
+use Rattle.invariants.proofs.Slots.{Goes, Lead, slot-at}
+use Rattle.invariants.specs.Good.{Slots-ok}
 use Rattle.laws.proofs.Descent.{Reached, picks}
 use Rattle.laws.proofs.Lists.{and-left, and-right, same-or}
 use Rattle.laws.proofs.Reach.{reach, reached}
 use Rattle.laws.proofs.Sound.{Sound-chart, parent-child}
-use Rattle.laws.proofs.Tree.{Ordered, Under, child, deeper, has-under, under-has, under-trans}
+use Rattle.laws.proofs.Tree.{has-under, under-has, under-trans}
+use Rattle.laws.specs.Facts.{Ordered, Under, child, deeper}
 use Rattle.laws.proofs.Ways.{owner-sound}
 use Rattle.meaning.specs.Chart.{Chart}
 use Rattle.meaning.specs.Entry.{Way, all-below, defaults, on-to, slot-way, state-of, stops, towards, towards-owner}

@@ -17,7 +17,8 @@ use Rattle.invariants.proofs.Slots.{Goes, Lead, same-held, slot-at}
 use Rattle.laws.proofs.Lists.{same-or}
 use Rattle.laws.proofs.Rules.{not-o-of-a, not-o-of-b}
 use Rattle.laws.proofs.Sound.{Sound-chart, child-later, child-parent, no-root-child}
-use Rattle.laws.proofs.Tree.{Under, child, deeper, from-add}
+use Rattle.laws.proofs.Tree.{from-add}
+use Rattle.laws.specs.Facts.{Under, child, deeper}
 use Rattle.meaning.specs.Chart.{Chart}
 use Rattle.meaning.specs.Effects.{leave, mark-left, o-parent, store-in}
 use Rattle.meaning.specs.Lists.{from}

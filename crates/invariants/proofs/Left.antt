@@ -15,7 +15,8 @@ use Rattle.invariants.proofs.Slots.{Lead}
 use Rattle.laws.proofs.Lists.{is-false, le-or-lt}
 use Rattle.laws.proofs.Preorder.{Run, sub-kept, sub-run}
 use Rattle.laws.proofs.Sound.{Sound-chart}
-use Rattle.laws.proofs.Tree.{Under, has-under, under-has, under-lt}
+use Rattle.laws.proofs.Tree.{has-under, under-has, under-lt}
+use Rattle.laws.specs.Facts.{Under}
 use Rattle.meaning.specs.Chart.{Chart}
 use Rattle.meaning.specs.Lists.{has}
 use Rattle.meaning.specs.Reaction.{leave-active, leave-all}

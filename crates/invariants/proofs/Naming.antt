@@ -16,9 +16,10 @@ use Rattle.invariants.specs.Named.{Names, all-named, entry-named, of-cha
 use Rattle.invariants.specs.CallLists.{Call, make, make-of, to-discard, to-post, to-run, to-start}
 use Rattle.invariants.proofs.CallLists.{unstarted-7, value-sized, value-sound}
 use Rattle.invariants.proofs.Calls.{Call-facts, discard-facts, post-facts, run-facts, start-facts}
-use Rattle.invariants.proofs.Good.{Entry-ok, Sized, Traced}
+use Rattle.invariants.specs.Good.{Entry-ok, Sized, Traced}
 use Rattle.invariants.proofs.Own.{Own-state}
-use Rattle.laws.proofs.Lists.{Each, and-both, and-left, and-right, none-left, one-more, or-left, same-or}
+use Rattle.laws.proofs.Lists.{and-both, and-left, and-right, or-left, same-or}
+use Rattle.laws.specs.Facts.{Each, none-left, one-more}
 use Rattle.laws.proofs.Sound.{Sound-chart}
 use Rattle.laws.proofs.Value.{Sized-chart}
 use Rattle.meaning.specs.Calls.{Outcome, discard, discard-of, outcome, post, post-of, react, refused, run, run-of, start, start-of}

@@ -16,14 +16,16 @@ use Rattle.invariants.proofs.Entering.{Marks, enter-marks, visits-mark,
 use Rattle.invariants.proofs.Enters.{entered-fired}
 use Rattle.invariants.proofs.Fired.{fired, legal-stays}
 use Rattle.invariants.proofs.Firing.{stands}
-use Rattle.invariants.proofs.Good.{Good, Sized, Traced, enter-good, visit-good}
+use Rattle.invariants.proofs.Good.{enter-good, visit-good}
+use Rattle.invariants.specs.Good.{Good, Sized, Slot-ok, Traced, Values}
 use Rattle.invariants.proofs.GoodReaction.{below-inside}
 use Rattle.invariants.proofs.Keeps.{Gives, gives-bind, gives-holds, gives-map}
 use Rattle.invariants.proofs.Left.{left-on}
-use Rattle.invariants.proofs.Slots.{Lead, Slot-ok, lead-of, slots-fit-of, slots-of}
+use Rattle.invariants.proofs.Slots.{Lead, lead-of, slots-fit-of, slots-of}
 use Rattle.invariants.proofs.Stepping.{Whole, settle-stands}
-use Rattle.invariants.proofs.Values.{Values, empty-fits, values-fit-of, values-of}
-use Rattle.laws.proofs.Lists.{Each, and-both, and-left, and-right, none-left}
+use Rattle.invariants.proofs.Values.{empty-fits, values-fit-of, values-of}
+use Rattle.laws.proofs.Lists.{and-both, and-left, and-right}
+use Rattle.laws.specs.Facts.{Each, none-left}
 use Rattle.laws.proofs.Reach.{reach, reached}
 use Rattle.laws.proofs.Rules.{not-o-of-a}
 use Rattle.laws.proofs.Scope.{root-above}

@@ -12,12 +12,12 @@ use Rattle.invariants.proofs.Entering.{Marks, Restorable, below-fine, e
 use Rattle.invariants.proofs.Enters.{eqb-sym}
 use Rattle.invariants.proofs.GoodReaction.{below-inside}
 use Rattle.invariants.proofs.Keeps.{Gives, Leads, gives-bind, gives-map, then-leads}
-use Rattle.invariants.proofs.Slots.{Goes, Lead, Slots-ok, slot-at, slot-child}
-use Rattle.laws.proofs.Descent.{Sound}
-use Rattle.laws.proofs.Lists.{Each, each-both, none-left, one-more}
+use Rattle.invariants.proofs.Slots.{Goes, Lead, slot-at, slot-child}
+use Rattle.invariants.specs.Good.{Slots-ok}
+use Rattle.laws.specs.Facts.{Each, Sound, child, none-left, one-more}
+use Rattle.laws.proofs.Lists.{each-both}
 use Rattle.laws.proofs.Rules.{not-o-of-a, not-o-of-b}
 use Rattle.laws.proofs.Sound.{Sound-chart, child-inside, every-child}
-use Rattle.laws.proofs.Tree.{child}
 use Rattle.meaning.specs.Chart.{Chart}
 use Rattle.meaning.specs.Entry.{Visit, Way, all-below, below, by-defaults, by-slots, defaults, on-to, restore, restore-by, revisit, slot-way, state-of}
 use Rattle.meaning.specs.Entry.{visit, visit-towards}

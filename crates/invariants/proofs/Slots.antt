@@ -10,6 +10,7 @@ use lib.ListN.{List·getD-eq-default, getD, length}
 use lib.Dec.{ltb}
 use lib.IntN.{negsuc, pos, ℤ}
 use borrow.Author.Tests.{eq-eqb, eqb-true, lt-ltb, ltb-true}
+use Rattle.invariants.specs.Good.{Slot-ok, Slots-ok}
 use Rattle.laws.proofs.Lists.{and-both, and-left, and-right, every-range, le-or-lt, range-every}
 use Rattle.laws.proofs.Rules.{o-of, of-o}
 use Rattle.laws.proofs.Sound.{Sound-chart, a-not-root, child-every, child-inside, every-child}
@@ -28,14 +29,6 @@ use Rattle.sizes.specs.Sizes.{STATES}
 -- what a slot of a list holds
 abbrev pub slot-at : List ℤ → ℕ → Slot
 slot-at sl s = as-slot (getD sl s (negsuc 0))
-
--- -1, or at an o state its child
-abbrev pub Slot-ok : Chart → ℕ → ℤ → Type 0
-Slot-ok c s (pos d) = (kind-of c s ≡ kind-o) × (is-child c s d ≡ true) × (d < length (c .states))
-Slot-ok c s (negsuc n) = n ≡ 0
-
-abbrev pub Slots-ok : Chart → List ℤ → Type 0
-Slots-ok c sl = (s : ℕ) → Slot-ok c s (getD sl s (negsuc 0))
 
 -- what a stored state needs to go on: its own slot filled, or that of each component
 pub record Goes (c : Chart) (sl : List ℤ) (d : ℕ) : Type 0 where

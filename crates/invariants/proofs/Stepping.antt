@@ -13,14 +13,15 @@ use Rattle.invariants.proofs.Choosing.{Apart, apart-lists, chosen-apart
 use Rattle.invariants.proofs.Config.{Config, no-hole}
 use Rattle.invariants.proofs.Enters.{has-kept, in-range}
 use Rattle.invariants.proofs.Firing.{Armed-by, Moved-by, Standing, fire-to-stands}
-use Rattle.invariants.proofs.Good.{Good, emit-good}
+use Rattle.invariants.proofs.Good.{emit-good}
+use Rattle.invariants.specs.Good.{Good}
 use Rattle.invariants.proofs.GoodReaction.{fire-good}
 use Rattle.invariants.proofs.Keeps.{Gives, emit-keeps, gives-bind, gives-holds, gives-map}
-use Rattle.laws.proofs.Lists.{Each, and-both, and-left, and-right, each-weaker, none-left, one-more, or-left}
-use Rattle.laws.proofs.Rules.{Target-facts}
+use Rattle.laws.proofs.Lists.{and-both, and-left, and-right, each-weaker, or-left}
+use Rattle.laws.specs.Facts.{Each, Target-facts, Under, child, deeper, none-left, one-more}
 use Rattle.laws.proofs.Scope.{scope-facts}
 use Rattle.laws.proofs.Sound.{Sound-chart}
-use Rattle.laws.proofs.Tree.{Under, child, deeper, under-has, under-trans}
+use Rattle.laws.proofs.Tree.{under-has, under-trans}
 use Rattle.laws.proofs.Value.{Sized-chart}
 use Rattle.meaning.specs.Chart.{Chart}
 use Rattle.meaning.specs.Lists.{from, has}

@@ -10,7 +10,7 @@ use lib.IntN.{ℤ}
 use Rattle.invariants.specs.Named.{all-named, of-chart, traces}
 use Rattle.invariants.specs.CallLists.{Call, make-of}
 use Rattle.invariants.proofs.CallLists.{Lived, make-of-lives}
-use Rattle.invariants.proofs.Good.{Sized}
+use Rattle.invariants.specs.Good.{Sized}
 use Rattle.invariants.proofs.Naming.{make-of-answered, traced-named}
 use Rattle.laws.proofs.Lists.{and-both}
 use Rattle.meaning.specs.Foreign.{own}

@@ -13,6 +13,7 @@ use lib.Dec.{leb}
 use lib.IntN.{pos, ℤ}
 use lib.Signed.{leZ}
 use borrow.Author.Tests.{le-leb, leb-true}
+use Rattle.invariants.specs.Good.{Values}
 use Rattle.laws.proofs.Lists.{and-both, and-left, and-right, at-every, every-append, every-at, every-replicate, le-or-lt, same-or}
 use Rattle.meaning.specs.Chart.{no-var}
 use Rattle.meaning.specs.Effects.{held}
@@ -30,11 +31,6 @@ use Rattle.queue.specs.Queue.{appended, empty-queue, item, no-item as none-item
 use Rattle.queue.specs.declared.Item.{Item}
 use Rattle.queue.specs.declared.Queue.{Queue}
 use Rattle.sizes.specs.Sizes.{QUEUE}
-
--- each value lies in its row, and places not in use hold 0
-pub record Values (vs : List VarRow) (xs : List ℤ) : Type 0 where
-  pub inside : (v : ℕ) → v < length vs → within-row (var-row vs v) (getD xs v (pos 0)) ≡ true
-  pub outside : (v : ℕ) → length vs ≤ v → getD xs v (pos 0) ≡ pos 0
 
 zeros : (xs : List ℤ) → every (eqZ (pos 0)) xs ≡ true → (v : ℕ) → getD xs v (pos 0) ≡ pos 0
 zeros xs e v = ⊎-elim (λ l. List·getD-eq-default xs (pos 0) l) (λ l. sym (eqZ-true _ _ (every-at (eqZ (pos 0)) xs e v l (pos 0)))) (le-or-lt (length xs) v)

@@ -1,2 +1,3 @@
 pub mod CallLists
+pub mod Good
 pub mod Named

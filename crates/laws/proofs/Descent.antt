@@ -10,7 +10,8 @@ use lib.ListN.{length}
 use lib.Dec.{eqb}
 use borrow.Author.Tests.{eq-eqb, eqb-true, ne-eqb}
 use Rattle.laws.proofs.Preorder.{preorder, tree}
-use Rattle.laws.proofs.Tree.{Ordered, Under, child, deeper, has-under, keep-append, under-trans}
+use Rattle.laws.proofs.Tree.{has-under, keep-append, under-trans}
+use Rattle.laws.specs.Facts.{Sound, Under, child, deeper}
 use Rattle.meaning.specs.Chart.{Chart}
 use Rattle.meaning.specs.Entry.{Visit, Way, below, defaults, goes-on, on-to, plain, state-of, stops}
 use Rattle.meaning.specs.Lists.{concat-map, from, has, keep}
@@ -95,13 +96,6 @@ picks c kind-o defaults s x = eqb x (default-child c s)
 picks c kind-o stops s x = false
 picks c kind-a w s x = true
 picks c kind-b w s x = true
-
--- the way goes on with children, and b states have none
-pub record Sound (c : Chart) (way : ℕ → Way) : Type 0 where
-  pub ordered : Ordered c
-  pub on : (s d : ℕ) → kind-of c s ≡ kind-o → way s ≡ on-to d → (is-child c s d ≡ true) × (d < length (c .states))
-  pub by : (s : ℕ) → kind-of c s ≡ kind-o → way s ≡ defaults → (is-child c s (default-child c s) ≡ true) × (default-child c s < length (c .states))
-  pub leaf : (s : ℕ) → kind-of c s ≡ kind-b → children c s ≡ []
 
 -- r says of each state under b whether it is entered
 pub record Reached (c : Chart) (way : ℕ → Way) (b : ℕ) (r : ℕ → Bool) : Type 0 where

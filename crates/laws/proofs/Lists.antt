@@ -9,6 +9,7 @@ use mathlib.Core.List.{List, [], _++_, _∷_, map, reverse, reverseAux}
 use lib.ListN.{getD, length, replicate}
 use lib.Dec.{eqb, leb}
 use borrow.Author.Tests.{eqb-false, eqb-true, leb-false, leb-true}
+use Rattle.laws.specs.Facts.{Each, none-left, one-more}
 use Rattle.meaning.specs.Lists.{concat-map, every, from, keep}
 
 pub is-false : (b : Bool) → (b ≡ true → ⊥) → b ≡ false
@@ -130,10 +131,6 @@ same-or m n = go (eqb m n) refl
     go false e = inr (eqb-false m n e)
 
 -- ---- what holds of each element
-
-pub data Each {A : Type 0} (P : A → Type 0) : List A → Type 0 where
-  none-left : Each P []
-  one-more : {x : A} {xs : List A} → P x → Each P xs → Each P (x ∷ xs)
 
 module _ {A : Type 0} (P : A → Type 0) where
   pub each-at : (xs : List A) → Each P xs → (i : ℕ) → i < length xs → (d : A) → P (getD xs i d)

@@ -9,7 +9,8 @@ use mathlib.Core.List.{List, [], _++_, _∷_}
 use lib.ListN.{length}
 use borrow.Author.Tests.{eq-eqb, eqb-true}
 use Rattle.laws.proofs.Lists.{is-false}
-use Rattle.laws.proofs.Tree.{Ordered, Under, child, deeper, from-add, has-under, keep-append, keep-cut, keep-none, step-down, under-has, under-lt}
+use Rattle.laws.proofs.Tree.{from-add, has-under, keep-append, keep-cut, keep-none, step-down, under-has, under-lt}
+use Rattle.laws.specs.Facts.{Ordered, Under, child, deeper}
 use Rattle.laws.proofs.Tree.{under-trans}
 use Rattle.meaning.specs.Chart.{Chart}
 use Rattle.meaning.specs.Lists.{concat-map, from, has, keep}

@@ -9,9 +9,10 @@ use mathlib.Core.List.{List, [], _++_, _∷_, map}
 use lib.ListN.{length}
 use lib.Dec.{eqb}
 use borrow.Author.Tests.{eq-eqb, ne-eqb}
-use Rattle.laws.proofs.Descent.{Reached, Sound, descent, map-append, picks}
+use Rattle.laws.proofs.Descent.{Reached, descent, map-append, picks}
+use Rattle.laws.specs.Facts.{Ordered, Sound, Under}
 use Rattle.laws.proofs.Sound.{child-parent, no-root-child}
-use Rattle.laws.proofs.Tree.{Ordered, Under, under-lt}
+use Rattle.laws.proofs.Tree.{under-lt}
 use Rattle.meaning.specs.Chart.{Chart}
 use Rattle.meaning.specs.Entry.{Visit, Way, all-below, below, by-default, defaults, goes-on, on-to, plain, state-of, stops}
 use Rattle.meaning.specs.Lists.{concat-map, keep}

@@ -11,7 +11,8 @@ use lib.ListN.{List·getD-eq-default, getD, length}
 use lib.Dec.{eqb, leb}
 use borrow.Author.Tests.{eqb-false, eqb-true, leb-true, ltb-true, not-true}
 use Rattle.laws.proofs.Lists.{and-left, and-right, every-at, every-range, le-or-lt, or-cases, same-or}
-use Rattle.laws.proofs.Tree.{Ordered, has-under}
+use Rattle.laws.proofs.Tree.{has-under}
+use Rattle.laws.specs.Facts.{Ordered, Target-facts}
 use Rattle.meaning.specs.Chart.{Chart, no-state}
 use Rattle.meaning.specs.Lists.{every, has}
 use Rattle.meaning.specs.Rules.{act-fits, failing-rule, first-failing, guard-fits, is-state, is-var, owner-fits, parent-fits, rule-1, rule-2, rule-3}
@@ -144,12 +145,6 @@ module _ (c : Chart) (r : rule-2 c ≡ true) where
 abbrev pub Guard-facts : Chart → Guard → Type 0
 Guard-facts c always = Unit {0}
 Guard-facts c (compares v g x) = v < length (c .vars)
-
--- a target is a state other than the root, a history's owner an o state, and the source is not the root
-abbrev pub Target-facts : Chart → ℕ → Target → Type 0
-Target-facts c s (to d) = (d < length (c .states)) × (0 < d) × (0 < s)
-Target-facts c s (history b) = (b < length (c .states)) × (0 < b) × (kind-of c b ≡ kind-o) × (0 < s)
-Target-facts c s in-place = Unit {0}
 
 pub record Transition-facts (c : Chart) (r : TransRow) : Type 0 where
   pub source : r .source < length (c .states)

@@ -12,7 +12,8 @@ use borrow.Author.Tests.{eq-eqb, eqb-true}
 use Rattle.laws.proofs.Lists.{and-both, and-left, and-right, or-cases, or-left, or-right}
 use Rattle.laws.proofs.Rules.{o-inside, o-of, of-o}
 use Rattle.laws.proofs.Sound.{Sound-chart}
-use Rattle.laws.proofs.Tree.{Ordered, Under, child, deeper, has-under, under-has}
+use Rattle.laws.proofs.Tree.{has-under, under-has}
+use Rattle.laws.specs.Facts.{Ordered, Under, child, deeper}
 use Rattle.meaning.specs.Chart.{Chart}
 use Rattle.meaning.specs.Lists.{first-that, has}
 use Rattle.meaning.specs.Tree.{ancestors, is-o, kind-of, parent-of, scope}

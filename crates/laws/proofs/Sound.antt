@@ -10,10 +10,11 @@ use lib.ListN.{getD, length}
 use lib.Dec.{leb}
 use lib.Signed.{leZ}
 use borrow.Author.Tests.{eq-eqb, eqb-true, leb-true, ltb-true}
-use Rattle.laws.proofs.Lists.{Each, and-left, and-right, every-at, every-kept, every-range, is-false, kept-every, le-or-lt, none-left, one-more}
+use Rattle.laws.proofs.Lists.{and-left, and-right, every-at, every-kept, every-range, is-false, kept-every, le-or-lt}
+use Rattle.laws.specs.Facts.{Each, Ordered, none-left, one-more}
 use Rattle.laws.proofs.Rules.{Act-facts, Owner-facts, Rules-hold, Transition-facts, a-inside, act-facts, not-o-of-a, o-inside, o-of, ordered-2}
 use Rattle.laws.proofs.Rules.{outside-parent, owner-facts, rules-hold, transition-facts}
-use Rattle.laws.proofs.Tree.{Ordered, keep-none}
+use Rattle.laws.proofs.Tree.{keep-none}
 use Rattle.meaning.specs.Chart.{Chart, no-action, no-trans, no-var}
 use Rattle.meaning.specs.Effects.{acts-in, acts-of, same-owner}
 use Rattle.meaning.specs.Lists.{every}

@@ -5,7 +5,7 @@ use Prim.Native.Nat.{suc, zero, ℕ}
 use mathlib.Core.Bool.{Bool, false, true}
 use mathlib.Core.List.{List, [], _∷_, reverse}
 use lib.IntN.{_+ℤ_, pos, ℤ}
-use Rattle.laws.proofs.Lists.{Each, none-left, one-more}
+use Rattle.laws.specs.Facts.{Each, none-left, one-more}
 use Rattle.laws.proofs.Steps.{Holds, holds-bind}
 use Rattle.meaning.specs.Calls.{react, start-steps, take-front}
 use Rattle.meaning.specs.Chart.{Chart}

@@ -10,18 +10,10 @@ use lib.ListN.{length}
 use lib.Dec.{T, eqb, eqb→eq}
 use borrow.Author.Tests.{eq-eqb}
 use Rattle.laws.proofs.Lists.{is-false, or-cases, or-left, or-right}
+use Rattle.laws.specs.Facts.{Ordered, Under, child, deeper}
 use Rattle.meaning.specs.Chart.{Chart}
 use Rattle.meaning.specs.Lists.{from, has, keep}
 use Rattle.meaning.specs.Tree.{all-states, ancestors, climb, descendants, parent-of}
-
-pub data Under (c : Chart) (s : ℕ) : ℕ → Type 0 where
-  child : {n : ℕ} → parent-of c (suc n) ≡ s → Under c s (suc n)
-  deeper : {n : ℕ} → Under c s (parent-of c (suc n)) → Under c s (suc n)
-
--- R2
-pub record Ordered (c : Chart) : Type 0 where
-  pub falls : (n : ℕ) → parent-of c (suc n) ≤ n
-  pub follows : (n : ℕ) → suc n < length (c .states) → (parent-of c (suc n) ≡ n) ⊎ Under c (parent-of c (suc n)) n
 
 pub under-trans : {c : Chart} {a b d : ℕ} → Under c a b → Under c b d → Under c a d
 under-trans {c} {a} u (child e) = deeper (subst (Under c a) (sym e) u)

@@ -7,10 +7,10 @@ use mathlib.Core.Bool.{Bool, cond, false, true}
 use mathlib.Core.List.{_∷_, map}
 use lib.ListN.{length}
 use lib.Dec.{eqb}
-use Rattle.laws.proofs.Descent.{Sound}
+use Rattle.laws.specs.Facts.{Ordered, Sound, Under, child, deeper}
 use Rattle.laws.proofs.Reach.{pass, reach, visit-of}
 use Rattle.laws.proofs.Sound.{Sound-chart, parent-child}
-use Rattle.laws.proofs.Tree.{Ordered, Under, child, deeper, has-under, range}
+use Rattle.laws.proofs.Tree.{has-under, range}
 use Rattle.meaning.specs.Chart.{Chart}
 use Rattle.meaning.specs.Entry.{all-below, by-defaults, by-slots, defaults, on-to, slot-way, stops, towards, towards-owner}
 use Rattle.meaning.specs.Lists.{first-that, from, has, keep}

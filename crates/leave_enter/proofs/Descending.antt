@@ -7,7 +7,7 @@ use mathlib.Core.List.{List, [], _∷_, _++_}
 use native.Mathlib.Omega.{arith}
 use lib.ListN.{length}
 use lib.IntN.{ℤ}
-use Rattle.laws.proofs.Descent.{Sound}
+use Rattle.laws.specs.Facts.{Sound}
 use Rattle.laws.proofs.Steps.{each-append, bind-cong}
 use Rattle.meaning.specs.Chart.{Chart}
 use Rattle.meaning.specs.Entry.{Visit, Way, all-below, plain, revisit}

@@ -12,6 +12,7 @@ use Rattle.meaning.specs.Widget.{Entry, taken, left, entered, changed, t
 use Rattle.meaning.specs.Value.{VALUE, chart-of}
 use Rattle.meaning.specs.Rules.{failing-rule}
 use Rattle.meaning.specs.Text.{done, read}
+use Rattle.meaning.specs.Text as text
 use Rattle.meaning.specs.Calls.{Outcome, refused, unstarted, start, start-of}
 use Rattle.meaning.specs.Compile.{start-block, block, plan-of, compile-of}
 use Rattle.meaning.specs.Examples.{text-K, value-K, chart-K, plan-K, chart-two, standing, gives, react-of}
@@ -83,8 +84,8 @@ pub record Starred : Type 0 where
   pub plan-start : length (start-block chart-K) ≡ 2
   pub plan-heads : map (λ h. h .transition) (plan-of chart-K .heads) ≡ 1 ∷ 2 ∷ 0 ∷ []
   pub plan-length : length plan-K ≡ 195
-  pub lent-195 : compile-of value-K 195 ≡ record { number = 0; place = 0; plan = plan-K }
-  pub lent-194 : compile-of value-K 194 ≡ record { number = 4; place = 0; plan = [] }
+  pub lent-195 : compile-of value-K 195 ≡ done plan-K
+  pub lent-194 : compile-of value-K 194 ≡ text.refused 4 0
   -- "The first event 1 with 15 trace numbers is done, with 14 gives 11"
   pub room-15 : react-of value-K 15 1 state-started ≡ gives state-1 entries-1
   pub room-14 : react-of value-K 14 1 state-started ≡ refused 11 0 state-posted

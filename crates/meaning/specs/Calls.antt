@@ -66,12 +66,15 @@ fresh-by vs = record {
   queue = empty-queue;
 }
 
--- what a chart or a plan brings to the calls: its fresh state, what a start enters, its test for 6, its events, one step, null steps
+-- what a chart or a plan brings to the calls
 pub record Runner : Type 0 where
+  -- the state that a start begins with, and what it enters
   pub anew : State
   pub entering : Step Ctx
+  -- the test for 6
   pub owning : State → Bool
   pub events : ℕ
+  -- one step with an event and its argument; null steps until none is enabled
   pub one : ℕ → ℤ → Step Ctx
   pub settling : Step Ctx
 
@@ -179,5 +182,6 @@ discard-of v u = if-ruled v u (λ c. discard c u)
 
 -- everything above, opened: for statements that compute
 unfoldable pub calls-open : ℕ
-unfolding refused outcome called lent unstarted fresh-by start-steps-by start-by tests-by take-front react-by run-by post-by discard-by fresh enter-first start-steps start tests react run post discard if-ruled start-of run-of post-of discard-of
+unfolding refused outcome called lent unstarted fresh-by start-steps-by start-by tests-by take-front react-by run-by post-by discard-by
+    fresh enter-first start-steps start tests react run post discard if-ruled start-of run-of post-of discard-of
 calls-open = 0

@@ -8,8 +8,9 @@ use lib.ListN.{length}
 use lib.IntN.{ℤ, pos}
 use lib.Dec.{eqb, ltb}
 use Rattle.meaning.specs.Answers.{RULE-FAILS, PLAN-TOO-LONG}
-use Rattle.meaning.specs.Lists.{concat-map, padded}
-use Rattle.meaning.specs.Chart.{Kind, kind-o, kind-a, kind-b, Target, to, history, in-place, Owner, entry-of, exit-of, default-of, transition-of}
+use Rattle.meaning.specs.Lists.{concat-map}
+use Rattle.meaning.specs.Chart.{Kind, kind-o, kind-a, kind-b, Target, to, history, in-place, Owner, entry-of, exit-of, default-of}
+use Rattle.meaning.specs.Chart.{transition-of}
 use Rattle.meaning.specs.Chart.{TransRow, Chart}
 use Rattle.meaning.specs.Tree.{parent-of, kind-of, trans-row, all-transitions, descendants, scope, span}
 use Rattle.meaning.specs.Effects.{acts-of, o-parent}
@@ -17,6 +18,7 @@ use Rattle.meaning.specs.Entry.{Visit, plain, by-default, state-of, all-
 use Rattle.meaning.specs.Reaction.{choosing-order}
 use Rattle.meaning.specs.Value.{chart-of}
 use Rattle.meaning.specs.Rules.{failing-rule-of}
+use Rattle.meaning.specs.Text.{Outcome, done, refused, answer-of, count-of, lent}
 use Rattle.meaning.specs.Plan.{Instr, go-in, go-out, skip-out, skip-empty, skip-full, skip-not, does, Head, Plan, plan-numbers}
 use Rattle.meaning.specs.declared.plan.Compiled.{Compiled}
 
@@ -148,35 +150,29 @@ compile c = plan-numbers (plan-of c)
 
 -- ---- compiling a chart handed over as a value into n lent numbers
 
--- the answer, the place with it, and the plan, of which a refusal gives nothing
-pub record Compiling : Type 0 where
-  pub number : ℕ
-  pub place : ℕ
-  pub plan : List ℤ
-
-unfoldable pub not-compiled : ℕ → ℕ → Compiling
-not-compiled n p = record { number = n; place = p; plan = [] }
-
 -- 4 "the plan is longer than the slice lent"
-unfoldable pub compiled-into : ℕ → List ℤ → Compiling
-compiled-into n plan = cond (ltb n (length plan)) (not-compiled PLAN-TOO-LONG 0) (record { number = 0; place = 0; plan = plan })
+unfoldable pub compiled-into : ℕ → List ℤ → Outcome (List ℤ)
+compiled-into n plan = cond (ltb n (length plan)) (refused PLAN-TOO-LONG 0) (done plan)
 
 -- "chart 3 .. first"
-unfoldable pub compile-of : List ℤ → ℕ → Compiling
+unfoldable pub compile-of : List ℤ → ℕ → Outcome (List ℤ)
 compile-of v n = elim (failing-rule-of v) [
   | none ↦ compiled-into n (compile (chart-of v))
-  | some r ↦ not-compiled RULE-FAILS r
+  | some r ↦ refused RULE-FAILS r
 ]
 
 -- the answer and the count; "Any other .. zeroes the lent output, its count"
-unfoldable pub compiled : Compiling → Compiled
-compiled k = record { answer = record { number = k .number; place = k .place }; length = length (k .plan) }
+unfoldable pub compiled : Outcome (List ℤ) → Compiled
+compiled o = record { answer = answer-of o; length = count-of o }
 
 -- the lent slice of n numbers afterwards: "Past a plan .. the lent slice is 0"
-unfoldable pub plan-lent : ℕ → Compiling → List ℤ
-plan-lent n k = padded n (pos 0) (k .plan)
+unfoldable pub plan-lent : ℕ → Outcome (List ℤ) → List ℤ
+unfolding lent
+plan-lent n o = lent (pos 0) n o
 
 -- everything above, opened: for statements that compute
 unfoldable pub compile-open : ℕ
-unfolding code-acts exit-code enter-code visit-code held-code past-if-out stored-code stored-arm default-arm arms-of arms towards-code exits-code block-to block start-block first-of last-of head-of heads-from head-order code-of plan-of compile not-compiled compiled-into compile-of compiled plan-lent
+unfolding code-acts exit-code enter-code visit-code held-code past-if-out stored-code stored-arm default-arm arms-of arms towards-code
+    exits-code block-to block start-block first-of last-of head-of heads-from head-order code-of plan-of compile compiled-into
+    compile-of compiled plan-lent
 compile-open = 0

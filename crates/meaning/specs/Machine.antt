@@ -17,7 +17,8 @@ use Rattle.meaning.specs.Widget.{Ctx, Slot, empty, holds, is-active, slo
 use Rattle.meaning.specs.Effects.{perform, mark-left, mark-entered}
 use Rattle.meaning.specs.Reaction.{guard-holds, step-by, settle-in-by, settle-by}
 use Rattle.meaning.specs.Foreign.{values-fit, queue-fits, marks-fit}
-use Rattle.meaning.specs.Calls.{Outcome, Runner, refused, fresh-by, start-steps-by, start-by, tests-by, react-by, run-by, post-by, discard-by}
+use Rattle.meaning.specs.Calls.{Outcome, Runner, refused, fresh-by, start-steps-by, start-by, tests-by, react-by, run-by, post-by}
+use Rattle.meaning.specs.Calls.{discard-by}
 use Rattle.meaning.specs.Plan.{Instr, go-in, go-out, skip-out, skip-empty, skip-full, skip-not, does, Head, Plan}
 use Rattle.meaning.specs.WellFormed.{plan-by, well-formed}
 
@@ -201,5 +202,8 @@ machine-discard ns u = if-well-formed ns u (λ p. plan-discard p u)
 
 -- everything above, opened: for statements that compute
 unfoldable pub machine-open : ℕ
-unfolding passing go-on on-if holds-it exec-now exec-at exec run-code end-code run-block head-enabled spans-meet thin-heads chosen-heads head-block fire-head plan-step plan-settle-in plan-settle plan-slot-fits plan-slots-fit plan-own plan-enter plan-start-steps plan-start plan-tests plan-react plan-run plan-post plan-discard if-well-formed machine-start machine-run machine-post machine-discard
+unfolding passing go-on on-if holds-it exec-now exec-at exec run-code end-code run-block head-enabled spans-meet thin-heads chosen-heads
+    head-block fire-head plan-step plan-settle-in plan-settle plan-slot-fits plan-slots-fit plan-own plan-enter plan-start-steps
+    plan-start plan-tests plan-react plan-run plan-post plan-discard if-well-formed machine-start machine-run machine-post
+    machine-discard
 machine-open = 0

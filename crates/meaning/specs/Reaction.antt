@@ -13,7 +13,8 @@ use Rattle.meaning.specs.Answers.{UNSETTLED}
 use Rattle.meaning.specs.declared.State.{State}
 use Rattle.meaning.specs.Steps.{Res, refuse, Step, _then_, skip, when, look, each}
 use Rattle.meaning.specs.Lists.{has, keep, exists, concat-map}
-use Rattle.meaning.specs.Chart.{Sign, equal, less, more, Guard, always, compares, Target, to, history, in-place, transition-of, TransRow, Chart}
+use Rattle.meaning.specs.Chart.{Sign, equal, less, more, Guard, always, compares, Target, to, history, in-place, transition-of}
+use Rattle.meaning.specs.Chart.{TransRow, Chart}
 use Rattle.meaning.specs.Tree.{trans-row, all-states, all-transitions, descendants, scope, span}
 use Rattle.meaning.specs.Widget.{Ctx, is-active, value-at, emit, Entry, taken}
 use Rattle.meaning.specs.Effects.{perform-all, leave}
@@ -117,5 +118,6 @@ settle c = settle-by (chosen c) (step c)
 
 -- everything above, opened: for statements that compute
 unfoldable pub reaction-open : ℕ
-unfolding compare-by guard-holds enabled-by enabled choosing-order meets thin chosen leave-active leave-all fire-to fire step-by if-any settle-in-by settle-by step settle-in settle
+unfolding compare-by guard-holds enabled-by enabled choosing-order meets thin chosen leave-active leave-all fire-to fire step-by if-any
+    settle-in-by settle-by step settle-in settle
 reaction-open = 0

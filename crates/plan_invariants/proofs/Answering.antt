@@ -11,7 +11,8 @@ use Rattle.agreement.proofs.Calling.{plan-make}
 use Rattle.agreement.proofs.CompiledCalls.{machine-makes}
 use Rattle.agreement.specs.PlanCalls.{machine-make}
 use Rattle.invariants.specs.CallLists.{Call, to-discard, to-post, to-run, to-start}
-use Rattle.laws.proofs.Lists.{Each, none-left, one-more, or-right}
+use Rattle.laws.proofs.Lists.{or-right}
+use Rattle.laws.specs.Facts.{Each, none-left, one-more}
 use Rattle.meaning.specs.Calls.{Outcome, fresh-by, outcome, refused, take-front}
 use Rattle.meaning.specs.Effects.{enqueue}
 use Rattle.meaning.specs.Foreign.{event-fits}

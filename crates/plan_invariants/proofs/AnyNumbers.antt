@@ -10,7 +10,7 @@ use lib.IntN.{ℤ}
 use Rattle.agreement.proofs.Calling.{plan-make}
 use Rattle.agreement.specs.PlanCalls.{machine-make, outcomes}
 use Rattle.invariants.specs.CallLists.{Call, to-discard, to-post, to-run, to-start}
-use Rattle.invariants.proofs.Good.{Sized}
+use Rattle.invariants.specs.Good.{Sized}
 use Rattle.laws.proofs.Lists.{and-both, same-or}
 use Rattle.meaning.specs.Calls.{refused}
 use Rattle.meaning.specs.Lists.{every}

@@ -9,9 +9,10 @@ use mathlib.Core.List.{List, [], _++_, _∷_, map}
 use lib.ListN.{drop, length, length-append, length-map, length-replicate, replicate, take}
 use lib.IntN.{negsuc, pos, ℤ}
 use lib.Signed.{leZ}
-use Rattle.invariants.proofs.Good.{Sized}
+use Rattle.invariants.specs.Good.{Sized}
 use Rattle.invariants.proofs.Values.{empty-fits, fits-len, removed-fits}
-use Rattle.laws.proofs.Lists.{Each, and-both, and-left, and-right, every-replicate, none-left, one-more, same-or}
+use Rattle.laws.proofs.Lists.{and-both, and-left, and-right, every-replicate, same-or}
+use Rattle.laws.specs.Facts.{Each, none-left, one-more}
 use Rattle.meaning.specs.Calls.{Outcome, fresh-by, outcome, refused, take-front}
 use Rattle.meaning.specs.Effects.{enqueue}
 use Rattle.meaning.specs.Foreign.{event-fits, marks-fit, queue-fits, values-fit}

@@ -11,7 +11,8 @@ use lib.IntN.{negsuc, pos, ℤ}
 use lib.Signed.{leZ}
 use lib.Dec.{leb, ltb}
 use borrow.Author.Tests.{leb-true, ltb-true}
-use Rattle.laws.proofs.Lists.{Each, and-left, and-right, none-left, one-more, or-cases}
+use Rattle.laws.proofs.Lists.{and-left, and-right, or-cases}
+use Rattle.laws.specs.Facts.{Each, none-left, one-more}
 use Rattle.meaning.specs.Lists.{every}
 use Rattle.meaning.specs.Rules.{row-fits}
 use Rattle.meaning.specs.Value.{count-fits, num, var-by, var-statable}

@@ -12,7 +12,7 @@ use lib.IntN.{_+ℤ_, negsuc, pos, ℤ}
 use lib.Signed.{leZ}
 use lib.Dec.{leb}
 use borrow.Author.Tests.{le-leb, lt-ltb}
-use Rattle.invariants.proofs.Good.{Sized}
+use Rattle.invariants.specs.Good.{Sized}
 use Rattle.invariants.proofs.Values.{appended-fits, held-in-row, values-fit-of, values-of, values-set}
 use Rattle.laws.proofs.Lists.{and-both, and-left, and-right, each-at, le-or-lt}
 use Rattle.meaning.specs.Chart.{no-var}

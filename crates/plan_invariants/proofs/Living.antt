@@ -10,8 +10,9 @@ use lib.IntN.{ℤ}
 use Rattle.agreement.proofs.Calling.{plan-make}
 use Rattle.agreement.specs.PlanCalls.{machine-make}
 use Rattle.invariants.specs.CallLists.{Call, answers, to-discard, to-post, to-run, to-start}
-use Rattle.invariants.proofs.Good.{Sized}
-use Rattle.laws.proofs.Lists.{Each, none-left, one-more, same-or}
+use Rattle.invariants.specs.Good.{Sized}
+use Rattle.laws.proofs.Lists.{same-or}
+use Rattle.laws.specs.Facts.{Each, none-left, one-more}
 use Rattle.meaning.specs.Calls.{outcome, refused, take-front}
 use Rattle.meaning.specs.Effects.{enqueue}
 use Rattle.meaning.specs.Foreign.{event-fits}

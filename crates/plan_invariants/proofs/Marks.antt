@@ -6,7 +6,7 @@ use mathlib.Core.List.{List}
 use lib.ListN.{set}
 use lib.IntN.{_+ℤ_, pos, ℤ}
 use lib.Dec.{leb}
-use Rattle.laws.proofs.Lists.{Each}
+use Rattle.laws.specs.Facts.{Each}
 use Rattle.meaning.specs.Calls.{take-front}
 use Rattle.meaning.specs.Effects.{act-on, act-var, assign, enqueue, mark-entered, mark-left, perform, store-in, take-queue}
 use Rattle.meaning.specs.Machine.{exec-now, holds-it, plan-react, plan-settle, plan-step}

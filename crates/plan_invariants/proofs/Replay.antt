@@ -7,7 +7,7 @@ use mathlib.Core.List.{List, [], _∷_}
 use lib.IntN.{ℤ}
 use lib.Dec.{eqb}
 use borrow.Author.Tests.{eqb-true}
-use Rattle.invariants.proofs.Good.{Sized}
+use Rattle.invariants.specs.Good.{Sized}
 use Rattle.meaning.specs.Calls.{Outcome, outcome, refused}
 use Rattle.meaning.specs.Effects.{enqueue}
 use Rattle.meaning.specs.Foreign.{event-fits}

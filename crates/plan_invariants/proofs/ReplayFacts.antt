@@ -12,7 +12,7 @@ use lib.Dec.{eqb}
 use borrow.Author.Tests.{eqb-false, eqb-true}
 use Rattle.agreement.specs.PlanCalls.{machine-make}
 use Rattle.invariants.specs.CallLists.{to-post, to-run}
-use Rattle.invariants.proofs.Good.{Sized}
+use Rattle.invariants.specs.Good.{Sized}
 use Rattle.laws.proofs.Lists.{le-or-lt, or-right}
 use Rattle.meaning.specs.Calls.{Outcome, outcome, refused, take-front}
 use Rattle.meaning.specs.Effects.{enqueue, take-queue}

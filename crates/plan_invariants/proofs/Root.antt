@@ -13,8 +13,9 @@ use borrow.Author.Tests.{eqb-true}
 use Rattle.agreement.proofs.Calling.{plan-make}
 use Rattle.agreement.specs.PlanCalls.{machine-make}
 use Rattle.invariants.specs.CallLists.{Call, to-discard, to-post, to-run, to-start}
-use Rattle.invariants.proofs.Good.{Sized}
-use Rattle.laws.proofs.Lists.{Each, and-left, and-right, none-left, one-more}
+use Rattle.invariants.specs.Good.{Sized}
+use Rattle.laws.proofs.Lists.{and-left, and-right}
+use Rattle.laws.specs.Facts.{Each, none-left, one-more}
 use Rattle.meaning.specs.Calls.{fresh-by, outcome, refused, take-front}
 use Rattle.meaning.specs.Effects.{enqueue, mark-entered}
 use Rattle.meaning.specs.Foreign.{event-fits}

@@ -10,7 +10,8 @@ use lib.IntN.{pos, ℤ}
 use lib.Dec.{eqb}
 use borrow.Author.Tests.{eq-eqb}
 use Rattle.plan_invariants.specs.Names.{of-plan}
-use Rattle.laws.proofs.Lists.{Each, each-kept, each-weaker, none-left, one-more, or-left, or-right}
+use Rattle.laws.proofs.Lists.{each-kept, each-weaker, or-left, or-right}
+use Rattle.laws.specs.Facts.{Each, none-left, one-more}
 use Rattle.meaning.specs.Lists.{exists, keep}
 use Rattle.meaning.specs.Machine.{Mach, chosen-heads, end-code, exec, exec-at, exec-now, fire-head, go-on, head-block, head-enabled, on-if}
 use Rattle.meaning.specs.Machine.{passing, plan-settle, plan-settle-in, plan-step, run-block, run-code, spans-meet, thin-heads}

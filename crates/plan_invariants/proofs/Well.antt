@@ -11,7 +11,8 @@ use lib.IntN.{negsuc, pos, ℤ}
 use lib.Signed.{leZ}
 use lib.Dec.{leb}
 use borrow.Author.Tests.{eqb-true, leb-true}
-use Rattle.laws.proofs.Lists.{Each, and-left, and-right, each-joined, each-weaker, none-left, one-more}
+use Rattle.laws.proofs.Lists.{and-left, and-right, each-joined, each-weaker}
+use Rattle.laws.specs.Facts.{Each, none-left, one-more}
 use Rattle.laws.proofs.Value.{length-chunks, size-by-most}
 use Rattle.meaning.specs.Lists.{chunks, concat-map, every}
 use Rattle.meaning.specs.Plan.{Plan}

@@ -9,7 +9,8 @@ use lib.ListN.{drop, length, length-append}
 use lib.Seq.{drop-at}
 use lib.IntN.{pos, ℤ}
 use borrow.Author.Tests.{eq-eqb, le-leb, lt-ltb}
-use Rattle.laws.proofs.Lists.{Each, and-both, none-left, one-more}
+use Rattle.laws.proofs.Lists.{and-both}
+use Rattle.laws.specs.Facts.{Each, none-left, one-more}
 use Rattle.laws.proofs.Trace.{concat-map-joined}
 use Rattle.meaning.specs.Lists.{concat-map, every}
 use Rattle.meaning.specs.Plan.{Plan, act-numbers, guard-numbers, head-numbers, instr-numbers, plan-numbers, sign-number, six, slot-number}

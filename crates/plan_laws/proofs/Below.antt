@@ -3,8 +3,8 @@ use mathlib.Core.Path.{subst, sym}
 use Prim.Native.Nat.{_<_, _≤_, suc, zero, ℕ}
 use native.Mathlib.Omega.{arith}
 use lib.ListN.{length}
-use Rattle.laws.proofs.Descent.{Sound}
-use Rattle.laws.proofs.Lists.{Each, each-both, each-kept, each-mapped, each-range, each-weaker, none-left, one-more}
+use Rattle.laws.specs.Facts.{Each, Sound, none-left, one-more}
+use Rattle.laws.proofs.Lists.{each-both, each-kept, each-mapped, each-range, each-weaker}
 use Rattle.laws.proofs.Reach.{pass-states, reach}
 use Rattle.laws.proofs.Sound.{Sound-chart}
 use Rattle.laws.proofs.Ways.{descendants-range}

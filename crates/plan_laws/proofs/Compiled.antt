@@ -9,14 +9,15 @@ use mathlib.Core.Option.{Option, none, some}
 use lib.ListN.{getD, length, length-append, replicate}
 use lib.Dec.{ltb}
 use lib.IntN.{pos, ℤ}
-use Rattle.laws.proofs.Lists.{Each, none-left, one-more}
+use Rattle.laws.specs.Facts.{Each, none-left, one-more}
 use Rattle.laws.proofs.Sound.{Sound-chart, sound-chart}
 use Rattle.laws.proofs.Value.{Sized-chart, sized-chart, value-passes}
 use Rattle.meaning.specs.Chart.{Chart, no-var}
-use Rattle.meaning.specs.Compile.{Compiling, block, code-of, compile, compile-of, compiled-into, head-order, heads-from, not-compiled}
+use Rattle.meaning.specs.Compile.{block, code-of, compile, compile-of, compiled-into, head-order, heads-from}
 use Rattle.meaning.specs.Compile.{plan-lent, plan-of, start-block}
 use Rattle.meaning.specs.Lists.{concat-map, padded}
 use Rattle.meaning.specs.Rules.{failing-rule, failing-rule-of, row-fits}
+use Rattle.meaning.specs.Text.{Outcome, answer-of, done, refused}
 use Rattle.meaning.specs.Tree.{var-row}
 use Rattle.meaning.specs.Value.{chart-of}
 use Rattle.meaning.specs.WellFormed.{plan-by, well-formed}
@@ -100,33 +101,33 @@ module _ (v : List ℤ) (e : failing-rule-of v ≡ none) (rest : List ℤ) where
 module _ (v : List ℤ) (n : ℕ) where
   -- what holds of the plan's numbers, whatever follows them, holds of the slice
   pub lent : (P : List ℤ → Type 0) → (failing-rule-of v ≡ none → (rest : List ℤ) → P (compile (chart-of v) ++ rest))
-      → compile-of v n .number ≡ 0 → P (plan-lent n (compile-of v n))
-  unfolding compile-of compiled-into not-compiled plan-lent padded
+      → answer-of (compile-of v n) .number ≡ 0 → P (plan-lent n (compile-of v n))
+  unfolding compile-of compiled-into plan-lent padded
   lent P f = by-rule (failing-rule-of v) refl
     where
       plan : List ℤ
       plan = compile (chart-of v)
 
-      placed : Bool → Compiling
-      placed b = cond b (not-compiled 4 0) (record { number = 0; place = 0; plan = plan })
+      placed : Bool → Outcome (List ℤ)
+      placed b = cond b (refused 4 0) (done plan)
 
-      by-room : failing-rule-of v ≡ none → (b : Bool) → placed b .number ≡ 0 → P (plan-lent n (placed b))
+      by-room : failing-rule-of v ≡ none → (b : Bool) → answer-of (placed b) .number ≡ 0 → P (plan-lent n (placed b))
       by-room q true e = absurd (omega arith)
       by-room q false e = f q (replicate (n - length plan) (pos 0))
 
-      given : Option ℕ → Compiling
-      given o = elim o [ none ↦ compiled-into n plan | some r ↦ not-compiled 3 r ]
+      given : Option ℕ → Outcome (List ℤ)
+      given o = elim o [ none ↦ compiled-into n plan | some r ↦ refused 3 r ]
 
-      by-rule : (o : Option ℕ) → failing-rule-of v ≡ o → given o .number ≡ 0 → P (plan-lent n (given o))
+      by-rule : (o : Option ℕ) → failing-rule-of v ≡ o → answer-of (given o) .number ≡ 0 → P (plan-lent n (given o))
       by-rule none q e = by-room q (ltb n (length plan)) e
       by-rule (some r) q e = absurd (omega arith)
 
-  pub lent-read-back : compile-of v n .number ≡ 0 → plan-by (plan-lent n (compile-of v n)) ≡ plan-of (chart-of v)
+  pub lent-read-back : answer-of (compile-of v n) .number ≡ 0 → plan-by (plan-lent n (compile-of v n)) ≡ plan-of (chart-of v)
   lent-read-back = lent (λ ns. plan-by ns ≡ plan-of (chart-of v)) (value-read-back v)
 
-  pub lent-well-formed : compile-of v n .number ≡ 0 → well-formed (plan-lent n (compile-of v n)) ≡ true
+  pub lent-well-formed : answer-of (compile-of v n) .number ≡ 0 → well-formed (plan-lent n (compile-of v n)) ≡ true
   lent-well-formed = lent (λ ns. well-formed ns ≡ true) (value-well-formed v)
 
   -- and the chart passes the rules
-  pub lent-ruled : compile-of v n .number ≡ 0 → failing-rule-of v ≡ none
+  pub lent-ruled : answer-of (compile-of v n) .number ≡ 0 → failing-rule-of v ≡ none
   lent-ruled = lent (λ ns. failing-rule-of v ≡ none) (λ e rest. e)

@@ -11,7 +11,7 @@ use native.Mathlib.Nat.{le-trans, mul-le-mul-right}
 use native.Mathlib.Omega.{arith}
 use mathlib.Core.List.{_++_}
 use lib.ListN.{length, length-append}
-use Rattle.laws.proofs.Rules.{Target-facts}
+use Rattle.laws.specs.Facts.{Target-facts}
 use Rattle.laws.proofs.Scope.{scope-facts}
 use Rattle.laws.proofs.Sound.{Sound-chart}
 use Rattle.laws.proofs.Value.{Sized-chart}

@@ -8,11 +8,12 @@ use mathlib.Core.List.{List, [], _++_, _∷_}
 use lib.ListN.{length, length-append}
 use lib.Dec.{eqb}
 use borrow.Author.Tests.{eq-eqb, ne-eqb}
-use Rattle.laws.proofs.Descent.{Sound, picks}
+use Rattle.laws.proofs.Descent.{picks}
+use Rattle.laws.specs.Facts.{Sound, Under, child, deeper}
 use Rattle.laws.proofs.Preorder.{sub-kept, sub-run}
 use Rattle.laws.proofs.Reach.{pass-states, reach, reached}
 use Rattle.laws.proofs.Sound.{Sound-chart}
-use Rattle.laws.proofs.Tree.{Under, child, deeper, has-under, under-has, under-trans}
+use Rattle.laws.proofs.Tree.{has-under, under-has, under-trans}
 use Rattle.laws.proofs.Ways.{defaults-sound, owner-sound}
 use Rattle.meaning.specs.Chart.{Chart}
 use Rattle.meaning.specs.Compile.{arms, arms-of, default-arm, enter-code, start-block, stored-arm, towards-code, visit-code}

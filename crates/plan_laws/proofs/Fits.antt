@@ -6,7 +6,7 @@ use native.Mathlib.Omega.{arith}
 use mathlib.Core.Bool.{true}
 use mathlib.Core.List.{List, [], _++_, _∷_, map}
 use lib.ListN.{length, length-append}
-use Rattle.laws.proofs.Lists.{Each}
+use Rattle.laws.specs.Facts.{Each}
 use Rattle.laws.proofs.Value.{Row-in-range}
 use Rattle.meaning.specs.Lists.{concat-map}
 use Rattle.meaning.specs.Plan.{Plan}

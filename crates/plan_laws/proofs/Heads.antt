@@ -5,7 +5,7 @@ use Prim.Native.Nat.{_+_, _<_, suc, ℕ}
 use native.Mathlib.Omega.{arith}
 use mathlib.Core.List.{List, [], _++_, _∷_, map}
 use lib.ListN.{length, length-append}
-use Rattle.laws.proofs.Lists.{Each, none-left, one-more}
+use Rattle.laws.specs.Facts.{Each, none-left, one-more}
 use Rattle.laws.proofs.Rules.{Guard-facts}
 use Rattle.laws.proofs.Sound.{Sound-chart}
 use Rattle.laws.proofs.Value.{Guard-in-range, Sized-chart}

@@ -5,7 +5,7 @@ use Prim.Native.Nat.{_*_, _+_, _<_, _≤_, suc, zero, ℕ}
 use native.Mathlib.Omega.{arith}
 use mathlib.Core.List.{List, _∷_, reverse}
 use lib.ListN.{length, length-append, length-map}
-use Rattle.laws.proofs.Descent.{Sound}
+use Rattle.laws.specs.Facts.{Sound}
 use Rattle.laws.proofs.Reach.{pass-states, reach}
 use Rattle.meaning.specs.Chart.{Chart}
 use Rattle.meaning.specs.Compile.{code-acts, enter-code, exit-code, exits-code, held-code, past-if-out, stored-arm, stored-code, visit-code}

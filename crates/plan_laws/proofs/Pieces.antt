@@ -7,9 +7,9 @@ use mathlib.Core.Bool.{Bool, cond, false, true}
 use mathlib.Core.List.{List, [], _∷_, map}
 use lib.ListN.{length, length-append}
 use lib.Dec.{eqb}
-use Rattle.laws.proofs.Descent.{Sound}
-use Rattle.laws.proofs.Lists.{Each, each-both, each-reversed, each-weaker, none-left, one-more}
-use Rattle.laws.proofs.Rules.{Act-facts, Target-facts}
+use Rattle.laws.specs.Facts.{Each, Sound, Target-facts, none-left, one-more}
+use Rattle.laws.proofs.Lists.{each-both, each-reversed, each-weaker}
+use Rattle.laws.proofs.Rules.{Act-facts}
 use Rattle.laws.proofs.Scope.{scope-facts}
 use Rattle.laws.proofs.Sound.{Sound-chart, acts-each, acts-sound}
 use Rattle.laws.proofs.Value.{Act-in-range, Sized-chart}

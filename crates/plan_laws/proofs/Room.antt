@@ -12,9 +12,10 @@ use borrow.Author.Tests.{le-ltb}
 use Rattle.laws.proofs.Sound.{Sound-chart, sound-chart}
 use Rattle.laws.proofs.Value.{Sized-chart, sized-chart, value-passes}
 use Rattle.meaning.specs.Chart.{Chart}
-use Rattle.meaning.specs.Compile.{Compiling, compile, compile-of, compiled-into, not-compiled, plan-of}
+use Rattle.meaning.specs.Compile.{compile, compile-of, compiled-into, plan-of}
 use Rattle.meaning.specs.Plan.{Plan, plan-numbers}
 use Rattle.meaning.specs.Rules.{failing-rule-of}
+use Rattle.meaning.specs.Text.{Outcome, answer-of, done, refused}
 use Rattle.meaning.specs.Value.{VAR-ROW, chart-of}
 use Rattle.meaning.specs.WellFormed.{HEAD-ROW, INSTR-ROW, SIX, code-at, heads-at, plan-end}
 use Rattle.plan_laws.proofs.Accepted.{plan-long}
@@ -42,19 +43,19 @@ compiled-most c h z = plan-most (plan-of c) VARIABLES TRANSITIONS (lines-most ST
     (z .vars) (plan-sayable c h z .heads) (code-lines c h STATES TRANSITIONS ACTIONS (z .states) (z .transitions) (z .actions))
 
 -- with that room, a value that passes the rules is compiled
-pub room-suffices : (v : List ℤ) (n : ℕ) → failing-rule-of v ≡ none → ROOM ≤ n → compile-of v n .number ≡ 0
+pub room-suffices : (v : List ℤ) (n : ℕ) → failing-rule-of v ≡ none → ROOM ≤ n → answer-of (compile-of v n) .number ≡ 0
 unfolding compile-of compiled-into
 room-suffices v n e l = by-rule (failing-rule-of v) e
   where
     plan : List ℤ
     plan = compile (chart-of v)
 
-    given : Option ℕ → Compiling
-    given o = elim o [ none ↦ compiled-into n plan | some r ↦ not-compiled 3 r ]
+    given : Option ℕ → Outcome (List ℤ)
+    given o = elim o [ none ↦ compiled-into n plan | some r ↦ refused 3 r ]
 
     fits : length plan ≤ n
     fits = le-trans (compiled-most (chart-of v) (sound-chart (chart-of v) (value-passes v e .1)) (sized-chart v (value-passes v e .0))) l
 
-    by-rule : (o : Option ℕ) → o ≡ none → given o .number ≡ 0
+    by-rule : (o : Option ℕ) → o ≡ none → answer-of (given o) .number ≡ 0
     by-rule none q = rw (le-ltb n (length plan) fits)
     by-rule (some r) q = let z : _≡_ {A = ℕ} 0 1 = cc in absurd (omega arith)

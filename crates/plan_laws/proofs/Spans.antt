@@ -6,11 +6,11 @@ use native.Mathlib.Omega.{arith}
 use mathlib.Core.Bool.{false, false≢true}
 use mathlib.Core.List.{List, [], _∷_}
 use lib.ListN.{length}
-use Rattle.laws.proofs.Lists.{Each, every-kept, one-more}
-use Rattle.laws.proofs.Rules.{Target-facts}
+use Rattle.laws.proofs.Lists.{every-kept}
+use Rattle.laws.specs.Facts.{Each, Target-facts, Under, one-more}
 use Rattle.laws.proofs.Scope.{scope-facts}
 use Rattle.laws.proofs.Sound.{Sound-chart}
-use Rattle.laws.proofs.Tree.{Under, under-has}
+use Rattle.laws.proofs.Tree.{under-has}
 use Rattle.laws.proofs.Ways.{descendants-range}
 use Rattle.meaning.specs.Chart.{Chart}
 use Rattle.meaning.specs.Compile.{first-of, last-of}

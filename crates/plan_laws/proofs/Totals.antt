@@ -7,7 +7,8 @@ use native.Mathlib.Omega.{arith}
 use mathlib.Core.Bool.{Bool, cond, false, true, true≢false}
 use mathlib.Core.List.{List, [], _++_, _∷_, map, reverse, reverseAux}
 use lib.ListN.{length, length-append}
-use Rattle.laws.proofs.Lists.{Each, none-left, one-more, same-or}
+use Rattle.laws.proofs.Lists.{same-or}
+use Rattle.laws.specs.Facts.{Each, none-left, one-more}
 use Rattle.laws.proofs.Tree.{from-add}
 use Rattle.meaning.specs.Lists.{concat-map, from, keep}
 

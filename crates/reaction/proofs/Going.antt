@@ -19,7 +19,7 @@ use Rattle.tree_walks.proofs.Passing.{rules-passed}
 use Rattle.widget.specs.View.{Lent, Whole, ctx, went, Did}
 use Rattle.widget.specs.declared.Went.{Went}
 use Rattle.widget.proofs.Going.{said-ok}
-use Rattle.invariants.proofs.Good.{Good}
+use Rattle.invariants.specs.Good.{Good}
 use Rattle.invariants.proofs.Slots.{slot-child}
 use Rattle.reaction.specs.Ready.{Ready}
 use Rattle.ways.specs.Ways.{Led}

@@ -33,7 +33,8 @@ use Rattle.tree_walks.specs.Walks.{Ruled}
 use Rattle.tree_walks.proofs.Passing.{sound}
 use Rattle.widget.specs.View.{Lent, all-lent, ctx, tracing, went, Did}
 use Rattle.widget.specs.declared.Went.{Went}
-use Rattle.invariants.proofs.Good.{Good, Sized, set-queue-good}
+use Rattle.invariants.proofs.Good.{set-queue-good}
+use Rattle.invariants.specs.Good.{Good, Sized}
 use Rattle.invariants.proofs.GoodReaction.{step-good}
 use Rattle.invariants.proofs.Values.{removed-fits}
 use Rattle.invariants.proofs.Own.{own-whole}

@@ -12,13 +12,14 @@ use Rattle.meaning.specs.Chart.{Chart}
 use Rattle.meaning.specs.Reaction.{fire, chosen, step, if-any, settle-in, settle}
 use Rattle.meaning.specs.Value.{chart-of}
 use Rattle.meaning.specs.Widget.{Ctx}
-use Rattle.laws.proofs.Lists.{Each, each-weaker}
+use Rattle.laws.proofs.Lists.{each-weaker}
+use Rattle.laws.specs.Facts.{Each}
 use Rattle.laws.proofs.Stays.{each-stays}
 use Rattle.tree_walks.proofs.Passing.{sound}
 use Rattle.widget.specs.View.{Lent, ctx, tracing, said, went, Did, Owes}
 use Rattle.widget.specs.declared.Went.{Went}
 use Rattle.widget.proofs.Going as going
-use Rattle.invariants.proofs.Good.{Good}
+use Rattle.invariants.specs.Good.{Good}
 use Rattle.invariants.proofs.GoodReaction.{fire-good}
 use Rattle.invariants.proofs.Choosing.{chosen-enabled}
 use Rattle.choice.specs.Choice.{seen, picked, Chose}

@@ -32,7 +32,8 @@ use Rattle.tree_walks.specs.Walks.{Ruled}
 use Rattle.tree_walks.proofs.Passing.{sound}
 use Rattle.widget.specs.View.{Lent, all-lent, ctx, tracing, went, Did}
 use Rattle.widget.specs.declared.Went.{Went}
-use Rattle.invariants.proofs.Good.{Good, enter-good, visit-good}
+use Rattle.invariants.proofs.Good.{enter-good, visit-good}
+use Rattle.invariants.specs.Good.{Good}
 use Rattle.invariants.proofs.GoodReaction.{below-inside}
 use Rattle.invariants.proofs.Own.{fresh-good}
 use Rattle.reaction.specs.Ready.{Ready}

@@ -12,7 +12,7 @@ use Rattle.queue.specs.Numbers.{QUEUE-NUMBERS, queue-by}
 use Rattle.queue.specs.Queue.{no-item}
 use Rattle.queue.specs.declared.Item.{Item}
 use Rattle.queue.proofs.Numbers.{places-long}
-use Rattle.invariants.proofs.Good.{Sized}
+use Rattle.invariants.specs.Good.{Sized}
 use Rattle.invariants.proofs.Values.{fits-free}
 use Rattle.meaning.specs.Calls.{Outcome, refused as refusal}
 use Rattle.meaning.specs.Machine.{plan-post, plan-run}

@@ -10,7 +10,7 @@ use lib.IntN.{ℤ, pos}
 use Rattle.queue.specs.Numbers.{places}
 use Rattle.queue.specs.Queue.{item, no-item}
 use Rattle.queue.proofs.Numbers.{places-at}
-use Rattle.invariants.proofs.Good.{Sized}
+use Rattle.invariants.specs.Good.{Sized}
 use Rattle.meaning.specs.WellFormed.{plan-by, well-formed}
 use Rattle.meaning.specs.declared.State.{State}
 use Rattle.plan_invariants.specs.Replay.{replay-examined, replay-once}

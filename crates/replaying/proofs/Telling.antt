@@ -13,7 +13,7 @@ use Rattle.queue.specs.Queue.{appended, item, no-item}
 use Rattle.queue.specs.declared.Item.{Item}
 use Rattle.queue.specs.declared.Queue.{Queue}
 use Rattle.queue.proofs.Numbers.{held-lent, numbers-long}
-use Rattle.invariants.proofs.Good.{Sized}
+use Rattle.invariants.specs.Good.{Sized}
 use Rattle.invariants.proofs.Values.{fits-len}
 use Rattle.meaning.specs.Calls.{Outcome, outcome, refused}
 use Rattle.meaning.specs.Foreign.{event-fits}

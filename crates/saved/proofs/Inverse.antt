@@ -20,7 +20,7 @@ use Rattle.queue.proofs.Numbers.{held-lent, lent-held, flat-long}
 use Rattle.meaning.specs.declared.State.{State}
 use Rattle.meaning.specs.Lists.{every}
 use Rattle.laws.proofs.Lists.{and-left, and-right}
-use Rattle.invariants.proofs.Good.{Sized}
+use Rattle.invariants.specs.Good.{Sized}
 use Rattle.promises.specs.Saved.{MARKS, SLOTS-AT, VARS-AT, LENGTH-AT, mark, small, saved, part, is-mark, is-set}
 use Rattle.promises.specs.Saved.{states-widget, stated, widget-of, stored, moved-on}
 use Rattle.saved.proofs.Marks.{set-mark, set-marks, marks-fit, mark-fits, marks-set}

@@ -14,7 +14,7 @@ use Rattle.queue.specs.declared.Queue.{Queue}
 use Rattle.queue.specs.Numbers.{QUEUE-NUMBERS, item-numbers, told-length, numbers-of}
 use Rattle.queue.proofs.Numbers.{flat-long}
 use Rattle.meaning.specs.declared.State.{State}
-use Rattle.invariants.proofs.Good.{Sized}
+use Rattle.invariants.specs.Good.{Sized}
 use Rattle.promises.specs.Saved.{MARKS, SLOTS-AT, VARS-AT, LENGTH-AT, mark, small, saved, states-widget, stored, moved-on}
 use Rattle.saved.proofs.Pasted.{paste-more, on, paste-next}
 

@@ -8,7 +8,8 @@ use native.Mathlib.Omega.{arith}
 use native.Mathlib.Nat.{eq-or-lt-of-le}
 use lib.ListN.{length}
 use Rattle.laws.proofs.Preorder.{Run, sub-run, sub-kept, linear}
-use Rattle.laws.proofs.Tree.{Ordered, Under, child, deeper, has-under, under-has, under-lt}
+use Rattle.laws.proofs.Tree.{has-under, under-has, under-lt}
+use Rattle.laws.specs.Facts.{Ordered, Under, child, deeper}
 use Rattle.meaning.specs.Chart.{Chart}
 use Rattle.meaning.specs.Lists.{from, has}
 use Rattle.meaning.specs.Tree.{ancestors, descendants, parent-of}

@@ -9,7 +9,7 @@ use borrow.Author.Tests.{eq-eqb, ne-eqb}
 use lib.Dec.{eqb}
 use Rattle.numbers.specs.declared.Place.{Place}
 use Rattle.numbers.specs.declared.Place.the-variants.{Empty, At}
-use Rattle.laws.proofs.Tree.{Ordered}
+use Rattle.laws.specs.Facts.{Ordered}
 use Rattle.meaning.specs.Chart.{Chart}
 use Rattle.meaning.specs.Lists.{has, first-that}
 use Rattle.meaning.specs.Tree.{parent-of, kind-of, is-o, climb, ancestors, is-child, scope}

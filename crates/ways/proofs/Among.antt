@@ -11,7 +11,7 @@ use Rattle.sizes.specs.Sizes.{STATES}
 use Rattle.numbers.specs.Place.{placeOf}
 use Rattle.numbers.specs.declared.Place.{Place}
 use Rattle.numbers.specs.declared.Place.the-variants.{Empty as empty, At as holds}
-use Rattle.laws.proofs.Descent.{Sound}
+use Rattle.laws.specs.Facts.{Sound}
 use Rattle.laws.proofs.Lists.{is-false}
 use Rattle.laws.proofs.Sound.{Sound-chart, child-later}
 use Rattle.laws.proofs.Tree.{keep-cut}

@@ -8,10 +8,11 @@ use native.Mathlib.Omega.{arith}
 use mathlib.Core.Bool.{Bool, true, false, true≢false, cond}
 use mathlib.Core.List.{List, _∷_}
 use lib.ListN.{length}
-use Rattle.laws.proofs.Descent.{Sound, cong-from}
+use Rattle.laws.proofs.Descent.{cong-from}
+use Rattle.laws.specs.Facts.{Ordered, Sound, Under, child}
 use Rattle.laws.proofs.Lists.{is-false}
 use Rattle.laws.proofs.Sound.{child-later, child-parent, no-root-child}
-use Rattle.laws.proofs.Tree.{Ordered, Under, child, under-lt, under-trans, has-under, under-has}
+use Rattle.laws.proofs.Tree.{under-lt, under-trans, has-under, under-has}
 use Rattle.meaning.specs.Chart.{Chart}
 use Rattle.meaning.specs.declared.chart.Kind.{Kind}
 use Rattle.meaning.specs.declared.chart.Kind.the-variants.{A as kind-a, B as kind-b, O as kind-o}

@@ -5,7 +5,7 @@ use native.Mathlib.Omega.{arith}
 use lib.ListN.{length, length-map}
 use borrow.Author.Needs.{needs}
 use Rattle.numbers.proofs.Laws.{back32}
-use Rattle.invariants.proofs.Good.{Sized}
+use Rattle.invariants.specs.Good.{Sized}
 use Rattle.replaying.proofs.Events.{event-here, places-few}
 use Rattle.replaying.proofs.Telling.{broken-told, owned-lent}
 use Rattle.replaying.proofs.as_posted.Statement.{statement}

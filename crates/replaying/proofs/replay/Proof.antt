@@ -3,7 +3,7 @@ use mathlib.Core.Path.{_≡_, refl, sym, _∙_}
 use native.Mathlib.Omega.{arith}
 use lib.ListN.{length, length-map}
 use borrow.Author.Needs.{needs}
-use Rattle.invariants.proofs.Good.{Sized}
+use Rattle.invariants.specs.Good.{Sized}
 use Rattle.machine.proofs.Gates.{failed, passed}
 use Rattle.replaying.proofs.Events.{replay-5, replay-none}
 use Rattle.replaying.proofs.Telling.{told-as}

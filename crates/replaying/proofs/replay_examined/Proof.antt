@@ -4,7 +4,7 @@ use Prim.Native.Nat.{_/_}
 use lib.ListN.{length, length-map, take}
 use borrow.Author.Needs.{needs}
 use borrow.Author.Tests.{not-true, not-false}
-use Rattle.invariants.proofs.Good.{Sized}
+use Rattle.invariants.specs.Good.{Sized}
 use Rattle.meaning.specs.WellFormed.{plan-by}
 use Rattle.plan_invariants.specs.Replay.{replay-examined}
 use Rattle.promises.specs.Replay.{items-of}

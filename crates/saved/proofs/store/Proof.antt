@@ -4,7 +4,7 @@ use borrow.Author.Needs.{needs}
 use native.Mathlib.Omega.{arith}
 use lib.ListN.{length-map, length-set}
 use Rattle.numbers.proofs.Laws.{back32}
-use Rattle.invariants.proofs.Good.{Sized}
+use Rattle.invariants.specs.Good.{Sized}
 use Rattle.saved.proofs.Storing.{none-written, first-written, all-written}
 use Rattle.saved.proofs.store.Statement.{statement}
 use Rattle.saved.proofs.store.Tie as tie

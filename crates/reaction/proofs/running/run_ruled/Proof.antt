@@ -7,7 +7,7 @@ use mir.Facts.{toZ-ofZ}
 use mir.Syntax.{w32}
 use mir.Val.{SFits}
 use Rattle.numbers.specs.Reference.{ref}
-use Rattle.invariants.proofs.Good.{Sized}
+use Rattle.invariants.specs.Good.{Sized}
 use Rattle.ends.proofs.Ending.{ends-as}
 use Rattle.reaction.proofs.RunLaws.{run-7, run-6, run-8, run-ready, run-ends}
 use Rattle.reaction.proofs.running.run_ruled.Statement.{statement}
