@@ -9,6 +9,7 @@ use meaning::answers::QUEUE_EMPTY;
 use meaning::plan::Counts;
 use numbers::reference;
 use plan_choice::links::LINKS;
+use plan_choice::links::STARTS;
 use plan_choice::links::links_of;
 use plan_own::own;
 use plan_steps::settle;
@@ -66,7 +67,7 @@ pub fn react(
         return went;
     }
     // without a head of trigger 0 there is no null step
-    if k.heads <= links[TRANSITIONS] as usize {
+    if links[STARTS + 1] <= links[STARTS] {
         return went;
     }
     settle(

@@ -4,8 +4,6 @@ use native.Mathlib.Omega.{arith}
 use mir.Facts.{toZ-ofZ}
 use borrow.Author.Needs.{needs}
 use Rattle.meaning.specs.WellFormed.{plan-by}
-use Rattle.plan_choice.proofs.Facts.{counts-sized}
-use Rattle.plan_choice.proofs.Linking.{first-within}
 use Rattle.plan_steps.proofs.Settling.{settles-none}
 use Rattle.machine.proofs.Runs.{react-stop, react-on, react-once}
 use Rattle.machine.proofs.running.react.Statement.{statement}
@@ -53,10 +51,8 @@ returns c =
 element-copy-out-if2 : tie.Need-element-copy-out-if2
 element-copy-out-if2 c = omega (arith, start-from-else1 c .pre .3 .size)
 
-cast-if2 : tie.Need-cast-if2
-cast-if2 c =
-    let d = start-from-else1 (c .before) in
-    omega (arith, first-within (d .pre .0) (d .pre .3) 0 (omega arith), counts-sized (d .pre .0) .heads)
+element-copy-out-if2-2 : tie.Need-element-copy-out-if2-2
+element-copy-out-if2-2 c = omega (arith, start-from-else1 (c .before) .pre .3 .size)
 
 returns-2 : tie.Need-returns-2
 returns-2 c =
@@ -89,5 +85,5 @@ returns-3 c =
 
 pub react-spec : {M : Type 1} → statement M
 react-spec =
-    tie.close (tie.spec step-requires (λ c. search needs) returns element-copy-out-if2 cast-if2 (λ c. search needs)
+    tie.close (tie.spec step-requires (λ c. search needs) returns (λ c. omega arith) element-copy-out-if2 element-copy-out-if2-2 (λ c. search needs)
     returns-2 settle-requires (λ c. search needs) returns-3)
