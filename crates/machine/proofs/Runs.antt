@@ -32,22 +32,21 @@ use Rattle.plan_code.specs.Code.{Ran}
 use Rattle.ends.proofs.Ending.{Ends, ends-steps}
 use Rattle.machine.proofs.Gates.{owns, tests-7, tests-6, tests-on}
 
--- ---- one step, then null steps
+-- ---- a step, then null steps
 
-module _ (p : Plan) (e : ℕ) (a : ℤ) {before : Lent} {w : Went} {after : Lent} (d : Ran (plan-step p e a) before 0 w after) where
-  pub react-stop : (w .number ≡ 0 → ⊥) → Ran (plan-step p e a then plan-settle p) before 0 w after
-  react-stop z = record { did = going.then-stop _ (d .did) z; slotted = λ y. absurd (z y) }
+module _ (p : Plan) (s : Step Ctx) (before : Lent) {w : Went} {after : Lent} (d : Ran s before 0 w after) where
+  pub settled-stop : (w .number ≡ 0 → ⊥) → Ran (s then plan-settle p) before 0 w after
+  settled-stop z = record { did = going.then-stop _ (d .did) z; slotted = λ y. absurd (z y) }
 
-  pub react-on : w .number ≡ 0 → {r : Went} {after₂ : Lent} → Ran (plan-settle p) after (w .at) r after₂
-      → Ran (plan-step p e a then plan-settle p) before 0 r after₂
-  react-on z g = record { did = going.then-on (d .did) z (g .did); slotted = λ y. g .slotted y ∙ d .slotted z }
+  pub settled-on : w .number ≡ 0 → {r : Went} {after₂ : Lent} → Ran (plan-settle p) after (w .at) r after₂
+      → Ran (s then plan-settle p) before 0 r after₂
+  settled-on z g = record { did = going.then-on (d .did) z (g .did); slotted = λ y. g .slotted y ∙ d .slotted z }
 
   -- no head has trigger 0
-  pub react-once : w .number ≡ 0 → Ran (plan-settle p) after (w .at) (record { number = 0; at = w .at }) after
-      → Ran (plan-step p e a then plan-settle p) before 0 w after
-  react-once z g =
-      subst (λ r. Ran (plan-step p e a then plan-settle p) before 0 r after) (ap (λ n. record { number = n; at = w .at }) (sym z))
-      (react-on z g)
+  pub settled-once : w .number ≡ 0 → Ran (plan-settle p) after (w .at) (record { number = 0; at = w .at }) after
+      → Ran (s then plan-settle p) before 0 w after
+  settled-once z g =
+      subst (λ r. Ran (s then plan-settle p) before 0 r after) (ap (λ n. record { number = n; at = w .at }) (sym z)) (settled-on z g)
 
 -- ---- the tests in turn
 

@@ -9,6 +9,7 @@ use meaning::answers::QUEUE_EMPTY;
 use meaning::plan::Counts;
 use numbers::reference;
 use plan_choice::links::LINKS;
+use plan_choice::links::STARTS;
 use plan_choice::links::links_of;
 use plan_own::own;
 use plan_steps::settle;
@@ -20,24 +21,25 @@ use sizes::TRANSITIONS;
 use sizes::VARIABLES;
 use widget::Went;
 ghost use mathlib.Core.Path.{_≡_};
+ghost use Prim.Native.Nat.{_≤_};
 ghost use lib.ListN.{length};
 ghost use Rattle.sizes.specs.Sizes.{TRANSITIONS as transitions};
-ghost use Rattle.meaning.specs.Steps.{_then_};
+ghost use Rattle.meaning.specs.Steps.{Step, _then_};
 ghost use Rattle.meaning.specs.Calls.{called, lent};
-ghost use Rattle.meaning.specs.Machine.{plan-step, plan-settle, plan-run};
+ghost use Rattle.meaning.specs.Machine.{plan-settle, plan-run};
 ghost use Rattle.meaning.specs.WellFormed.{plan-by};
-ghost use Rattle.widget.specs.View.{all-lent};
+ghost use Rattle.meaning.specs.Widget.{Ctx};
+ghost use Rattle.widget.specs.View.{Lent, all-lent};
 ghost use Rattle.plan_choice.specs.Heads.{Examined};
 ghost use Rattle.plan_choice.specs.Links.{Linked};
 ghost use Rattle.plan_code.specs.Code.{Slotted, Ran};
 
-// One step with the event, then null steps.
-pub fn react(
+// "Then null steps follow": after a step that went so. A step that was refused ends the reaction.
+pub fn settled(
     plan: &[i32],
     k: Counts,
     links: &[u8; LINKS],
-    event: usize,
-    arg: i32,
+    went: Went,
     picks: &mut [usize; TRANSITIONS],
     active: &mut [bool; STATES],
     slots: &mut [i32; STATES],
@@ -45,28 +47,14 @@ pub fn react(
     queue: &mut [i32; QUEUE_NUMBERS],
     trace: &mut [i32],
 ) -> Went
-    requires { ⌜ Examined (now plan) k × (length (now picks) ≡ transitions) × Slotted (now slots) × Linked (now plan) k (now links) ⌝ }
-    ensures { λ r. ⌜ Ran (plan-step (plan-by (now (plan .entry))) event arg then plan-settle (plan-by (now (plan .entry)))) (all-lent (now (active .entry)) (now (slots .entry)) (now (vars .entry)) (now (queue .entry)) (now (trace .entry))) 0 r (all-lent (now (active .exit)) (now (slots .exit)) (now (vars .exit)) (now (queue .exit)) (now (trace .exit))) × (length (now (picks .exit)) ≡ transitions) ⌝ }
+    requires { ⌜ Examined (now plan) k × (length (now picks) ≡ transitions) × (went .number ≡ 0 → Slotted (now slots)) × (went .at ≤ length (now trace)) × Linked (now plan) k (now links) ⌝ }
+    ensures { λ r. ⌜ ((s : Step Ctx) (before : Lent) → Ran s before 0 went (all-lent (now (active .entry)) (now (slots .entry)) (now (vars .entry)) (now (queue .entry)) (now (trace .entry))) → Ran (s then plan-settle (plan-by (now (plan .entry)))) before 0 r (all-lent (now (active .exit)) (now (slots .exit)) (now (vars .exit)) (now (queue .exit)) (now (trace .exit)))) × (length (now (picks .exit)) ≡ transitions) ⌝ }
 {
-    let went = step(
-        plan,
-        k,
-        links,
-        event,
-        arg,
-        picks,
-        active,
-        slots,
-        vars,
-        queue,
-        trace,
-        0,
-    );
     if went.number != 0 {
         return went;
     }
     // without a head of trigger 0 there is no null step
-    if k.heads <= links[TRANSITIONS] as usize {
+    if links[STARTS + 1] <= links[STARTS] {
         return went;
     }
     settle(
@@ -108,12 +96,25 @@ pub fn run_examined(plan: &[i32], k: Counts, state: State, trace: &mut [i32]) ->
     let mut waiting = lend(left);
     let mut picks: [usize; TRANSITIONS] = [0; TRANSITIONS];
     let links = links_of(plan, k);
-    let went = react(
+    let first = step(
         plan,
         k,
         &links,
         event,
         front.arg,
+        &mut picks,
+        &mut active,
+        &mut slots,
+        &mut vars,
+        &mut waiting,
+        trace,
+        0,
+    );
+    let went = settled(
+        plan,
+        k,
+        &links,
+        first,
         &mut picks,
         &mut active,
         &mut slots,

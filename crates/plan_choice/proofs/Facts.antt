@@ -128,8 +128,11 @@ module _ {ns : List ℤ} {k : Counts} (x : Examined ns k) (h : ℕ) (l : h < k .
   pub head-spanned : Spanned (head-of ns (heads-at k) h)
   head-spanned = (omega (arith, kept .first, counts-sized x .states), omega (arith, kept .last, counts-sized x .states))
 
+  pub head-event : head-of ns (heads-at k) h .trigger ≤ k .events
+  head-event = kept .trigger
+
   pub head-trigger : head-of ns (heads-at k) h .trigger ≤ EVENTS
-  head-trigger = omega (arith, kept .trigger, counts-sized x .events)
+  head-trigger = omega (arith, head-event, counts-sized x .events)
 
   -- it is the head of this number of the plan
   pub head-is : (d : Head) → getD (plan-by ns .heads) h d ≡ head-of ns (heads-at k) h

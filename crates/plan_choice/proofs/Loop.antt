@@ -1,6 +1,6 @@
 -- The chooser's loop over the heads, turn by turn, over plain variables. Assumes nothing.
 use mathlib.Core.Path.{_≡_, refl, sym, ap, _∙_, subst}
-use Prim.Native.Nat.{ℕ, _+_, _*_, _≤_, _<_}
+use Prim.Native.Nat.{ℕ, suc, _+_, _*_, _≤_, _<_}
 use native.Mathlib.Omega.{arith}
 use mathlib.Core.Bool.{Bool, true, false}
 use mathlib.Core.List.{List, [], _∷_, _++_, map}
@@ -20,8 +20,10 @@ use Rattle.meaning.specs.WellFormed.{HEAD-ROW, counts-of, heads-at, plan-by}
 use Rattle.plan_rows.specs.Rows.{Sized}
 use Rattle.choice.specs.Choice.{seen}
 use Rattle.plan_choice.specs.Heads.{Examined, head-of, picked, Picks, Chose}
-use Rattle.plan_choice.specs.Links.{head-from, Linked}
+use Rattle.plan_choice.specs.Links.{head-from, heads-below, SOURCES, STARTS, listed, Linked}
 use Rattle.plan_choice.proofs.Linking.{from-on, from-most, from-own, keep-from}
+use Rattle.plan_choice.proofs.Lining.{below-up, listed-in, listed-past}
+use Rattle.plan_choice.proofs.Filling.{place-few, place-names, place-source}
 use Rattle.plan_choice.proofs.Facts.{counts-sized, heads-long, head-is, head-trigger}
 use Rattle.plan_choice.proofs.Thin.{gone-after, gone-hit, gone-none, with-rest, rest-off}
 use Rattle.plan_choice.proofs.Thin.{rest-clash, rest-take, rest-end, picked-more, named-more}
@@ -148,36 +150,95 @@ module _ {ns : List ℤ} {k : Counts} (x : Examined ns k) {base e : ℕ} (b : ba
       all : List Head
       all = plan-by ns .heads
 
-  pub walk-begin : {links picks : List ℕ} → Linked ns k links → e ≤ EVENTS → length picks ≡ TRANSITIONS
-      → Walking ns base (k .heads) e u (getD links (TRANSITIONS + e) 0) picks 0
-  walk-begin v l n = walk-on (choosing-begin n) (omega arith) (v .first e l)
-
   -- one head; the index has the one after it
   module _ {next : ℕ} {picks : List ℕ} {count : ℕ} (w : Walking ns base (k .heads) e u next picks count) (l : next < k .heads)
-      {links : List ℕ} (v : Linked ns k links) where
-    follows : getD links next 0 ≡ head-from (plan-by ns .heads) e (next + 1)
-    follows = v .next next l ∙ ap (λ t. head-from (plan-by ns .heads) t (next + 1))
-        (ap (λ a. head-of ns a next .trigger) (sym b) ∙ w .own l)
-
-    pub walk-later : next < getD links next 0
-    walk-later = omega (arith, follows, from-on e (plan-by ns .heads) (next + 1))
-
+      {after : ℕ} (follows : after ≡ head-from (plan-by ns .heads) e (next + 1)) where
     -- the answer r of the test in a step of the head's own trigger
     module _ {r : Bool} (a : r ≡ head-enabled (head-of ns base next .trigger) u (head-of ns base next)) where
       its-own : head-enabled e u (head-of ns base next) ≡ r
       its-own = ap (λ t. head-enabled t u (head-of ns base next)) (sym (w .own l)) ∙ sym a
 
-      pub walk-off : r ≡ false → Walking ns base (k .heads) e u (getD links next 0) picks count
+      pub walk-off : r ≡ false → Walking ns base (k .heads) e u after picks count
       walk-off q = walk-on (choosing-off x b (w .done) l (its-own ∙ q)) (omega (arith, l)) follows
 
       module _ (q : r ≡ true) where
         pub walk-clash : (j : ℕ) → j < count → spans-meet (head-of ns base next) (head-of ns base (getD picks j 0)) ≡ true
-            → Walking ns base (k .heads) e u (getD links next 0) picks count
+            → Walking ns base (k .heads) e u after picks count
         walk-clash j g m = walk-on (choosing-clash x b (w .done) l (its-own ∙ q) j g m) (omega (arith, l)) follows
 
         pub walk-take : ((j : ℕ) → j < count → spans-meet (head-of ns base next) (head-of ns base (getD picks j 0)) ≡ false)
-            → Walking ns base (k .heads) e u (getD links next 0) (set picks count next) (count + 1)
+            → Walking ns base (k .heads) e u after (set picks count next) (count + 1)
         walk-take m = walk-on (choosing-take x b (w .done) l (its-own ∙ q) m) (omega (arith, l)) follows
+
+-- ---- along the places of one trigger
+
+-- the place under way, the end of the trigger's places, and the head that comes next
+pub record Turning (ns : List ℤ) (k : Counts) (base e : ℕ) (u : State) (links : List ℕ) (end i : ℕ) (picks : List ℕ) (count : ℕ) : Type 0 where
+  pub low : heads-below e (plan-by ns .heads) ≤ i
+  pub high : i ≤ end
+  pub ends : end ≡ heads-below (suc e) (plan-by ns .heads)
+  pub walk : Walking ns base (k .heads) e u (listed links end (k .heads) i) picks count
+
+module _ {ns : List ℤ} {k : Counts} (x : Examined ns k) {base e : ℕ} (b : base ≡ heads-at k) {u : State} {links : List ℕ}
+    (v : Linked ns k links) (g : e ≤ EVENTS) where
+  pub turn-begin : {picks : List ℕ} → length picks ≡ TRANSITIONS
+      → Turning ns k base e u links (getD links (STARTS + e + 1) 0) (getD links (STARTS + e) 0) picks 0
+  turn-begin {picks} n = record {
+    low = omega (arith, v .starts e (omega arith));
+    high = omega (arith, v .starts e (omega arith), ends, below-up (plan-by ns .heads) e (suc e) (omega arith));
+    ends = ends;
+    walk = walk-on x b (choosing-begin n) (omega arith)
+        (ap (λ y. listed links y (k .heads) (getD links (STARTS + e) 0)) ends
+        ∙ ap (listed links (heads-below (suc e) (plan-by ns .heads)) (k .heads)) (v .starts e (omega arith))
+        ∙ v .lists e g .first);
+  }
+    where
+      ends : getD links (STARTS + e + 1) 0 ≡ heads-below (suc e) (plan-by ns .heads)
+      ends = let z : STARTS + e + 1 ≡ STARTS + suc e = omega arith in ap (λ y. getD links y 0) z ∙ v .starts (suc e) (omega arith)
+
+  module _ {end i : ℕ} {picks : List ℕ} {count : ℕ} (w : Turning ns k base e u links end i picks count) where
+    module _ (l : i < end) where
+      inside : i < heads-below (suc e) (plan-by ns .heads)
+      inside = omega (arith, l, w .ends)
+
+      pub turn-few : i < TRANSITIONS
+      turn-few = place-few x v e g i (w .low) inside
+
+      pub turn-names : getD links i 0 < k .heads
+      turn-names = place-names x v e g i (w .low) inside
+
+      pub turn-source : getD links (SOURCES + i) 0 ≡ head-of ns (heads-at k) (getD links i 0) .source
+      turn-source = place-source x v e g i (w .low) inside
+
+      pub turn-head : Walking ns base (k .heads) e u (getD links i 0) picks count
+      turn-head = subst (λ y. Walking ns base (k .heads) e u y picks count) (listed-in links end (k .heads) i l) (w .walk)
+
+      follows : listed links end (k .heads) (i + 1) ≡ head-from (plan-by ns .heads) e (getD links i 0 + 1)
+      follows = ap (λ y. listed links y (k .heads) (i + 1)) (w .ends) ∙ v .lists e g .next i (w .low) inside
+
+      turned : {ps : List ℕ} {n : ℕ} → Walking ns base (k .heads) e u (listed links end (k .heads) (i + 1)) ps n
+          → Turning ns k base e u links end (i + 1) ps n
+      turned y = record { low = omega (arith, w .low); high = omega (arith, l); ends = w .ends; walk = y }
+
+      module _ {r : Bool} (a : r ≡ head-enabled (head-of ns base (getD links i 0) .trigger) u (head-of ns base (getD links i 0))) where
+        pub turn-off : r ≡ false → Turning ns k base e u links end (i + 1) picks count
+        turn-off q = turned (walk-off x b turn-head turn-names follows a q)
+
+        module _ (q : r ≡ true) where
+          pub turn-clash : (j : ℕ) → j < count
+              → spans-meet (head-of ns base (getD links i 0)) (head-of ns base (getD picks j 0)) ≡ true
+              → Turning ns k base e u links end (i + 1) picks count
+          turn-clash j h m = turned (walk-clash x b turn-head turn-names follows a q j h m)
+
+          pub turn-take : ((j : ℕ) → j < count
+              → spans-meet (head-of ns base (getD links i 0)) (head-of ns base (getD picks j 0)) ≡ false)
+              → Turning ns k base e u links end (i + 1) (set picks count (getD links i 0)) (count + 1)
+          turn-take m = turned (walk-take x b turn-head turn-names follows a q m)
+
+    pub turn-end : end ≤ i → {active : List Bool} {vars : List ℤ} → seen active vars ≡ u → Chose ns k e active vars count picks
+    turn-end l q =
+        let past = listed-past links end (k .heads) i l in
+        choosing-end x b (w .walk .done) (omega (arith, past)) (w .walk .within) q
 
 -- ---- nothing is chosen
 
@@ -196,3 +257,10 @@ module _ {ns : List ℤ} {k : Counts} (x : Examined ns k) {e : ℕ} {picks : Lis
     where
       has : head-from (plan-by ns .heads) e 0 < k .heads → Chose ns k e active vars 0 picks
       has l = absurd (omega (arith, g, walked .own l, head-trigger x (head-from (plan-by ns .heads) e 0) l))
+
+  -- the index shows that none has it
+  pub chose-empty : {links : List ℕ} → Linked ns k links → e ≤ EVENTS → getD links (STARTS + suc e) 0 ≤ getD links (STARTS + e) 0
+      → Chose ns k e active vars 0 picks
+  chose-empty {links} v g l =
+      turn-end x refl v g (turn-begin x refl v g n)
+      (let z : STARTS + e + 1 ≡ STARTS + suc e = omega arith in subst (λ y. getD links y 0 ≤ getD links (STARTS + e) 0) (sym z) l) refl

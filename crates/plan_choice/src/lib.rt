@@ -5,11 +5,12 @@ pub mod links;
 
 use choice::guard_true;
 use links::LINKS;
+use links::SOURCES;
+use links::STARTS;
 use meaning::plan::Counts;
 use plan_rows::guard_at;
 use plan_rows::heads_at;
 use plan_rows::layout::HEAD_ROW;
-use plan_rows::layout::SOURCE;
 use plan_rows::layout::SPAN_FIRST;
 use plan_rows::layout::SPAN_LAST;
 use plan_rows::read;
@@ -37,13 +38,18 @@ pub fn known(plan: &[i32], i: usize) -> usize
     read(plan, i) as usize
 }
 
-// Source active, guard true of the values: of the head whose row begins at this place, in a step of its trigger. What does not
-// match is passed over before anything else is read.
-fn enabled(plan: &[i32], at: usize, active: &[bool; STATES], vars: &[i32; VARIABLES]) -> bool
-    requires { ⌜ (at + HEAD-ROW ≤ length (now plan)) × (head-at (now plan) at .source < states) × Reads (head-at (now plan) at .guard) ⌝ }
+// Source active, guard true of the values: of the head whose row begins at this place and whose source is known, in a step of its
+// trigger. What does not match is passed over before anything of its row is read.
+fn enabled(
+    plan: &[i32],
+    at: usize,
+    source: usize,
+    active: &[bool; STATES],
+    vars: &[i32; VARIABLES],
+) -> bool
+    requires { ⌜ (at + HEAD-ROW ≤ length (now plan)) × (source < states) × Reads (head-at (now plan) at .guard) × (source ≡ head-at (now plan) at .source) ⌝ }
     ensures { λ r. ⌜ r ≡ head-enabled (head-at (now (plan .entry)) at .trigger) (seen (now (active .entry)) (now (vars .entry))) (head-at (now (plan .entry)) at) ⌝ }
 {
-    let source = known(plan, at + SOURCE);
     if !active[source] {
         return false;
     }
@@ -79,14 +85,15 @@ pub fn choose(
         return 0;
     }
     let base = heads_at(k);
-    let n = k.heads;
     let mut count: usize = 0;
-    let mut next = links[TRANSITIONS + event] as usize;
-    'heads: while next < n {
-        let h = next;
+    let mut i = links[STARTS + event] as usize;
+    let end = links[STARTS + event + 1] as usize;
+    'heads: while i < end {
+        let h = links[i] as usize;
+        let source = links[SOURCES + i] as usize;
         let at = base + h * HEAD_ROW;
-        next = links[h] as usize;
-        if !enabled(plan, at, active, vars) {
+        i += 1;
+        if !enabled(plan, at, source, active, vars) {
             continue;
         }
         for j in 0..count {

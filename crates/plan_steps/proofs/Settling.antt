@@ -23,8 +23,8 @@ use Rattle.widget.proofs.Going as going
 use Rattle.choice.specs.Choice.{seen}
 use Rattle.choice.proofs.Seen.{guard-seen}
 use Rattle.plan_choice.specs.Heads.{Examined, picked, Picks, Chose}
-use Rattle.plan_choice.specs.Links.{Linked}
-use Rattle.plan_choice.proofs.Loop.{chose-none}
+use Rattle.plan_choice.specs.Links.{STARTS, Linked}
+use Rattle.plan_choice.proofs.Loop.{chose-empty}
 use Rattle.plan_code.specs.Code.{Ran}
 use Rattle.plan_steps.proofs.Firing.{fires-long}
 
@@ -176,10 +176,9 @@ module _ {ns : List ℤ} {k : Counts} {before : Lent} {at turns : ℕ} {a : List
 
 -- no head has trigger 0: there is no null step
 pub settles-none : {ns : List ℤ} {k : Counts} {links : List ℕ} → Examined ns k → Linked ns k links
-    → k .heads ≤ getD links TRANSITIONS 0 → {a : List Bool} {sl vs q t : List ℤ} {at : ℕ} → at ≤ length t
+    → getD links (STARTS + 1) 0 ≤ getD links STARTS 0 → {a : List Bool} {sl vs q t : List ℤ} {at : ℕ} → at ≤ length t
     → Ran (plan-settle (plan-by ns)) (record { active = a; slots = sl; vars = vs; queue = q; trace = t }) at
     (record { number = 0; at = at }) (record { active = a; slots = sl; vars = vs; queue = q; trace = t })
 settles-none x v l g =
     settling-end (settling-begin g) {count = 0} {picks = replicate TRANSITIONS 0}
-    (chose-none x {picks = replicate TRANSITIONS 0} (length-replicate {A = ℕ} TRANSITIONS 0)
-    (omega (arith, v .first 0 (omega arith), l))) refl
+    (chose-empty x {picks = replicate TRANSITIONS 0} (length-replicate {A = ℕ} TRANSITIONS 0) v (omega arith) l) refl

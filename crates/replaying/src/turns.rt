@@ -1,12 +1,13 @@
 // One event of a replay (promises/specs/Replay) over what is lent: posted, and run at once. Of 7 and 6 only the root's mark is
 // tested here; the rest was tested before the first event and holds after every run.
-use machine::running::react;
+use machine::running::settled;
 use meaning::answers::FOREIGN;
 use meaning::answers::NO_SUCH_EVENT;
 use meaning::answers::QUEUE_FULL;
 use meaning::plan::Counts;
 use numbers::reference;
 use plan_choice::links::LINKS;
+use plan_steps::step;
 use queue::Item;
 use queue::lent::QUEUE_NUMBERS;
 use queue::lent::held;
@@ -130,12 +131,25 @@ pub fn post_and_run(
     }
     let front = passed.front;
     let trigger = reference(front.event);
-    let went = react(
+    let first = step(
         plan,
         k,
         links,
         trigger,
         front.arg,
+        picks,
+        active,
+        slots,
+        vars,
+        queue,
+        trace,
+        0,
+    );
+    let went = settled(
+        plan,
+        k,
+        links,
+        first,
         picks,
         active,
         slots,

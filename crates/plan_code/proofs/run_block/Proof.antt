@@ -27,7 +27,7 @@ abbrev μ-loop : tie.MeasureT-loop
 μ-loop plan start len arg active₀ slots₀ vars₀ queue₀ trace₀ at base end row₀ next₀ active slots vars queue trace row next = end - row
 
 abbrev at-start : tie.In-loop Inv-loop μ-loop → tie.Start Inv-loop μ-loop
-at-start c = c .before .before .before
+at-start c = c .before .before .before .before .before
 
 -- from an instruction that was run, back to the turn of the loop
 abbrev in-loop : tie.After-exec Inv-loop μ-loop → tie.In-loop Inv-loop μ-loop
@@ -41,6 +41,9 @@ code-at-requires c κs = counts-sized (c .pre .0 .examined)
 abbrev At-code : Type 0
 At-code = tie.After-code-at Inv-loop μ-loop
 
+abbrev at-code : tie.In-loop Inv-loop μ-loop → At-code
+at-code c = c .before .before .before .before
+
 ends : (c : At-code) → Fits w64 (c .code-at .result + (c .before .args .start + c .before .args .len) * INSTR-ROW)
 ends c = omega (arith, block-near (c .before .pre .0) (c .code-at .ensures))
 
@@ -53,14 +56,36 @@ mul-end c = omega (arith, ends c)
 add-end-2 : tie.Need-add-end-2 Inv-loop μ-loop
 add-end-2 c = omega (arith, ends c)
 
-mul-row : tie.Need-mul-row Inv-loop μ-loop
-mul-row c = omega (arith, ends c)
+mul-pass-skips : tie.Need-mul-pass-skips Inv-loop μ-loop
+mul-pass-skips c = omega (arith, ends c)
 
-add-row : tie.Need-add-row Inv-loop μ-loop
-add-row c = omega (arith, ends c)
+add-pass-skips : tie.Need-add-pass-skips Inv-loop μ-loop
+add-pass-skips c = omega (arith, ends c)
+
+-- where the rows of the plan begin
+begins : (c : At-code) → c .code-at .result ≡ code-at (counts-of (c .before .args .plan .now))
+begins c = c .code-at .ensures ∙ ap code-at (c .before .pre .0 .examined .counted)
+
+pass-skips-requires : tie.Need-pass-skips-requires Inv-loop μ-loop
+pass-skips-requires c κs =
+    let s = c .before .before in
+    let b = begins (c .before) in
+    record {
+      k = s .args .k;
+      start = s .args .start;
+      len = s .args .len;
+      i = s .args .start;
+      block = s .pre .0;
+      onward = omega arith;
+      here = omega (arith, b);
+      there = omega (arith, b);
+    }
 
 loop-holds : tie.Need-loop-holds Inv-loop μ-loop
-loop-holds c = record { i = c .before .args .start; here = refl; walking = walking-begin (c .before .pre .2) }
+loop-holds c =
+    let s = c .before .before .before in
+    standing-past (record { i = s .args .start; here = refl; walking = walking-begin (s .pre .2) }) refl
+    (begins (c .before .before)) (c .pass-skips .ensures)
 
 -- ---- a turn
 
@@ -72,18 +97,18 @@ module _ (c : tie.In-loop Inv-loop μ-loop) where
   within = omega (arith, c .before .loop .inv .here, c .loop-test .taken)
 
   its-code : c .before .loop .inv .i < length (plan-by ns .code)
-  its-code = in-code (at-start c .pre .0) (c .before .before .code-at .ensures) _ (c .before .loop .inv .walking .onward) within
+  its-code = in-code (at-start c .pre .0) (at-code c .code-at .ensures) _ (c .before .loop .inv .walking .onward) within
 
   its-instr : getD (plan-by ns .code) (c .before .loop .inv .i) (instr-from ns (c .before .loop .row))
       ≡ instr-from ns (c .before .loop .row)
   its-instr =
-      instr-is (at-start c .pre .0) (c .before .before .code-at .ensures) _ (c .before .loop .inv .walking .onward) within
+      instr-is (at-start c .pre .0) (at-code c .code-at .ensures) _ (c .before .loop .inv .walking .onward) within
       (ap (instr-from ns) (c .before .loop .inv .here))
 
   its-row : Row ns (c .before .loop .row)
   its-row =
       let b = at-start c .pre .0 in
-      let p = c .before .before .code-at .ensures in
+      let p = at-code c .code-at .ensures in
       let w = c .before .loop .inv .walking .onward in
       record {
         formed = b .examined .formed;
@@ -110,16 +135,16 @@ returns c =
 further : (e : tie.After-exec Inv-loop μ-loop) → Fits w64 (in-loop e .before .loop .row + (1 + e .exec .result .over) * INSTR-ROW)
 further e =
     let i = in-loop e in
-    omega (arith, block-near (at-start i .pre .0) (i .before .before .code-at .ensures), i .loop-test .taken, e .exec .ensures .near)
+    omega (arith, block-near (at-start i .pre .0) (at-code i .code-at .ensures), i .loop-test .taken, e .exec .ensures .near)
+
+add-row : tie.Need-add-row Inv-loop μ-loop
+add-row c = omega (arith, further (c .before .before .before .before))
+
+mul-row : tie.Need-mul-row Inv-loop μ-loop
+mul-row c = omega (arith, further (c .before .before .before .before))
 
 add-row-2 : tie.Need-add-row-2 Inv-loop μ-loop
 add-row-2 c = omega (arith, further (c .before .before .before .before))
-
-mul-row-2 : tie.Need-mul-row-2 Inv-loop μ-loop
-mul-row-2 c = omega (arith, further (c .before .before .before .before))
-
-add-row-3 : tie.Need-add-row-3 Inv-loop μ-loop
-add-row-3 c = omega (arith, further (c .before .before .before .before))
 
 -- ---- the next turn, with or without SKIPOUTs passed over
 
@@ -127,15 +152,11 @@ add-row-3 c = omega (arith, further (c .before .before .before .before))
 abbrev ran : tie.After-struct-known3 Inv-loop μ-loop → tie.After-exec Inv-loop μ-loop
 ran c = c .before .before .before .before .before
 
--- where the rows of the plan begin
-begins : (c : At-code) → c .code-at .result ≡ code-at (counts-of (c .before .args .plan .now))
-begins c = c .code-at .ensures ∙ ap code-at (c .before .pre .0 .examined .counted)
-
-pass-skips-requires : tie.Need-pass-skips-requires Inv-loop μ-loop
-pass-skips-requires c κs =
+pass-skips-requires-2 : tie.Need-pass-skips-requires-2 Inv-loop μ-loop
+pass-skips-requires-2 c κs =
     let e = ran (c .before .before) in
     let i = in-loop e in
-    let b = begins (i .before .before) in
+    let b = begins (at-code i) in
     record {
       k = at-start i .args .k;
       start = at-start i .args .start;
@@ -148,7 +169,7 @@ pass-skips-requires c κs =
     }
 
 loop-less : tie.Need-loop-less Inv-loop μ-loop
-loop-less c = omega (arith, in-loop (ran (c .before .before .before)) .loop-test .taken, c .pass-skips .ensures .there)
+loop-less c = omega (arith, in-loop (ran (c .before .before .before)) .loop-test .taken, c .pass-skips2 .ensures .there)
 
 loop-again : tie.Need-loop-again Inv-loop μ-loop
 loop-again c =
@@ -156,7 +177,7 @@ loop-again c =
     let i = in-loop e in
     standing-past
     (standing-on (i .before .loop .inv) (within i) (its-code i) (its-instr i) (e .exec .ensures)
-    (c .before .before .before .before .before .if1 .left)) refl (begins (i .before .before)) (c .pass-skips .ensures)
+    (c .before .before .before .before .before .if1 .left)) refl (begins (at-code i)) (c .pass-skips2 .ensures)
 
 loop-less-2 : tie.Need-loop-less-2 Inv-loop μ-loop
 loop-less-2 c = omega (arith, in-loop (ran (c .before)) .loop-test .taken)
@@ -169,13 +190,13 @@ loop-again-2 c =
 
 returns-2 : tie.Need-returns-2 Inv-loop μ-loop
 returns-2 c =
-    let s = c .before .before .before in
+    let s = c .before .before .before .before .before in
     let w = c .before .loop .inv in
     block-by _ _ (plan-by (s .args .plan .now) .code) _ (s .args .start) (s .args .len) refl
     (rw (toZ-ofZ (s .fits .arg)) at (walking-end (w .walking) (omega (arith, w .here, c .loop-test .left))))
 
 pub run-block-spec : {M : Type 1} → statement M
 run-block-spec =
-    tie.close (tie.spec Inv-loop μ-loop code-at-requires add-end mul-end add-end-2 mul-row add-row loop-holds exec-requires
-    (λ c. search needs) returns add-row-2 mul-row-2 add-row-3 pass-skips-requires loop-less loop-again loop-less-2
-    loop-again-2 (λ c. search needs) returns-2)
+    tie.close (tie.spec Inv-loop μ-loop code-at-requires add-end mul-end add-end-2 mul-pass-skips add-pass-skips
+    pass-skips-requires loop-holds exec-requires (λ c. search needs) returns add-row mul-row add-row-2 pass-skips-requires-2
+    loop-less loop-again loop-less-2 loop-again-2 (λ c. search needs) returns-2)

@@ -1,6 +1,7 @@
 -- `run_examined` tries 7, 6 and 8 in turn, then reacts to the front event. Assumes nothing.
 use mathlib.Core.Path.{_≡_, refl, sym, ap, _∙_, subst}
 use Prim.Native.Nat.{ℕ}
+use native.Mathlib.Omega.{arith}
 use borrow.Author.Needs.{needs}
 use borrow.Author.Tests.{not-true, not-false}
 use lib.ListN.{length, length-map, length-replicate}
@@ -31,22 +32,23 @@ remove-from-trace3 c = c .before .before .before .before .before
 abbrev else1-from-trace3 : tie.After-trace3 → tie.Else1
 else1-from-trace3 c = remove-from-trace3 c .before .before .before .before
 
-abbrev lend-from-trace5 : tie.After-trace5 → tie.After-lend
-lend-from-trace5 c = c .before .before .before .before .before .before .before .before .before .before .before .before .before .before
+abbrev told2-from-settled-arg : tie.After-settled-arg → tie.After-struct-told2
+told2-from-settled-arg c = c .before .before .before .before .before .before .before .before .before
 
-abbrev reference-from-trace5 : tie.After-trace5 → tie.After-reference
-reference-from-trace5 c = lend-from-trace5 c .before .before .before .before .before
+abbrev told2-from-trace6 : tie.After-trace6 → tie.After-struct-told2
+told2-from-trace6 c = told2-from-settled-arg (c .before .before .before .before .before)
 
-abbrev remove-from-trace5 : tie.After-trace5 → tie.After-remove
-remove-from-trace5 c = reference-from-trace5 c .before .before .before .before .before
+abbrev links-of-from-told2 : tie.After-struct-told2 → tie.After-links-of
+links-of-from-told2 c = c .before .before .before .before .before .before .before .before
 
-abbrev start-from-struct-told2 : tie.After-struct-told2 → tie.Start
-start-from-struct-told2 c =
-    c .before .before .before .before .before .before .before .before .before .before .before .before .before
-    .before .before .before .before .before .before .before .before .before .before .before .before
+abbrev reference-from-told2 : tie.After-struct-told2 → tie.After-reference
+reference-from-told2 c = links-of-from-told2 c .before .before .before .before .before .before
 
-abbrev start-from-trace5 : tie.After-trace5 → tie.Start
-start-from-trace5 c = start-from-struct-told2 (c .before .before .before .before .before)
+abbrev remove-from-told2 : tie.After-struct-told2 → tie.After-remove
+remove-from-told2 c = reference-from-told2 c .before .before .before .before .before
+
+abbrev start-from-told2 : tie.After-struct-told2 → tie.Start
+start-from-told2 c = remove-from-told2 c .before .before .before .before .before .before
 
 returns : tie.Need-returns
 returns c =
@@ -72,35 +74,50 @@ returns-3 c =
     (remove-from-trace3 c .before .before .if2 .left)) _ (remove-from-trace3 c .remove .ensures)
     (not-true _ (c .before .before .before .if3 .taken))) (c .before .refuse3 .ensures)
 
-react-requires : tie.Need-react-requires
-react-requires c κs = (
-  start-from-struct-told2 c .pre,
+step-requires : tie.Need-step-requires
+step-requires c κs = (
+  start-from-told2 c .pre,
   length-replicate {A = ℕ} TRANSITIONS 0,
-  slots-long (start-from-struct-told2 c),
-  c .before .before .before .before .before .before .before .before .links-of .ensures,
+  slots-long (start-from-told2 c),
+  omega arith,
+  links-of-from-told2 c .links-of .ensures,
 )
 
+settled-requires : tie.Need-settled-requires
+settled-requires c κs =
+    let d = c .before .before .before .before .before .before .before .before .step .ensures in
+    let t = told2-from-settled-arg c in (
+      start-from-told2 t .pre,
+      d .1,
+      λ z. d .0 .slotted z ∙ slots-long (start-from-told2 t),
+      d .0 .did .fits,
+      links-of-from-told2 t .links-of .ensures,
+    )
+
 finish-requires : tie.Need-finish-requires
-finish-requires c κs = c .before .before .react .ensures .0 .did .fits
+finish-requires c κs =
+    let d = c .before .before .before .before .before .before .before .before .before .before .before .step .ensures in
+    c .before .before .settled .ensures .0 _ _ (d .0) .did .fits
 
 returns-4 : tie.Need-returns-4
 returns-4 c =
-    let a = start-from-trace5 c .args in
-    let fe : SFits w32 (remove-from-trace5 c .remove .result .front .event) = search needs in
-    let fa : SFits w32 (remove-from-trace5 c .remove .result .front .arg) = search needs in
-    run-ends (plan-by (a .plan .now)) (a .state) (items-long (start-from-trace5 c)) _
-    (remove-from-trace5 c .remove .ensures)
-    (not-false _ (remove-from-trace5 c .before .before .before .before .if1 .left))
-    (sym (remove-from-trace5 c .before .before .before .own .ensures) ∙ not-false _
-    (remove-from-trace5 c .before .before .if2 .left))
-    (not-false _ (reference-from-trace5 c .before .before .before .if3 .left)) _
-    (lend-from-trace5 c .lend .ensures) (a .trace .now) _ _
-    (reference-from-trace5 c .reference .ensures ∙ ap ref (toZ-ofZ fe)) (toZ-ofZ fa)
-    (c .before .before .before .before .react .ensures .0) (c .before .finish .ensures)
+    let t = told2-from-trace6 c in
+    let m = remove-from-told2 t in
+    let a = start-from-told2 t .args in
+    let d = c .before .before .before .before .before .before .before .before .before .before .before .before .before .step .ensures in
+    let fe : SFits w32 (m .remove .result .front .event) = search needs in
+    let fa : SFits w32 (m .remove .result .front .arg) = search needs in
+    run-ends (plan-by (a .plan .now)) (a .state) (items-long (start-from-told2 t)) _ (m .remove .ensures)
+    (not-false _ (m .before .before .before .before .if1 .left))
+    (sym (m .before .before .before .own .ensures) ∙ not-false _ (m .before .before .if2 .left))
+    (not-false _ (reference-from-told2 t .before .before .before .if3 .left)) _
+    (links-of-from-told2 t .before .lend .ensures) (a .trace .now) _ _
+    (reference-from-told2 t .reference .ensures ∙ ap ref (toZ-ofZ fe)) (toZ-ofZ fa)
+    (c .before .before .before .before .settled .ensures .0 _ _ (d .0)) (c .before .finish .ensures)
 
 pub run-examined-spec : {M : Type 1} → statement M
 run-examined-spec =
     tie.close (tie.spec (λ c κs. search needs) (λ c. search needs) returns (λ c κs. search needs)
     (λ c κs. search needs) (λ c. search needs) returns-2 (λ c κs. search needs) (λ c κs. search needs)
-    (λ c. search needs) returns-3 (λ c κs. search needs) (λ c κs. search needs) (λ c κs. search needs) react-requires finish-requires
-    (λ c. search needs) returns-4)
+    (λ c. search needs) returns-3 (λ c κs. search needs) (λ c κs. search needs) (λ c κs. search needs) step-requires
+    settled-requires finish-requires (λ c. search needs) returns-4)

@@ -1,5 +1,6 @@
 -- `post_and_run` makes the tests of a post in their order, then the run. Assumes nothing.
 use mathlib.Core.Path.{_≡_, refl, sym, ap, _∙_}
+use native.Mathlib.Omega.{arith}
 use mir.Facts.{toZ-ofZ}
 use mir.Syntax.{w32}
 use mir.Val.{SFits}
@@ -60,8 +61,20 @@ returns-3 c =
       s .pre .1,
     )
 
-react-requires : tie.Need-react-requires
-react-requires c κs = (start-from-told2 c .pre .0, start-from-told2 c .pre .1, start-from-told2 c .pre .2, start-from-told2 c .pre .5)
+step-requires : tie.Need-step-requires
+step-requires c κs =
+    let p = start-from-told2 c .pre in
+    (p .0, p .1, p .2, omega arith, p .5)
+
+-- from the null steps back to the step before them
+abbrev step-from-arg6 : tie.After-settled-arg6 → tie.After-step
+step-from-arg6 c = c .before .before .before .before .before .before .before
+
+settled-requires : tie.Need-settled-requires
+settled-requires c κs =
+    let d = step-from-arg6 c .step .ensures in
+    let p = start-from-told2 (step-from-arg6 c .before) .pre in
+    (p .0, d .1, λ z. d .0 .slotted z ∙ p .2, d .0 .did .fits, p .5)
 
 event-fits-32 : (c : tie.After-pass) → SFits w32 (c .pass .result .front .event)
 event-fits-32 c = search needs
@@ -71,7 +84,9 @@ arg-fits-32 c = search needs
 
 returns-4 : tie.Need-returns-4
 returns-4 c =
-    let o = else3-from-told2 (c .before .before) in
+    let d = step-from-arg6 (c .before .before) in
+    let t = d .before in
+    let o = else3-from-told2 t in
     let q = o .before .before in
     let s = start-from-pass q in
     let a = s .args in (
@@ -81,13 +96,12 @@ returns-4 c =
           (sym (rw (toZ-ofZ (s .fits .event), toZ-ofZ (s .fits .arg)) at (q .before .before .before .event-fits .ensures))
           ∙ not-false _ (q .before .before .if2 .left))
           (rw (toZ-ofZ (s .fits .event), toZ-ofZ (s .fits .arg)) at (q .pass .ensures)) (not-false _ (o .if3 .left)) (s .pre .3)
-          (c .before .before .before .before .before .before .before .before .before .reference .ensures
-          ∙ ap ref (toZ-ofZ (event-fits-32 q)))
-          (toZ-ofZ (arg-fits-32 q)) (c .before .react .ensures .0),
-      c .before .react .ensures .1,
+          (t .before .before .before .before .before .before .before .reference .ensures ∙ ap ref (toZ-ofZ (event-fits-32 q)))
+          (toZ-ofZ (arg-fits-32 q)) (c .before .settled .ensures .0 _ _ (d .step .ensures .0)),
+      c .before .settled .ensures .1,
     )
 
 pub post-and-run-spec : {M : Type 1} → statement M
 post-and-run-spec =
     tie.close (tie.spec (λ c. search needs) returns (λ c κs. search needs) returns-2 (λ c κs. search needs)
-    returns-3 (λ c κs. search needs) react-requires (λ c. search needs) returns-4)
+    returns-3 (λ c κs. search needs) step-requires settled-requires (λ c. search needs) returns-4)
