@@ -27,11 +27,11 @@ ghost use Rattle.numbers.specs.Equal.{eqZ};
 ghost use Rattle.numbers.specs.Place.{placeOf};
 ghost use Rattle.meaning.specs.declared.State.{State as Widget};
 ghost use Rattle.meaning.specs.Lists.{every};
-ghost use Rattle.meaning.specs.Tree.{kind-of, children};
+ghost use Rattle.meaning.specs.Tree.{kind-of};
 ghost use Rattle.meaning.specs.Value.{chart-of};
 ghost use Rattle.meaning.specs.Widget.{is-filled, slot};
-ghost use Rattle.meaning.specs.Foreign.{legal-at, legal, values-fit, leads-on, slot-fits, slots-fit, own as owns};
-ghost use Rattle.queue_calls.specs.Parts.{tally-of, Tallied, value-fits};
+ghost use Rattle.meaning.specs.Foreign.{legal-at, legal, values-fit, slots-fit, own as owns};
+ghost use Rattle.queue_calls.specs.Parts.{tally-of, Tallied, value-fits, leads-if, slot-if, slots-if, is-at, held, Completes};
 
 // How many children a state has, and how many of them are active.
 pub struct Tally {
@@ -146,40 +146,68 @@ fn filled(x: i32) -> bool
     }
 }
 
-// The slot of each component of an a state is filled.
-fn all_filled(chart: &[i32], slots: [i32; STATES], s: usize) -> bool
-    ensures { λ r. ⌜ ((u : Widget) → u .slots ≡ slots → r ≡ every (λ d. is-filled (slot u d)) (children (chart-of (now (chart .entry))) s)) ⌝ }
+// Whether a slot holds a state.
+fn holds(slots: &[i32; STATES], s: usize, d: usize) -> bool
+    requires { ⌜ length (now slots) ≡ states ⌝ }
+    ensures { λ r. ⌜ ((u : Widget) → u .slots ≡ now (slots .entry) → r ≡ is-at d (slot u s)) ⌝ }
+{
+    if STATES <= s {
+        return false;
+    }
+    let Place::At(e) = place_of(slots[s]) else {
+        return false;
+    };
+    e == d
+}
+
+// An a state in the slot of its parent.
+fn is_held(chart: &[i32], slots: &[i32; STATES], p: usize) -> bool
+    requires { ⌜ length (now slots) ≡ states ⌝ }
+    ensures { λ r. ⌜ ((u : Widget) → u .slots ≡ now (slots .entry) → r ≡ held (chart-of (now (chart .entry))) u p) ⌝ }
+{
+    match kind_of(chart, p) {
+        Kind::O => false,
+        Kind::A => holds(slots, parent_of(chart, p), p),
+        Kind::B => false,
+    }
+}
+
+// The slot of each component of an a state that a slot holds is filled: one look at each state, from it to its parent.
+fn components_filled(chart: &[i32], slots: &[i32; STATES]) -> bool
+    requires { ⌜ length (now slots) ≡ states ⌝ }
+    ensures { λ r. ⌜ ((u : Widget) → u .slots ≡ now (slots .entry) → Completes (chart-of (now (chart .entry))) u r) ⌝ }
 {
     let n = state_count(chart);
-    let mut d: usize = 0;
-    while d < n {
-        let at = d;
-        d += 1;
-        if !is_child(chart, s, at) {
+    let mut next: usize = 1;
+    while next < n {
+        let d = next;
+        next += 1;
+        if filled(slots[d]) {
             continue;
         }
-        if !filled(slots[at]) {
+        if is_held(chart, slots, parent_of(chart, d)) {
             return false;
         }
     }
     true
 }
 
-// 01, answer 6: a filled slot leading to an empty one.
-fn leads_on(chart: &[i32], slots: [i32; STATES], d: usize) -> bool
-    requires { ⌜ d < states ⌝ }
-    ensures { λ r. ⌜ ((u : Widget) → u .slots ≡ slots → r ≡ leads-on (chart-of (now (chart .entry))) u (kind-of (chart-of (now (chart .entry))) d) d) ⌝ }
+// 01, answer 6: a filled slot leading to an empty one. Of an a state the caller says whether its components' slots are filled.
+fn leads_on(chart: &[i32], slots: &[i32; STATES], d: usize, whole: bool) -> bool
+    requires { ⌜ (length (now slots) ≡ states) × (d < states) ⌝ }
+    ensures { λ r. ⌜ ((u : Widget) → u .slots ≡ now (slots .entry) → r ≡ leads-if whole u (kind-of (chart-of (now (chart .entry))) d) d) ⌝ }
 {
     match kind_of(chart, d) {
         Kind::O => filled(slots[d]),
-        Kind::A => all_filled(chart, slots, d),
+        Kind::A => whole,
         Kind::B => true,
     }
 }
 
 // 01, answer 6: a slot neither -1 nor, at an o state, its child.
-fn slot_fits(chart: &[i32], slots: [i32; STATES], s: usize, x: i32) -> bool
-    ensures { λ r. ⌜ ((u : Widget) → u .slots ≡ slots → r ≡ slot-fits (chart-of (now (chart .entry))) u s x) ⌝ }
+fn slot_fits(chart: &[i32], slots: &[i32; STATES], s: usize, x: i32, whole: bool) -> bool
+    requires { ⌜ length (now slots) ≡ states ⌝ }
+    ensures { λ r. ⌜ ((u : Widget) → u .slots ≡ now (slots .entry) → r ≡ slot-if whole (chart-of (now (chart .entry))) u s x) ⌝ }
 {
     let Place::At(d) = place_of(x) else {
         return same(x, -1);
@@ -193,7 +221,7 @@ fn slot_fits(chart: &[i32], slots: [i32; STATES], s: usize, x: i32) -> bool
     if !is_child(chart, s, d) {
         return false;
     }
-    leads_on(chart, slots, d)
+    leads_on(chart, slots, d, whole)
 }
 
 // The slots from a place on are empty. Each is looked at, with no way out before the last: so the compiler tests many at once.
@@ -210,18 +238,32 @@ pub fn rest_empty(states: usize, slots: [i32; STATES]) -> bool
 }
 
 // The slots below a place from which on they are empty: an empty one fits whatever the chart.
-fn fit_below(chart: &[i32], slots: [i32; STATES], end: usize) -> bool
-    requires { ⌜ (end ≤ states) × (every (eqZ (negsuc 0)) (drop end slots) ≡ true) ⌝ }
-    ensures { λ r. ⌜ ((u : Widget) → u .slots ≡ slots → r ≡ slots-fit (chart-of (now (chart .entry))) u) ⌝ }
+fn each_fits(chart: &[i32], slots: &[i32; STATES], end: usize, whole: bool) -> bool
+    requires { ⌜ (length (now slots) ≡ states) × (end ≤ states) × (every (eqZ (negsuc 0)) (drop end (now slots)) ≡ true) ⌝ }
+    ensures { λ r. ⌜ ((u : Widget) → u .slots ≡ now (slots .entry) → r ≡ slots-if whole (chart-of (now (chart .entry))) u) ⌝ }
 {
     let mut s: usize = 0;
     while s < end {
-        if !slot_fits(chart, slots, s, slots[s]) {
+        if !slot_fits(chart, slots, s, slots[s], whole) {
             return false;
         }
         s += 1;
     }
     true
+}
+
+// A look at the components is made only where a slot is not found to fit without it: where none holds an a state there is none.
+fn fit_below(chart: &[i32], slots: &[i32; STATES], end: usize) -> bool
+    requires { ⌜ (length (now slots) ≡ states) × (end ≤ states) × (every (eqZ (negsuc 0)) (drop end (now slots)) ≡ true) ⌝ }
+    ensures { λ r. ⌜ ((u : Widget) → u .slots ≡ now (slots .entry) → r ≡ slots-fit (chart-of (now (chart .entry))) u) ⌝ }
+{
+    if each_fits(chart, slots, end, false) {
+        return true;
+    }
+    if !components_filled(chart, slots) {
+        return false;
+    }
+    each_fits(chart, slots, end, true)
 }
 
 // Where no slot past the chart's states is filled, only theirs are tested one by one.
@@ -230,9 +272,9 @@ fn slots_fit(chart: &[i32], slots: [i32; STATES]) -> bool
 {
     let n = state_count(chart);
     if rest_empty(n, slots) {
-        return fit_below(chart, slots, n);
+        return fit_below(chart, &slots, n);
     }
-    fit_below(chart, slots, STATES)
+    fit_below(chart, &slots, STATES)
 }
 
 // Whether a started state is the chart's own; else answer 6.

@@ -11,17 +11,19 @@ use Rattle.widget.proofs.Every.{every-done}
 use Rattle.queue_calls.proofs.own.slots_fit.Statement.{statement}
 use Rattle.queue_calls.proofs.own.slots_fit.Tie as tie
 
-long : (c : tie.Start) → length (c .args .slots) ≡ STATES
+long : (c : tie.Start) → length (c .args .t2) ≡ STATES
 long c = search needs
 
 below-states : tie.Need-fit-below-requires
 below-states c κs =
-    (omega (arith, states-most (c .before .before .before .args .chart .now)), sym (c .before .rest-empty .ensures) ∙ c .if1 .taken)
+    let i = c .before in
+    let k = i .before .before .before in
+    (long k, omega (arith, states-most (k .args .chart .now)), sym (i .before .rest-empty .ensures) ∙ i .if1 .taken)
 
 below-all : tie.Need-fit-below-requires-2
 below-all c κs =
-    let a = c .before .before .before .args in
-    (omega arith, sym (every-done (eqZ (negsuc 0)) (a .slots) STATES refl (omega (arith, long (c .before .before .before)))))
+    let k = c .before .before .before .before in
+    (long k, omega arith, sym (every-done (eqZ (negsuc 0)) (k .args .t2) STATES refl (omega (arith, long k))))
 
 pub slots-fit-spec : {M : Type 1} → statement M
 slots-fit-spec =
