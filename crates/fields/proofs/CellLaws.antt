@@ -160,30 +160,6 @@ module _ (s : List ℕ) (a e : ℕ) where
 
 -- ---- a field by its code
 
-pub code-o : field-of 111 ≡ letter (bytes "o")
-unfolding field-of
-code-o = refl
-
-pub code-ab : field-of 98 ≡ letter (bytes "ab")
-unfolding field-of
-code-ab = refl
-
-pub code-sign : field-of 61 ≡ letter (bytes "=<>")
-unfolding field-of
-code-sign = refl
-
-pub code-owner : field-of 119 ≡ letter (bytes "exdt")
-unfolding field-of
-code-owner = refl
-
-pub code-saq : field-of 113 ≡ letter (bytes "saq")
-unfolding field-of
-code-saq = refl
-
-pub code-ko : field-of 107 ≡ letter (bytes "ko")
-unfolding field-of
-code-ko = refl
-
 module _ (k n : ℕ) (x : List ℕ) (l : Line) where
   module _ (v : Num) (ev : v ≡ number-of x) where
     pub said-turn : (t : Bool) → k ≡ 110 → t ≡ is-turn v n → l ≡ right-if t [] → l ≡ read-field (field-of k) n x

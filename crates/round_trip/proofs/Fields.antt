@@ -353,19 +353,39 @@ apart-text place-history n i row e = rw (dash-two 104 (numeral (num row (i + 1))
 apart-text place-state n i row e = rw (dash-numeral (num row (i + 1)))
 apart-text history-state n i row e = rw (h-numeral (num row (i + 1)))
 
-pub apart-row : {x y : Field} → Apart x y → (i : ℕ) (row : List ℤ) → fits-field x i row ≡ true → fits-field y i row ≡ true → ⊥
-apart-row (other-letters {ls = ls} {ms = ms} d) i row e f =
+-- the first number of a row tells a field from one that is apart from it: a letter, "-", or h
+unfoldable pub tells : Field → ℤ → Bool
+tells turn z = false
+tells number z = false
+tells (count low high) z = false
+tells (letter ls) z = one-of-letters ls z
+tells dash z = is-absent z
+tells state z = false
+tells history z = is-letter (code "h") z
+tells in-place z = is-absent z
+
+pub tells-own : {x y : Field} → Apart x y → (i : ℕ) (row : List ℤ) → fits-field x i row ≡ true → tells x (num row i) ≡ true
+unfolding tells
+tells-own (other-letters d) i row e = e
+tells-own dash-number i row e = e
+tells-own place-history i row e = both (is-absent (num row i)) (is-absent (num row (i + 1))) e .0
+tells-own place-state i row e = both (is-absent (num row i)) (is-absent (num row (i + 1))) e .0
+tells-own history-state i row e = both (is-letter 104 (num row i)) (inRange (num row (i + 1))) e .0
+
+pub tells-not : {x y : Field} → Apart x y → (i : ℕ) (row : List ℤ) → tells x (num row i) ≡ true → fits-field y i row ≡ true → ⊥
+unfolding tells
+tells-not (other-letters {ls = ls} {ms = ms} d) i row e f =
     true≢false (sym (letter-is ls (num row i) e .in-list) ∙ apart-letters (ref (num row i)) ls ms d (letter-is ms (num row i) f .in-list))
-apart-row dash-number i row e f = true≢false (sym e ∙ absent-number (num row i) f)
-apart-row place-history i row e f =
-    let a = absent-is (num row i) (both (is-absent (num row i)) (is-absent (num row (i + 1))) e .0) in
+tells-not dash-number i row e f = true≢false (sym e ∙ absent-number (num row i) f)
+tells-not place-history i row e f =
     let b = both (is-letter 104 (num row i)) (inRange (num row (i + 1))) f .0 in
-    let c : false ≡ true = rw a at b in false≢true c
-apart-row place-state i row e f =
-    let a = absent-is (num row i) (both (is-absent (num row i)) (is-absent (num row (i + 1))) e .0) in
+    let c : false ≡ true = rw (absent-is (num row i) e) at b in false≢true c
+tells-not place-state i row e f =
     let b = both (is-letter 0 (num row i)) (inRange (num row (i + 1))) f .0 in
-    let c : false ≡ true = rw a at b in false≢true c
-apart-row history-state i row e f =
-    let a = eqZ-true (num row i) (pos 104) (both (is-letter 104 (num row i)) (inRange (num row (i + 1))) e .0) in
+    let c : false ≡ true = rw (absent-is (num row i) e) at b in false≢true c
+tells-not history-state i row e f =
     let b = both (is-letter 0 (num row i)) (inRange (num row (i + 1))) f .0 in
-    let c : false ≡ true = rw a at b in false≢true c
+    let c : false ≡ true = rw (eqZ-true (num row i) (pos 104) e) at b in false≢true c
+
+pub apart-row : {x y : Field} → Apart x y → (i : ℕ) (row : List ℤ) → fits-field x i row ≡ true → fits-field y i row ≡ true → ⊥
+apart-row p i row e f = tells-not p i row (tells-own p i row e) f

@@ -11,11 +11,11 @@ use lib.ListN.{length, length-append}
 use borrow.Author.Tests.{eqb-true, eqb-false, leb-true}
 use Rattle.sizes.specs.Sizes.{MOST}
 use Rattle.meaning.specs.Grammar.{Field, width, Form, last, _then_, _or_}
-use Rattle.meaning.specs.Value.{fits, fits-field}
+use Rattle.meaning.specs.Value.{num, fits, fits-field}
 use Rattle.meaning.specs.Split.{TAB, tails}
 use Rattle.meaning.specs.Line.{Line, worse, line, beside, or-else, read-field, read-by, write-field, write-by}
 use Rattle.round_trip.proofs.Splits.{AllFree}
-use Rattle.round_trip.proofs.Fields.{Good, worse-good, both, Plain, At, numbers, numbers-more, at-both, Kept, field-kept, field-reads, field-free, longest, field-short, Apart, apart-text, apart-row}
+use Rattle.round_trip.proofs.Fields.{Good, worse-good, both, Plain, At, numbers, numbers-more, at-both, Kept, field-kept, field-reads, field-free, longest, field-short, Apart, apart-text, apart-row, tells, tells-own, tells-not}
 
 -- ---- unambiguous forms
 
@@ -92,6 +92,46 @@ not-first : (a b : Form) → First (λ x. First (λ y. Apart x y) b) a → (n i 
 not-first a b p n i row e =
     let w = begins (λ y. First (λ x. Apart x y) a) b n i row (swap-first Apart a b p) e in
     rw (w .is) (wrong-front (λ x. Apart x (w .field)) a n (write-field (w .field) n i row) (w .more) (w .holds) (λ x q. apart-text q n i row (w .ok)))
+
+-- ---- a choice: the first number of a row tells which form it has, where the first form begins with one field
+
+abbrev pub Starts : Form → Field → Type 0
+Starts (last y) x = y ≡ x
+Starts (y then ys) x = y ≡ x
+Starts (a or b) x = ⊥
+
+starts-first : (P : Field → Type 0) (a : Form) (x : Field) → Starts a x → First P a → P x
+starts-first P (last y) x s f = subst P s f
+starts-first P (y then ys) x s f = subst P s f
+starts-first P (a or b) x s f = absurd s
+
+pub starts-fits : (a : Form) (x : Field) (i : ℕ) (row : List ℤ) → Starts a x → fits a i row ≡ true → fits-field x i row ≡ true
+starts-fits (last y) x i row s e = rw (← s) e
+starts-fits (y then ys) x i row s e = rw (← s) (both (fits-field y i row) (fits ys (i + width y) row) e .0)
+starts-fits (a or b) x i row s e = absurd s
+
+some-first : (x : Field) (b : Form) (i : ℕ) (row : List ℤ) → First (λ y. Apart x y) b → fits-field x i row ≡ true → tells x (num row i) ≡ true
+some-first x (last y) i row f e = tells-own f i row e
+some-first x (y then ys) i row f e = tells-own f i row e
+some-first x (b or c) i row f e = some-first x b i row (f .0) e
+
+module _ (a b : Form) (x : Field) (s : Starts a x) (c : Clear (a or b)) (i : ℕ) (row : List ℤ) (e : fits (a or b) i row ≡ true) where
+  apart : First (λ y. Apart x y) b
+  apart = starts-first (λ x. First (λ y. Apart x y) b) a x s (c .1 .1 .0)
+
+  pub choice-first : tells x (num row i) ≡ true → fits a i row ≡ true
+  choice-first t = go (fits a i row) refl e
+    where
+      go : (u : Bool) → fits a i row ≡ u → u || fits b i row ≡ true → u ≡ true
+      go true h e = refl
+      go false h e = let w = begins (λ y. Apart x y) b 0 i row apart e in absurd (tells-not (w .holds) i row t (w .ok))
+
+  pub choice-second : tells x (num row i) ≡ false → (fits a i row ≡ false) × (fits b i row ≡ true)
+  choice-second t = go (fits a i row) refl e
+    where
+      go : (u : Bool) → fits a i row ≡ u → u || fits b i row ≡ true → (u ≡ false) × (fits b i row ≡ true)
+      go true h e = absurd (true≢false (sym (some-first x b i row apart (starts-fits a x i row s h)) ∙ t))
+      go false h e = (refl, e)
 
 -- ---- both ways
 

@@ -3,6 +3,7 @@
 use chart_rows::action_count;
 use chart_rows::decode::is_absent;
 use chart_rows::decode::is_letter;
+use chart_rows::decode::one_of_letters;
 use chart_rows::layout::ACT_ROW;
 use chart_rows::layout::ACTION_COUNT;
 use chart_rows::layout::ACTIONS_AT;
@@ -42,20 +43,6 @@ ghost use Rattle.meaning.specs.Value.{STATE-ROW, VAR-ROW, TRANS-ROW, ACT-ROW, S
 ghost use Rattle.meaning.specs.Value.{num, is-letter, is-absent, one-of-letters, count-fits, counts-fit, rows-of, rows-statable, rule-0};
 ghost use Rattle.meaning.specs.Value.{state-statable, var-statable, trans-statable, action-statable};
 ghost use Rattle.rules.specs.Clauses.{number-if, guard-statable, target-statable};
-
-// Is the number one of these letters?
-fn one_of_letters(letters: &[u8], z: i32) -> bool
-    ensures { λ r. ⌜ r ≡ one-of-letters (now (letters .entry)) z ⌝ }
-{
-    let mut i = 0;
-    while i < letters.len() {
-        if is_letter(letters[i], z) {
-            return true;
-        }
-        i += 1;
-    }
-    false
-}
 
 // A number where it is wanted, else "-".
 fn number_if(wanted: bool, z: i32) -> bool

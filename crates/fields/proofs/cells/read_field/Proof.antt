@@ -2,7 +2,8 @@
 use mathlib.Core.Path.{refl}
 use Rattle.meaning.specs.Grammar.{bytes}
 use Rattle.fields.specs.Said.{said}
-use Rattle.fields.proofs.CellLaws.{said-turn, said-number, said-dash, said-state, said-history, said-in-place, said-count, said-letter, code-o, code-ab, code-sign, code-owner, code-saq, code-ko, said-none}
+use Rattle.fields.proofs.CellLaws.{said-turn, said-number, said-dash, said-state, said-history, said-in-place, said-count, said-letter, said-none}
+use Rattle.forms.proofs.TableLaws.{code-o, code-ab, code-sign, code-owner, code-saq, code-ko}
 use borrow.Author.Needs.{needs}
 use native.Mathlib.Omega.{arith}
 use Rattle.fields.proofs.cells.read_field.Statement.{statement}

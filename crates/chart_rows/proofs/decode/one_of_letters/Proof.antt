@@ -7,10 +7,10 @@ use mir.Facts.{toZ-ofZ}
 use mir.Syntax.{w32}
 use mir.Val.{toZ, ofZ}
 use Rattle.meaning.specs.Value.{one-of-letters}
-use Rattle.rules.proofs.Letters.{letter-here, letter-next, letter-none}
+use Rattle.chart_rows.proofs.Letters.{letter-here, letter-next, letter-none}
 use borrow.Author.Needs.{needs}
-use Rattle.rules.proofs.value.one_of_letters.Statement.{statement}
-use Rattle.rules.proofs.value.one_of_letters.Tie as tie
+use Rattle.chart_rows.proofs.decode.one_of_letters.Statement.{statement}
+use Rattle.chart_rows.proofs.decode.one_of_letters.Tie as tie
 
 abbrev Inv-loop : tie.InvT-loop
 Inv-loop letters z i₀ i = one-of-letters (drop i letters) (toZ w32 z) ≡ one-of-letters letters (toZ w32 z)
