@@ -8,7 +8,8 @@ use lib.ListN.{length, getD, List·getD-eq-default}
 use lib.Dec.{eqb, leb, ltb}
 use borrow.Author.Tests.{ne-eqb, eqb-true, eq-eqb, leb-true, ltb-true}
 use Rattle.meaning.specs.Lists.{has}
-use Rattle.meaning.specs.Grammar.{bytes, Field, letter, width, Form, last, _then_, _or_, s-record, v-record, e-record, t-record, a-record, form, most, record-by}
+use Rattle.meaning.specs.Grammar.{bytes, Field, letter, width, Form, last, _then_, _or_, s-record, v-record, e-record, t-record}
+use Rattle.meaning.specs.Grammar.{a-record, form, most, record-by}
 use Rattle.forms.specs.Table.{ENTRIES, steps, fields, skips, codes, field-in, field-of, no-form, at-entry, entry-form, forms, form-at}
 
 record Entry (ss fs ks : List ℕ) (i : ℕ) : Type 0 where
@@ -84,7 +85,8 @@ choices-fit [] = true
 choices-fit (s ∷ []) = not (eqb s 124)
 choices-fit (s ∷ t ∷ ss) = not (eqb s 124 && eqb t 124) && choices-fit (t ∷ ss)
 
-choice-inside : (ss : List ℕ) (i : ℕ) → choices-fit ss ≡ true → i < length ss → getD ss i 0 ≡ 124 → (suc i < length ss) × (getD ss (suc i) 0 ≡ 124 → ⊥)
+choice-inside : (ss : List ℕ) (i : ℕ) → choices-fit ss ≡ true → i < length ss → getD ss i 0 ≡ 124
+    → (suc i < length ss) × (getD ss (suc i) 0 ≡ 124 → ⊥)
 choice-inside [] i e h s = absurd (omega arith)
 choice-inside (s ∷ []) zero e h z = absurd (false≢true (sym (ap not (eq-eqb s 124 z)) ∙ e))
 choice-inside (s ∷ []) (suc i) e h z = absurd (omega arith)

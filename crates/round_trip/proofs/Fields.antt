@@ -21,10 +21,12 @@ use Rattle.meaning.specs.Lists.{has}
 use Rattle.meaning.specs.Grammar.{Field, turn, number, count, letter, dash, state, history, in-place, width}
 use Rattle.meaning.specs.Value.{ABSENT, num, is-letter, is-absent, one-of-letters, count-fits, fits-field}
 use Rattle.meaning.specs.Number.{number-of, numeral}
-use Rattle.meaning.specs.Line.{Line, worse, room, line, wrong, beyond, letter-of, is-dash, behind, is-turn, number-line, count-line, right-if, read-field, write-field}
+use Rattle.meaning.specs.Line.{Line, worse, room, line, wrong, beyond, letter-of, is-dash, behind, is-turn, number-line, count-line}
+use Rattle.meaning.specs.Line.{right-if, read-field, write-field}
 use Rattle.meaning.specs.declared.Num.{Num}
 use Rattle.meaning.specs.declared.Num.the-variants.{Is, Beyond, Not}
-use Rattle.round_trip.proofs.Numbers.{no, number-writes, number-back, number-numeral, in-range-size, size-in-range, numeral-length, lead}
+use Rattle.round_trip.proofs.Numbers.{no, number-writes, number-back, number-numeral, in-range-size, size-in-range}
+use Rattle.round_trip.proofs.Numbers.{numeral-length, lead}
 use Rattle.round_trip.proofs.Splits.{Free, free-byte, free-append, free-numeral}
 
 -- ---- marks: neither 1 nor 2
@@ -268,12 +270,14 @@ field-reads in-place n i row p m e =
 
 -- ---- free of separators, and short
 
-pub field-free : (sep : ℕ) → sep < 45 → (x : Field) (n i : ℕ) (row : List ℤ) → Plain x → fits-field x i row ≡ true → Free sep (write-field x n i row)
+pub field-free : (sep : ℕ) → sep < 45 → (x : Field) (n i : ℕ) (row : List ℤ) → Plain x → fits-field x i row ≡ true
+    → Free sep (write-field x n i row)
 unfolding write-field
 field-free sep s turn n i row p e = free-numeral sep s (pos n)
 field-free sep s number n i row p e = free-numeral sep s (num row i)
 field-free sep s (count low high) n i row p e = free-numeral sep s (num row i)
-field-free sep s (letter ls) n i row p e = free-byte sep (ref (num row i)) s (above-has (ref (num row i)) ls p (letter-is ls (num row i) e .in-list))
+field-free sep s (letter ls) n i row p e =
+    free-byte sep (ref (num row i)) s (above-has (ref (num row i)) ls p (letter-is ls (num row i) e .in-list))
 field-free sep s dash n i row p e = free-byte sep 45 s (omega arith)
 field-free sep s state n i row p e = free-numeral sep s (num row (i + 1))
 field-free sep s history n i row p e =
@@ -294,7 +298,8 @@ longest in-place = 1
 short-numeral : (z : ℤ) → inRange z ≡ true → length (numeral z) ≤ 11
 short-numeral z e = numeral-length z (in-range-size z e)
 
-pub field-short : (x : Field) (n i : ℕ) (row : List ℤ) → Plain x → n ≤ MOST → fits-field x i row ≡ true → length (write-field x n i row) ≤ longest x
+pub field-short : (x : Field) (n i : ℕ) (row : List ℤ) → Plain x → n ≤ MOST → fits-field x i row ≡ true
+    → length (write-field x n i row) ≤ longest x
 unfolding write-field
 field-short turn n i row p m e = numeral-length (pos n) m
 field-short number n i row p m e = short-numeral (num row i) e
@@ -345,9 +350,11 @@ unfolding numeral
 h-numeral (pos n) = let l = lead n in let h = l .greatest in rw (l .is, ne-eqb (l .head) 104 (λ e. omega arith))
 h-numeral (negsuc n) = refl
 
-pub apart-text : {x y : Field} → Apart x y → (n i : ℕ) (row : List ℤ) → fits-field y i row ≡ true → read-field x n (write-field y n i row) .mark ≡ 1
+pub apart-text : {x y : Field} → Apart x y → (n i : ℕ) (row : List ℤ) → fits-field y i row ≡ true
+    → read-field x n (write-field y n i row) .mark ≡ 1
 unfolding read-field write-field number-of
-apart-text (other-letters {ls = ls} {ms = ms} d) n i row e = rw (apart-letters (ref (num row i)) ls ms d (letter-is ms (num row i) e .in-list))
+apart-text (other-letters {ls = ls} {ms = ms} d) n i row e =
+    rw (apart-letters (ref (num row i)) ls ms d (letter-is ms (num row i) e .in-list))
 apart-text dash-number n i row e = rw (dash-numeral (num row i))
 apart-text place-history n i row e = rw (dash-two 104 (numeral (num row (i + 1))) (omega arith))
 apart-text place-state n i row e = rw (dash-numeral (num row (i + 1)))

@@ -8,7 +8,8 @@ use lib.IntN.{ℤ}
 use lib.ListN.{length, getD, take, drop}
 use Rattle.sizes.specs.Sizes.{STATES, VARIABLES, TRANSITIONS, ACTIONS}
 use Rattle.meaning.specs.Lists.{every, every-from, chunks}
-use Rattle.meaning.specs.Value.{num, size-by, rows-of, STATE-ROW, VAR-ROW, TRANS-ROW, ACT-ROW, STATES-AT, VARS-AT, TRANSITIONS-AT, ACTIONS-AT}
+use Rattle.meaning.specs.Value.{num, size-by, rows-of, STATE-ROW, VAR-ROW, TRANS-ROW, ACT-ROW, STATES-AT, VARS-AT, TRANSITIONS-AT}
+use Rattle.meaning.specs.Value.{ACTIONS-AT}
 use Rattle.meaning.specs.Value.{state-statable, var-statable, trans-statable, action-statable}
 use Rattle.chart_rows.proofs.Rows.{length-chunks, size-most}
 use Rattle.rules.specs.ByKind.{most-by, size-of, place-of, statable-by, row-in, rows-by}
@@ -31,7 +32,8 @@ module _ (k i : ℕ) (v : List ℤ) where
   unfolding most-by
   asks-trans e h = rw e at h
 
-  pub says-state : {t : Bool} → k ≡ 83 → t ≡ state-statable i (take STATE-ROW (drop (STATES-AT + i * STATE-ROW) v)) → t ≡ statable-by k i (row-in k i v)
+  pub says-state : {t : Bool} → k ≡ 83 → t ≡ state-statable i (take STATE-ROW (drop (STATES-AT + i * STATE-ROW) v))
+      → t ≡ statable-by k i (row-in k i v)
   unfolding statable-by row-in size-of place-of
   says-state e f = rw e f
 
@@ -39,7 +41,8 @@ module _ (k i : ℕ) (v : List ℤ) where
   unfolding statable-by row-in size-of place-of
   says-var e f = rw e f
 
-  pub says-trans : {t : Bool} → k ≡ 84 → t ≡ trans-statable (take TRANS-ROW (drop (TRANSITIONS-AT + i * TRANS-ROW) v)) → t ≡ statable-by k i (row-in k i v)
+  pub says-trans : {t : Bool} → k ≡ 84 → t ≡ trans-statable (take TRANS-ROW (drop (TRANSITIONS-AT + i * TRANS-ROW) v))
+      → t ≡ statable-by k i (row-in k i v)
   unfolding statable-by row-in size-of place-of
   says-trans e f = rw e f
 
@@ -48,7 +51,8 @@ module _ (k i : ℕ) (v : List ℤ) where
     unfolding most-by
     asks-action h = rw (ne-eqb k 83 s, ne-eqb k 86 x, ne-eqb k 84 t) at h
 
-    pub says-action : {b : Bool} → b ≡ action-statable (take ACT-ROW (drop (ACTIONS-AT + i * ACT-ROW) v)) → b ≡ statable-by k i (row-in k i v)
+    pub says-action : {b : Bool} → b ≡ action-statable (take ACT-ROW (drop (ACTIONS-AT + i * ACT-ROW) v))
+        → b ≡ statable-by k i (row-in k i v)
     unfolding statable-by row-in size-of place-of
     says-action f = rw (ne-eqb k 83 s, ne-eqb k 86 x, ne-eqb k 84 t) f
 
@@ -99,18 +103,22 @@ module _ (z : ℤ) (n : ℕ) where
   actions-few e = rw e (size-most ACTIONS z)
 
 module _ (v : List ℤ) (n : ℕ) {t : Bool} where
-  pub states-said : n ≡ size-by STATES (num v 0) → t ≡ every-from (statable-by 83) 0 (rows-by 83 n v) → t ≡ every-from state-statable 0 (rows-of v .states)
+  pub states-said : n ≡ size-by STATES (num v 0) → t ≡ every-from (statable-by 83) 0 (rows-by 83 n v)
+      → t ≡ every-from state-statable 0 (rows-of v .states)
   unfolding rows-of rows-by statable-by size-of place-of
   states-said e f = f ∙ rw e
 
-  pub vars-said : n ≡ size-by VARIABLES (num v 1) → t ≡ every-from (statable-by 86) 0 (rows-by 86 n v) → t ≡ every var-statable (rows-of v .vars)
+  pub vars-said : n ≡ size-by VARIABLES (num v 1) → t ≡ every-from (statable-by 86) 0 (rows-by 86 n v)
+      → t ≡ every var-statable (rows-of v .vars)
   unfolding rows-of rows-by statable-by size-of place-of
   vars-said e f = f ∙ rw e (placed var-statable 0 (rows-of v .vars))
 
-  pub transitions-said : n ≡ size-by TRANSITIONS (num v 3) → t ≡ every-from (statable-by 84) 0 (rows-by 84 n v) → t ≡ every trans-statable (rows-of v .transitions)
+  pub transitions-said : n ≡ size-by TRANSITIONS (num v 3) → t ≡ every-from (statable-by 84) 0 (rows-by 84 n v)
+      → t ≡ every trans-statable (rows-of v .transitions)
   unfolding rows-of rows-by statable-by size-of place-of
   transitions-said e f = f ∙ rw e (placed trans-statable 0 (rows-of v .transitions))
 
-  pub actions-said : n ≡ size-by ACTIONS (num v 4) → t ≡ every-from (statable-by 65) 0 (rows-by 65 n v) → t ≡ every action-statable (rows-of v .actions)
+  pub actions-said : n ≡ size-by ACTIONS (num v 4) → t ≡ every-from (statable-by 65) 0 (rows-by 65 n v)
+      → t ≡ every action-statable (rows-of v .actions)
   unfolding rows-of rows-by statable-by size-of place-of
   actions-said e f = f ∙ rw e (placed action-statable 0 (rows-of v .actions))

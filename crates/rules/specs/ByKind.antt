@@ -1,4 +1,5 @@
--- The rows of a value by the letter that names their kind, S, V, T or else A: what R0 asks of a row, and where the rows stand. Assumes nothing.
+-- The rows of a value by the letter that names their kind, S, V, T or else A: what R0 asks of a row, and where the rows stand. Assumes
+-- nothing.
 use Prim.Native.Nat.{ℕ, _+_, _*_}
 use Prim.Native.Char.{code}
 use mathlib.Core.Bool.{Bool, cond}

@@ -35,7 +35,8 @@ module _ (k : ℕ) (z : ℤ) (t : Bool) where
   tells-letter m ls g e f = rw (e, g) f
 
 module _ (k : ℕ) (z : ℤ) where
-  pub tells-none : (k ≡ 45 → ⊥) → (k ≡ 104 → ⊥) → (k ≡ 95 → ⊥) → (k ≡ 111 → ⊥) → (k ≡ 98 → ⊥) → (k ≡ 61 → ⊥) → (k ≡ 119 → ⊥) → (k ≡ 113 → ⊥) → (k ≡ 107 → ⊥)
+  pub tells-none : (k ≡ 45 → ⊥) → (k ≡ 104 → ⊥) → (k ≡ 95 → ⊥) → (k ≡ 111 → ⊥) → (k ≡ 98 → ⊥) → (k ≡ 61 → ⊥) → (k ≡ 119 → ⊥)
+      → (k ≡ 113 → ⊥) → (k ≡ 107 → ⊥)
       → false ≡ tells (field-of k) z
   unfolding tells
   tells-none dash history place o ab sign owner saq ko = each-code (λ x. false ≡ tells x z) k (

@@ -108,7 +108,8 @@ module _ (v : List ℤ) (n : ℕ) (whole : Pen) (i at : ℕ) (p : Pen) (l : Left
             let g : form-at i ≡ x then rest = rw ef (form-then i left-inside (sym ek ∙ z)) in
             let c : Clear (x then rest) = subst Clear g (l .clear) in
             let o : fits (x then rest) at v ≡ true = subst (λ (a : Form). fits a at v ≡ true) g (l .ok) in
-            let u : put-all (tails TAB (write-by (x then rest) n at v)) p ≡ whole = subst (λ (a : Form). put-all (tails TAB (write-by a n at v)) p ≡ whole) g (l .put) in
+            let u : put-all (tails TAB (write-by (x then rest) n at v)) p ≡ whole =
+            subst (λ (a : Form). put-all (tails TAB (write-by a n at v)) p ≡ whole) g (l .put) in
             rw ew (record {
               clear = c .1;
               ok = both (fits-field x at v) (fits rest (at + width x) v) o .1;
@@ -120,12 +121,14 @@ module _ (v : List ℤ) (n : ℕ) (whole : Pen) (i at : ℕ) (p : Pen) (l : Left
         unfolding write-by tails
         left-last z =
             let g : form-at i ≡ last (field-of f) = rw ef (form-last i left-inside (λ y. o (ek ∙ y)) (λ y. z (ek ∙ y))) in
-            let u : put-all (tails TAB (write-by (last (field-of f)) n at v)) p ≡ whole = subst (λ (a : Form). put-all (tails TAB (write-by a n at v)) p ≡ whole) g (l .put) in
+            let u : put-all (tails TAB (write-by (last (field-of f)) n at v)) p ≡ whole =
+            subst (λ (a : Form). put-all (tails TAB (write-by a n at v)) p ≡ whole) g (l .put) in
             e ∙ (rw (append-nil (write-field (field-of f) n at v)) at u)
 
 -- ---- the letter in front, and LF
 
-pub line-put : (k n from : ℕ) (v : List ℤ) (p p0 p1 r : Pen) → p0 ≡ put-byte k p → p1 ≡ put-all (tails TAB (write-by (form (record-by k) n) n from v)) p0
+pub line-put : (k n from : ℕ) (v : List ℤ) (p p0 p1 r : Pen) → p0 ≡ put-byte k p
+    → p1 ≡ put-all (tails TAB (write-by (form (record-by k) n) n from v)) p0
     → r ≡ put-byte LF p1 → r ≡ put-all (with-lf (line-at k n from v)) p
 unfolding with-lf line-at joined put-all
 line-put k n from v p p0 p1 r a b c =

@@ -15,7 +15,8 @@ use Rattle.sizes.specs.Sizes.{STATES, VARIABLES, TRANSITIONS, ACTIONS}
 use Rattle.meaning.specs.Lists.{every, every-from, chunks, map-from}
 use Rattle.meaning.specs.Grammar.{Field, turn, number, count, letter, dash, state, history, in-place, width}
 use Rattle.meaning.specs.Grammar.{Form, last, _then_, _or_, form, name, most, record-by, s-record, v-record, e-record, t-record, a-record}
-use Rattle.meaning.specs.Value.{num, fits, fits-field, STATE-ROW, VAR-ROW, TRANS-ROW, ACT-ROW, STATES-AT, VARS-AT, TRANSITIONS-AT, ACTIONS-AT}
+use Rattle.meaning.specs.Value.{num, fits, fits-field, STATE-ROW, VAR-ROW, TRANS-ROW, ACT-ROW, STATES-AT, VARS-AT, TRANSITIONS-AT}
+use Rattle.meaning.specs.Value.{ACTIONS-AT}
 use Rattle.meaning.specs.Value.{state-statable, var-statable, trans-statable, action-statable, size-by, rows-of, rule-0}
 use Rattle.meaning.specs.Split.{LF, ended, joined}
 use Rattle.meaning.specs.Line.{write-field, write-by, text-of-row}
@@ -85,18 +86,21 @@ module _ (f : ℕ → List ℤ → List ℕ) (rs : List (List ℤ)) where
   unfoldable pub left-from : ℕ → List ℕ
   left-from i = ended (map-from f i (drop i rs))
 
-  left-more : (i : ℕ) (p q : Pen) → i < length rs → q ≡ put-all (with-lf (f i (getD rs i []))) p → put-all (left-from (i + 1)) q ≡ put-all (left-from i) p
+  left-more : (i : ℕ) (p q : Pen) → i < length rs → q ≡ put-all (with-lf (f i (getD rs i []))) p
+      → put-all (left-from (i + 1)) q ≡ put-all (left-from i) p
   unfolding left-from map-from ended with-lf
   left-more i p q h e =
       ap (put-all (left-from (i + 1))) e
       ∙ sym (all-append (f i (getD rs i []) ++ (LF ∷ [])) (left-from (i + 1)) p)
       ∙ rw (drop-cons rs i [] h, add-one i, append-assoc)
 
-  left-none : (i : ℕ) (p q : Pen) → length rs ≤ i → put-all (left-from i) p ≡ put-all (left-from 0) q → p ≡ put-all (ended (map-from f 0 rs)) q
+  left-none : (i : ℕ) (p q : Pen) → length rs ≤ i → put-all (left-from i) p ≡ put-all (left-from 0) q
+      → p ≡ put-all (ended (map-from f 0 rs)) q
   unfolding left-from map-from ended put-all
   left-none i p q h e = rw (drop-of-length-le rs h) at e
 
-every-from-at : (p : ℕ → List ℤ → Bool) (k : ℕ) (rs : List (List ℤ)) (i : ℕ) → i < length rs → every-from p k rs ≡ true → p (k + i) (getD rs i []) ≡ true
+every-from-at : (p : ℕ → List ℤ → Bool) (k : ℕ) (rs : List (List ℤ)) (i : ℕ) → i < length rs → every-from p k rs ≡ true
+    → p (k + i) (getD rs i []) ≡ true
 unfolding every-from
 every-from-at p k [] i h e = absurd (omega arith)
 every-from-at p k (r ∷ rs) zero h e = let n : k + 0 ≡ k = omega arith in rw n (both (p k r) (every-from p (suc k) rs) e .0)
@@ -144,7 +148,8 @@ module _ (k count from size : ℕ) (v : List ℤ) (s : Stated k count from size 
       let t : line-at k i at v ≡ text-of-row (record-by k) i (getD rows i []) = rw (e, row-is i h, s .named, ← (rw y at w)) in
       left-more (text-of-row (record-by k)) rows i p q (omega arith) (f ∙ ap (λ (x : List ℕ). put-all (with-lf x) p) t)
 
-  pub rows-done : (i : ℕ) (p q : Pen) → count ≤ i → put-all (lines-from i) p ≡ put-all (lines-from 0) q → p ≡ put-all (ended (map-from (text-of-row (record-by k)) 0 rows)) q
+  pub rows-done : (i : ℕ) (p q : Pen) → count ≤ i → put-all (lines-from i) p ≡ put-all (lines-from 0) q
+      → p ≡ put-all (ended (map-from (text-of-row (record-by k)) 0 rows)) q
   rows-done i p q h e = let l = length-chunks count size (drop from v) in left-none (text-of-row (record-by k)) rows i p q (omega arith) e
 
   pub next-near : (i at : ℕ) → i < count → at ≡ from + i * size → at + size ≤ NOWHERE
@@ -171,31 +176,56 @@ module _ (v : List ℤ) (keeps : rule-0 v ≡ true) (n : ℕ) where
   unfolding rows-of record-by var-statable
   vars-stated e =
       let f = size-few VARIABLES (num v 1) in
-      record { named = refl; sized = refl; few = rw e f; fit = rw e (every-placed var-statable 0 (rows-of v .vars) (value-shaped v keeps .vars .ok)); near = omega arith }
+      record {
+        named = refl;
+        sized = refl;
+        few = rw e f;
+        fit = rw e (every-placed var-statable 0 (rows-of v .vars) (value-shaped v keeps .vars .ok));
+        near = omega arith;
+      }
 
   pub transitions-stated : n ≡ size-by TRANSITIONS (num v 3) → Stated 84 n TRANSITIONS-AT TRANS-ROW v
   unfolding rows-of record-by trans-statable
   transitions-stated e =
       let f = size-few TRANSITIONS (num v 3) in
-      record { named = refl; sized = refl; few = rw e f; fit = rw e (every-placed trans-statable 0 (rows-of v .transitions) (value-shaped v keeps .transitions .ok)); near = omega arith }
+      record {
+        named = refl;
+        sized = refl;
+        few = rw e f;
+        fit = rw e (every-placed trans-statable 0 (rows-of v .transitions) (value-shaped v keeps .transitions .ok));
+        near = omega arith;
+      }
 
   pub actions-stated : n ≡ size-by ACTIONS (num v 4) → Stated 65 n ACTIONS-AT ACT-ROW v
   unfolding rows-of record-by action-statable
   actions-stated e =
       let f = size-few ACTIONS (num v 4) in
-      record { named = refl; sized = refl; few = rw e f; fit = rw e (every-placed action-statable 0 (rows-of v .actions) (value-shaped v keeps .actions .ok)); near = omega arith }
+      record {
+        named = refl;
+        sized = refl;
+        few = rw e f;
+        fit = rw e (every-placed action-statable 0 (rows-of v .actions) (value-shaped v keeps .actions .ok));
+        near = omega arith;
+      }
 
 pub events-stated : (v : List ℤ) → rule-0 v ≡ true → Stated 69 1 2 1 v
 unfolding rows-of record-by chunks every-from
 events-stated v keeps =
-    record { named = refl; sized = refl; few = omega arith; fit = rw (num-first 1 2 v (omega arith), value-shaped v keeps .events); near = omega arith }
+    record {
+      named = refl;
+      sized = refl;
+      few = omega arith;
+      fit = rw (num-first 1 2 v (omega arith), value-shaped v keeps .events);
+      near = omega arith;
+    }
 
 -- ---- all kinds together
 
 put-behind : (xs ys : List ℕ) (p q : Pen) → q ≡ put-all xs p → put-all ys q ≡ put-all (xs ++ ys) p
 put-behind xs ys p q e = ap (put-all ys) e ∙ sym (all-append xs ys p)
 
-kinds-put : (ss vs es ts qs : List (List ℕ)) (p p0 p1 p2 p3 r : Pen) → p0 ≡ put-all (ended ss) p → p1 ≡ put-all (ended vs) p0 → p2 ≡ put-all (ended es) p1
+kinds-put : (ss vs es ts qs : List (List ℕ)) (p p0 p1 p2 p3 r : Pen) → p0 ≡ put-all (ended ss) p → p1 ≡ put-all (ended vs) p0
+    → p2 ≡ put-all (ended es) p1
     → p3 ≡ put-all (ended ts) p2 → r ≡ put-all (ended qs) p3 → r ≡ put-all (ended (ss ++ (vs ++ (es ++ (ts ++ qs))))) p
 kinds-put ss vs es ts qs p p0 p1 p2 p3 r e0 e1 e2 e3 e =
     e
@@ -204,7 +234,13 @@ kinds-put ss vs es ts qs p p0 p1 p2 p3 r e0 e1 e2 e3 e =
     ∙ put-behind (ended vs) (ended es ++ (ended ts ++ ended qs)) p0 p1 e1
     ∙ put-behind (ended ss) (ended vs ++ (ended es ++ (ended ts ++ ended qs))) p p0 e0
     ∙ ap (λ (l : List ℕ). put-all l p)
-    (sym (rw (ended-append ss (vs ++ (es ++ (ts ++ qs))), ended-append vs (es ++ (ts ++ qs)), ended-append es (ts ++ qs), ended-append ts qs)))
+    (sym (rw (
+      ended-append ss (vs ++ (es ++ (ts ++ qs))),
+      ended-append vs (es ++ (ts ++ qs)),
+      ended-append es (ts ++ qs),
+      ended-append ts
+          qs,
+    )))
 
 -- the lines of one kind
 abbrev lines-of : ℕ → ℕ → ℕ → ℕ → List ℤ → List (List ℕ)
@@ -214,12 +250,15 @@ events-line : (v : List ℤ) → lines-of 69 1 2 1 v ≡ text-of-row e-record 0 
 unfolding rows-of record-by chunks map-from text-of-row write-by write-field
 events-line v = rw (num-first 1 2 v (omega arith))
 
-pub chart-put : (v : List ℤ) (s w t a : ℕ) → s ≡ size-by STATES (num v 0) → w ≡ size-by VARIABLES (num v 1) → t ≡ size-by TRANSITIONS (num v 3) → a ≡ size-by ACTIONS (num v 4)
-    → (p p0 p1 p2 p3 r : Pen) → p0 ≡ put-all (ended (lines-of 83 s STATES-AT STATE-ROW v)) p → p1 ≡ put-all (ended (lines-of 86 w VARS-AT VAR-ROW v)) p0
+pub chart-put : (v : List ℤ) (s w t a : ℕ) → s ≡ size-by STATES (num v 0) → w ≡ size-by VARIABLES (num v 1)
+    → t ≡ size-by TRANSITIONS (num v 3) → a ≡ size-by ACTIONS (num v 4)
+    → (p p0 p1 p2 p3 r : Pen) → p0 ≡ put-all (ended (lines-of 83 s STATES-AT STATE-ROW v)) p
+    → p1 ≡ put-all (ended (lines-of 86 w VARS-AT VAR-ROW v)) p0
     → p2 ≡ put-all (ended (lines-of 69 1 2 1 v)) p1 → p3 ≡ put-all (ended (lines-of 84 t TRANSITIONS-AT TRANS-ROW v)) p2
     → r ≡ put-all (ended (lines-of 65 a ACTIONS-AT ACT-ROW v)) p3 → r ≡ put-all (text-of v) p
 unfolding text-of text-by rows-of record-by
 chart-put v s w t a es ew et ea p p0 p1 p2 p3 r e0 e1 e2 e3 e =
-    kinds-put (lines-of 83 s STATES-AT STATE-ROW v) (lines-of 86 w VARS-AT VAR-ROW v) (lines-of 69 1 2 1 v) (lines-of 84 t TRANSITIONS-AT TRANS-ROW v)
+    kinds-put (lines-of 83 s STATES-AT STATE-ROW v) (lines-of 86 w VARS-AT VAR-ROW v) (lines-of 69 1 2 1 v)
+    (lines-of 84 t TRANSITIONS-AT TRANS-ROW v)
     (lines-of 65 a ACTIONS-AT ACT-ROW v) p p0 p1 p2 p3 r e0 e1 e2 e3 e
     ∙ rw (es, ew, et, ea, events-line v)

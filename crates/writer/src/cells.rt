@@ -57,7 +57,8 @@ pub fn tells(field: u8, z: i32) -> bool
 // What a field says of record n, from the chart's numbers at a place on.
 fn put_said(chart: &[i32], at: usize, field: u8, n: usize, text: &mut [u8], p: usize) -> usize
     requires { ⌜ (fits-field (field-of field) at (now chart) ≡ true) × (at + 1 < NOWHERE) ⌝ }
-    ensures { λ r. ⌜ pen (now (text .exit)) r ≡ put-all (write-field (field-of field) n at (now (chart .entry))) (pen (now (text .entry)) p) ⌝ }
+    ensures { λ r. ⌜ pen (now (text .exit)) r
+        ≡ put-all (write-field (field-of field) n at (now (chart .entry))) (pen (now (text .entry)) p) ⌝ }
 {
     match field {
         TURN => put_digits(text, p, n),
@@ -77,7 +78,8 @@ fn put_said(chart: &[i32], at: usize, field: u8, n: usize, text: &mut [u8], p: u
 // A tab, and the field.
 pub fn put_field(chart: &[i32], at: usize, field: u8, n: usize, text: &mut [u8], p: usize) -> usize
     requires { ⌜ (fits-field (field-of field) at (now chart) ≡ true) × (at + 1 < NOWHERE) ⌝ }
-    ensures { λ r. ⌜ pen (now (text .exit)) r ≡ put-all (Tab ∷ write-field (field-of field) n at (now (chart .entry))) (pen (now (text .entry)) p) ⌝ }
+    ensures { λ r. ⌜ pen (now (text .exit)) r
+        ≡ put-all (Tab ∷ write-field (field-of field) n at (now (chart .entry))) (pen (now (text .entry)) p) ⌝ }
 {
     let q = put(text, p, TAB);
     put_said(chart, at, field, n, text, q)

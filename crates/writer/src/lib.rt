@@ -26,7 +26,8 @@ pub fn clear(text: &mut [u8])
 // The text of a chart that passes the rules; 13 where it is longer than the slice.
 pub fn write_passed(chart: &[i32], text: &mut [u8]) -> Written
     requires { ⌜ failing-rule-of (now chart) ≡ none ⌝ }
-    ensures { λ r. ⌜ (r ≡ written (now (chart .entry)) (length (now (text .entry)))) × (now (text .exit) ≡ lent-bytes (length (now (text .entry))) (written-out (now (chart .entry)) (length (now (text .entry))))) ⌝ }
+    ensures { λ r. ⌜ (r ≡ written (now (chart .entry)) (length (now (text .entry))))
+        × (now (text .exit) ≡ lent-bytes (length (now (text .entry))) (written-out (now (chart .entry)) (length (now (text .entry))))) ⌝ }
 {
     clear(text);
     let end = rows::put_chart(chart, text);

@@ -46,7 +46,8 @@ const LF: u8 = 10;
 // The fields of record n of the kind that a letter names, each with a tab in front: its row stands from a place on.
 fn put_fields(chart: &[i32], from: usize, kind: u8, n: usize, text: &mut [u8], p: usize) -> usize
     requires { ⌜ Statable kind n from (now chart) ⌝ }
-    ensures { λ r. ⌜ pen (now (text .exit)) r ≡ put-all (tails TAB (write-by (form (record-by kind) n) n from (now (chart .entry)))) (pen (now (text .entry)) p) ⌝ }
+    ensures { λ r. ⌜ pen (now (text .exit)) r
+        ≡ put-all (tails TAB (write-by (form (record-by kind) n) n from (now (chart .entry)))) (pen (now (text .entry)) p) ⌝ }
 {
     let mut at = from;
     let mut i = entry(kind, n);
@@ -92,7 +93,9 @@ fn put_rows(
     p: usize,
 ) -> usize
     requires { ⌜ Stated kind count from size (now chart) ⌝ }
-    ensures { λ r. ⌜ pen (now (text .exit)) r ≡ put-all (ended (map-from (text-of-row (record-by kind)) 0 (chunks count size (drop from (now (chart .entry)))))) (pen (now (text .entry)) p) ⌝ }
+    ensures { λ r. ⌜ pen (now (text .exit)) r
+        ≡ put-all (ended (map-from (text-of-row (record-by kind)) 0 (chunks count size (drop from (now (chart .entry))))))
+        (pen (now (text .entry)) p) ⌝ }
 {
     let mut q = p;
     let mut at = from;

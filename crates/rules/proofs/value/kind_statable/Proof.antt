@@ -17,10 +17,14 @@ abbrev μ-loop : tie.MeasureT-loop
 μ-loop chart kind count i₀ i = count - i
 
 returns : tie.Need-returns Inv-loop μ-loop
-returns c = row-stops _ _ _ _ _ (c .before .before .loop-test .taken) (c .before .row-statable .ensures) (c .if1 .taken) (c .before .before .before .loop .inv)
+returns c =
+    row-stops _ _ _ _ _ (c .before .before .loop-test .taken) (c .before .row-statable .ensures) (c .if1 .taken)
+    (c .before .before .before .loop .inv)
 
 loop-again : tie.Need-loop-again Inv-loop μ-loop
-loop-again c = row-goes _ _ _ _ _ (c .before .before .loop-test .taken) (c .before .row-statable .ensures) (c .if1 .left) (c .before .before .before .loop .inv)
+loop-again c =
+    row-goes _ _ _ _ _ (c .before .before .loop-test .taken) (c .before .row-statable .ensures) (c .if1 .left)
+    (c .before .before .before .loop .inv)
 
 pub kind-statable-spec : {M : Type 1} → statement M
 kind-statable-spec =

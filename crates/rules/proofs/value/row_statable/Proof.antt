@@ -4,7 +4,8 @@ use Rattle.rules.proofs.value.row_statable.Statement.{statement}
 use Rattle.rules.proofs.value.row_statable.Tie as tie
 
 action-statable-requires : tie.Need-action-statable-requires
-action-statable-requires c κs = let r = c .match .rest in asks-action _ _ (c .before .args .chart .now) (r .0 .0 .1) (r .0 .1) (r .1) (c .before .pre)
+action-statable-requires c κs =
+    let r = c .match .rest in asks-action _ _ (c .before .args .chart .now) (r .0 .0 .1) (r .0 .1) (r .1) (c .before .pre)
 
 returns-4 : tie.Need-returns-4
 returns-4 c = let r = c .before .match .rest in says-action _ _ _ (r .0 .0 .1) (r .0 .1) (r .1) (c .action-statable .ensures)

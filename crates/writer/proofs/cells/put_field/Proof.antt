@@ -8,4 +8,5 @@ returns : tie.Need-returns
 returns c = field-put _ _ _ _ (c .before .before .before .before .before .before .put .ensures) (c .before .before .put-said .ensures)
 
 pub put-field-spec : {M : Type 1} → statement M
-put-field-spec = tie.close (tie.spec (λ c κs. search needs) (λ c κs. search needs) (λ c. search needs) returns)
+put-field-spec =
+    tie.close (tie.spec (λ c κs. search needs) (λ c κs. search needs) (λ c. search needs) returns)

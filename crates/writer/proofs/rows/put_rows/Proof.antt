@@ -21,22 +21,34 @@ Inv-loop chart kind count from size text₀ p q₀ at₀ n₀ text q at n =
 abbrev μ-loop : tie.MeasureT-loop
 μ-loop chart kind count from size text₀ p q₀ at₀ n₀ text q at n = count - n
 
+abbrev in-loop-from-slice-known2 : tie.After-slice-known2 Inv-loop μ-loop → tie.In-loop Inv-loop μ-loop
+in-loop-from-slice-known2 c = c .before .before .before .before
+
+abbrev at-loop-from-slice-known2 : tie.After-slice-known2 Inv-loop μ-loop → tie.At-loop Inv-loop μ-loop
+at-loop-from-slice-known2 c = in-loop-from-slice-known2 c .before
+
+abbrev start-from-slice-known2 : tie.After-slice-known2 Inv-loop μ-loop → tie.Start Inv-loop μ-loop
+start-from-slice-known2 c = at-loop-from-slice-known2 c .before .before
+
 loop-holds : tie.Need-loop-holds Inv-loop μ-loop
 loop-holds c = (refl, omega arith, omega arith, refl)
 
 put-line-requires : tie.Need-put-line-requires Inv-loop μ-loop
-put-line-requires c κs = row-statable _ _ _ _ _ (c .before .before .before .before .pre) _ _ (c .before .loop-test .taken) (c .before .before .loop .inv .1)
+put-line-requires c κs =
+    row-statable _ _ _ _ _ (c .before .before .before .before .pre) _ _ (c .before .loop-test .taken)
+    (c .before .before .loop .inv .1)
 
 add-at : tie.Need-add-at Inv-loop μ-loop
 add-at c =
-    let s = next-near _ _ _ _ _ (c .before .before .before .before .before .before .before .pre) _ _ (c .before .before .before .before .loop-test .taken) (c .before .before .before .before .before .loop .inv .1) in omega arith
+    let s = next-near _ _ _ _ _ (start-from-slice-known2 c .pre) _ _
+    (in-loop-from-slice-known2 c .loop-test .taken) (at-loop-from-slice-known2 c .loop .inv .1) in omega arith
 
 loop-again : tie.Need-loop-again Inv-loop μ-loop
 loop-again c =
-    let w = c .before .before .before .before .before .loop .inv in
-    let h = c .before .before .before .before .loop-test .taken in
-    let k = next-row _ _ _ _ _ (c .before .before .before .before .before .before .before .pre) (c .before .before .before .before .before .loop .n) in (
-      row-more _ _ _ _ _ (c .before .before .before .before .before .before .before .pre) _ _ _ _ h (w .1) (c .before .before .put-line .ensures) ∙ w .0,
+    let w = at-loop-from-slice-known2 c .loop .inv in
+    let h = in-loop-from-slice-known2 c .loop-test .taken in
+    let k = next-row _ _ _ _ _ (start-from-slice-known2 c .pre) (at-loop-from-slice-known2 c .loop .n) in (
+      row-more _ _ _ _ _ (start-from-slice-known2 c .pre) _ _ _ _ h (w .1) (c .before .before .put-line .ensures) ∙ w .0,
       omega arith,
       omega arith,
       search needs,
@@ -47,5 +59,5 @@ returns c = rows-done _ _ _ _ _ (c .before .before .before .pre) _ _ _ (c .loop-
 
 pub put-rows-spec : {M : Type 1} → statement M
 put-rows-spec =
-    tie.close
-    (tie.spec Inv-loop μ-loop loop-holds put-line-requires add-at (λ c. search needs) (λ c. search needs) loop-again (λ c. search needs) returns)
+    tie.close (tie.spec Inv-loop μ-loop loop-holds put-line-requires add-at (λ c. search needs)
+    (λ c. search needs) loop-again (λ c. search needs) returns)
