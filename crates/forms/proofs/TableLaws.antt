@@ -129,6 +129,11 @@ pub code-ko : field-of 107 ≡ letter (bytes "ko")
 unfolding field-of
 code-ko = refl
 
+-- one fact and another
+pub _also_ : {A B : Type 0} → A → B → A × B
+a also b = (a, b)
+
+infixr 40 _also_
 -- what holds of the field of each code that k may be holds of the field of k
 abbrev Each : (Field → Type 0) → ℕ → List (ℕ × Field) → Type 0
 Each P k [] = P (letter [])
@@ -178,82 +183,18 @@ module _ (k : ℕ) where
 
 module _ (k : ℕ) (turn-not : k ≡ 110 → ⊥) (state-not : k ≡ 115 → ⊥) (history-not : k ≡ 104 → ⊥) (place-not : k ≡ 95 → ⊥) where
   pub width-one : 1 ≡ width (field-of k)
-  width-one = each-code (λ x. 1 ≡ width x) k (
-    λ e. absurd (turn-not e),
-    (
-      λ _. refl,
-      (
-        λ _. refl,
-        (
-          λ e. absurd (state-not e),
-          (
-            λ e. absurd (history-not e),
-            (
-              λ e. absurd (place-not e),
-              (
-                λ _. refl,
-                (
-                  λ _. refl,
-                  (
-                    λ _. refl,
-                    (
-                      λ _. refl,
-                      (
-                        λ _. refl,
-                        (
-                          λ _. refl,
-                          (
-                            λ _. refl,
-                            refl,
-                          ),
-                        ),
-                      ),
-                    ),
-                  ),
-                ),
-              ),
-            ),
-          ),
-        ),
-      ),
-    ),
-  )
+  width-one = each-code (λ x. 1 ≡ width x) k
+      ((λ e. absurd (turn-not e)) also (λ _. refl) also (λ _. refl) also (λ e. absurd (state-not e))
+      also (λ e. absurd (history-not e)) also (λ e. absurd (place-not e)) also (λ _. refl) also (λ _. refl) also (λ _. refl)
+      also (λ _. refl) also (λ _. refl) also (λ _. refl) also (λ _. refl) also refl)
 
   pub letters-else : (k ≡ 35 → ⊥) → (k ≡ 99 → ⊥) → (k ≡ 45 → ⊥) → Letters (field-of k)
-  letters-else number-not count-not dash-not = each-code Letters k (
-    λ e. absurd (turn-not e),
-    (
-      λ e. absurd (number-not e),
-      (
-        λ e. absurd (dash-not e),
-        (
-          λ e. absurd (state-not e),
-          (
-            λ e. absurd (history-not e),
-            (
-              λ e. absurd (place-not e),
-              (
-                λ e. absurd (count-not e),
-                (
-                  λ _. one-of (bytes "o") refl,
-                  (
-                    λ _. one-of (bytes "ab") refl,
-                    (
-                      λ _. one-of (bytes "=<>") refl,
-                      (
-                        λ _. one-of (bytes "exdt") refl,
-                        (λ _. one-of (bytes "saq") refl, (λ _. one-of (bytes "ko") refl, one-of [] refl)),
-                      ),
-                    ),
-                  ),
-                ),
-              ),
-            ),
-          ),
-        ),
-      ),
-    ),
-  )
+  letters-else number-not count-not dash-not = each-code Letters k
+      ((λ e. absurd (turn-not e)) also (λ e. absurd (number-not e)) also (λ e. absurd (dash-not e))
+      also (λ e. absurd (state-not e)) also (λ e. absurd (history-not e)) also (λ e. absurd (place-not e))
+      also (λ e. absurd (count-not e)) also (λ _. one-of (bytes "o") refl) also (λ _. one-of (bytes "ab") refl)
+      also (λ _. one-of (bytes "=<>") refl) also (λ _. one-of (bytes "exdt") refl) also (λ _. one-of (bytes "saq") refl)
+      also (λ _. one-of (bytes "ko") refl) also one-of [] refl)
 
 pub has-byte : (k : ℕ) (ls : List ℕ) → all-bytes ls ≡ true → has k ls ≡ true → k < 256
 unfolding has

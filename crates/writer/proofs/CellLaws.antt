@@ -11,7 +11,7 @@ use Rattle.meaning.specs.Number.{digits, numeral}
 use Rattle.meaning.specs.Split.{TAB}
 use Rattle.meaning.specs.Line.{write-field}
 use Rattle.forms.specs.Table.{field-of}
-use Rattle.forms.proofs.TableLaws.{Letters, letters-else, has-byte, each-code}
+use Rattle.forms.proofs.TableLaws.{Letters, letters-else, has-byte, _also_, each-code}
 use Rattle.round_trip.proofs.Fields.{letter-is, tells}
 use Rattle.pen.specs.Pen.{Pen, put-byte, put-all}
 
@@ -39,43 +39,10 @@ module _ (k : ℕ) (z : ℤ) where
       → (k ≡ 113 → ⊥) → (k ≡ 107 → ⊥)
       → false ≡ tells (field-of k) z
   unfolding tells
-  tells-none dash history place o ab sign owner saq ko = each-code (λ x. false ≡ tells x z) k (
-    λ _. refl,
-    (
-      λ _. refl,
-      (
-        λ e. absurd (dash e),
-        (
-          λ _. refl,
-          (
-            λ e. absurd (history e),
-            (
-              λ e. absurd (place e),
-              (
-                λ _. refl,
-                (
-                  λ e. absurd (o e),
-                  (
-                    λ e. absurd (ab e),
-                    (
-                      λ e. absurd (sign e),
-                      (
-                        λ e. absurd (owner e),
-                        (
-                          λ e. absurd (saq e),
-                          (λ e. absurd (ko e), refl),
-                        ),
-                      ),
-                    ),
-                  ),
-                ),
-              ),
-            ),
-          ),
-        ),
-      ),
-    ),
-  )
+  tells-none dash history place o ab sign owner saq ko = each-code (λ x. false ≡ tells x z) k
+      ((λ _. refl) also (λ _. refl) also (λ e. absurd (dash e)) also (λ _. refl) also (λ e. absurd (history e))
+      also (λ e. absurd (place e)) also (λ _. refl) also (λ e. absurd (o e)) also (λ e. absurd (ab e)) also (λ e. absurd (sign e))
+      also (λ e. absurd (owner e)) also (λ e. absurd (saq e)) also (λ e. absurd (ko e)) also refl)
 
 -- ---- what a field says
 
