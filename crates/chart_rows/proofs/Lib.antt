@@ -1,3 +1,4 @@
 pub mod Said
 pub mod Rows
 pub mod Climb
+pub mod Letters

@@ -9,7 +9,7 @@ use meaning::chart::Target;
 use numbers::reference;
 use numbers::same;
 ghost use mathlib.Core.Path.{_≡_};
-ghost use Rattle.meaning.specs.Value.{is-letter, is-absent, ref-or-none, kind-by, guard-by, target-by, owner-by, act-by};
+ghost use Rattle.meaning.specs.Value.{is-letter, is-absent, one-of-letters, ref-or-none, kind-by, guard-by, target-by, owner-by, act-by};
 
 // "-" as a number of the value: no number that a text can state.
 pub const ABSENT: i32 = -2147483648;
@@ -26,6 +26,20 @@ pub fn is_absent(z: i32) -> bool
     ensures { λ r. ⌜ r ≡ is-absent z ⌝ }
 {
     same(z, ABSENT)
+}
+
+// Is the number one of these letters?
+pub fn one_of_letters(letters: &[u8], z: i32) -> bool
+    ensures { λ r. ⌜ r ≡ one-of-letters (now (letters .entry)) z ⌝ }
+{
+    let mut i = 0;
+    while i < letters.len() {
+        if is_letter(letters[i], z) {
+            return true;
+        }
+        i += 1;
+    }
+    false
 }
 
 // A reference, 0 where it is absent.

@@ -45,7 +45,7 @@ pub fn number_at(chart: &[i32], i: usize) -> i32
 }
 
 // The count at i, 0 where it does not keep its size.
-fn count_at(chart: &[i32], i: usize, most: usize) -> usize
+pub fn count_at(chart: &[i32], i: usize, most: usize) -> usize
     ensures { λ r. ⌜ r ≡ size-by most (getD (now (chart .entry)) i (pos 0)) ⌝ }
 {
     let n = numbers::reference(number_at(chart, i));

@@ -150,7 +150,8 @@ module _ (s : List ℕ) (a e : ℕ) where
   history-empty z = rw (z, slice-empty)
 
   module _ (k : a < e) (t : e ≤ length s) where
-    pub history-is : getD s a 0 ≡ 104 → (v : Num) (l : Line) → v ≡ number-of (slice (a + 1) e s) → l ≡ number-line (pos 104 ∷ []) v → l ≡ read-field history 0 (slice a e s)
+    pub history-is : getD s a 0 ≡ 104 → (v : Num) (l : Line) → v ≡ number-of (slice (a + 1) e s) → l ≡ number-line (pos 104 ∷ []) v
+        → l ≡ read-field history 0 (slice a e s)
     unfolding read-field
     history-is b v l n g = rw (slice-cons a e s 0 k t, b, g, n, add-one)
 
@@ -159,30 +160,6 @@ module _ (s : List ℕ) (a e : ℕ) where
     history-not b = rw (slice-cons a e s 0 k t, ne-eqb (getD s a 0) 104 b)
 
 -- ---- a field by its code
-
-pub code-o : field-of 111 ≡ letter (bytes "o")
-unfolding field-of
-code-o = refl
-
-pub code-ab : field-of 98 ≡ letter (bytes "ab")
-unfolding field-of
-code-ab = refl
-
-pub code-sign : field-of 61 ≡ letter (bytes "=<>")
-unfolding field-of
-code-sign = refl
-
-pub code-owner : field-of 119 ≡ letter (bytes "exdt")
-unfolding field-of
-code-owner = refl
-
-pub code-saq : field-of 113 ≡ letter (bytes "saq")
-unfolding field-of
-code-saq = refl
-
-pub code-ko : field-of 107 ≡ letter (bytes "ko")
-unfolding field-of
-code-ko = refl
 
 module _ (k n : ℕ) (x : List ℕ) (l : Line) where
   module _ (v : Num) (ev : v ≡ number-of x) where
@@ -215,12 +192,14 @@ module _ (k n : ℕ) (x : List ℕ) (l : Line) where
     unfolding read-field field-of
     said-in-place e el = rw (e, el, eb)
 
-    pub said-letter : (m : ℕ) (ls : List ℕ) → k ≡ m → field-of m ≡ letter ls → l ≡ right-if (has b ls) (pos b ∷ []) → l ≡ read-field (field-of k) n x
+    pub said-letter : (m : ℕ) (ls : List ℕ) → k ≡ m → field-of m ≡ letter ls → l ≡ right-if (has b ls) (pos b ∷ [])
+        → l ≡ read-field (field-of k) n x
     unfolding read-field
     said-letter m ls e f el = rw (e, f, el, eb)
 
   pub said-none : (k ≡ 110 → ⊥) → (k ≡ 35 → ⊥) → (k ≡ 45 → ⊥) → (k ≡ 115 → ⊥) → (k ≡ 104 → ⊥) → (k ≡ 95 → ⊥) → (k ≡ 99 → ⊥)
-      → (k ≡ 111 → ⊥) → (k ≡ 98 → ⊥) → (k ≡ 61 → ⊥) → (k ≡ 119 → ⊥) → (k ≡ 113 → ⊥) → (k ≡ 107 → ⊥) → l ≡ wrong → l ≡ read-field (field-of k) n x
+      → (k ≡ 111 → ⊥) → (k ≡ 98 → ⊥) → (k ≡ 61 → ⊥) → (k ≡ 119 → ⊥) → (k ≡ 113 → ⊥) → (k ≡ 107 → ⊥) → l ≡ wrong
+      → l ≡ read-field (field-of k) n x
   unfolding read-field field-of has
   said-none h0 h1 h2 h3 h4 h5 h6 h7 h8 h9 h10 h11 h12 el =
       rw (

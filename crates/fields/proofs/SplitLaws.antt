@@ -54,12 +54,20 @@ module _ (sep : ℕ) (s : List ℕ) (from to i : ℕ) where
 pub sought-start : (sep : ℕ) (s : List ℕ) (from to : ℕ) → from ≤ to → Sought sep s from to from
 sought-start sep s from to h = record { low = omega arith; high = h; so-far = rw slice-empty }
 
-pub sought-more : (sep : ℕ) (s : List ℕ) (from to i : ℕ) → Sought sep s from to i → to ≤ length s → i < to → (getD s i 0 ≡ sep → ⊥) → Sought sep s from to (i + 1)
+pub sought-more : (sep : ℕ) (s : List ℕ) (from to i : ℕ) → Sought sep s from to i → to ≤ length s → i < to → (getD s i 0 ≡ sep → ⊥)
+    → Sought sep s from to (i + 1)
 unfolding split
 sought-more sep s from to i q t h n =
     let l : from ≤ i = q .low in
     record {
       low = omega arith;
       high = omega arith;
-      so-far = q .so-far ∙ rw (slice-cons i to s 0 h t, ne-eqb (getD s i 0) sep n, slice-more from i s (q .low) (omega arith), add-one, append-assoc);
+      so-far =
+          q .so-far ∙ rw (
+            slice-cons i to s 0 h t,
+            ne-eqb (getD s i 0) sep n,
+            slice-more from i s (q .low) (omega arith),
+            add-one,
+            append-assoc,
+          );
     }

@@ -23,12 +23,20 @@ unfoldable pub skips : List ℕ
 skips = bytes "002000000200000000000080001010000010100003000000"
 
 -- the field of a code
+abbrev pub codes : List (ℕ × Field)
+codes =
+    (code "n", turn) ∷ (code "#", number) ∷ (code "-", dash) ∷ (code "s", state) ∷ (code "h", history) ∷ (code "_", in-place)
+    ∷ (code "c", count 0 EVENTS)
+    ∷ (code "o", letter (bytes "o")) ∷ (code "b", letter (bytes "ab")) ∷ (code "=", letter (bytes "=<>"))
+    ∷ (code "w", letter (bytes "exdt"))
+    ∷ (code "q", letter (bytes "saq")) ∷ (code "k", letter (bytes "ko")) ∷ []
+
+abbrev pub field-in : List (ℕ × Field) → ℕ → Field
+field-in [] k = letter []
+field-in (c ∷ cs) k = cond (eqb k (c .0)) (c .1) (field-in cs k)
+
 unfoldable pub field-of : ℕ → Field
-field-of k =
-    cond (eqb k (code "n")) turn (cond (eqb k (code "#")) number (cond (eqb k (code "-")) dash (cond (eqb k (code "s")) state (cond (eqb k (code "h")) history
-    (cond (eqb k (code "_")) in-place (cond (eqb k (code "c")) (count 0 EVENTS) (cond (eqb k (code "o")) (letter (bytes "o")) (cond (eqb k (code "b")) (letter (bytes "ab"))
-    (cond (eqb k (code "=")) (letter (bytes "=<>")) (cond (eqb k (code "w")) (letter (bytes "exdt")) (cond (eqb k (code "q")) (letter (bytes "saq"))
-    (cond (eqb k (code "k")) (letter (bytes "ko")) (letter [])))))))))))))
+field-of k = field-in codes k
 
 -- past the table stands a form that no line has
 abbrev pub no-form : Form
@@ -40,7 +48,8 @@ at-entry fs i = getD fs i no-form
 -- the form of an entry, from those behind it
 abbrev pub entry-form : ℕ → ℕ → ℕ → List Form → Form
 entry-form s f k behind =
-    cond (eqb s (code "|")) (at-entry behind 0 or at-entry behind (k - 48)) (cond (eqb s (code ">")) (field-of f then at-entry behind 0) (last (field-of f)))
+    cond (eqb s (code "|")) (at-entry behind 0 or at-entry behind (k - 48))
+    (cond (eqb s (code ">")) (field-of f then at-entry behind 0) (last (field-of f)))
 
 unfoldable pub forms : List ℕ → List ℕ → List ℕ → List Form
 forms [] fs ks = []

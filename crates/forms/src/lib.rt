@@ -3,7 +3,8 @@
 ghost use mathlib.Core.Path.{_≡_};
 ghost use Prim.Native.Nat.{_-_, _<_, _≤_};
 ghost use lib.ListN.{length, getD};
-ghost use Rattle.forms.specs.Table.{ENTRIES as entries, steps, fields, skips};
+ghost use Rattle.meaning.specs.Grammar.{width, form, most, record-by};
+ghost use Rattle.forms.specs.Table.{ENTRIES as entries, steps, fields, skips, field-of, form-at};
 
 // What an entry is.
 pub const OR: u8 = b'|';
@@ -82,4 +83,37 @@ pub fn skip(i: usize) -> usize
     ensures { λ r. ⌜ (r ≡ getD skips i 0 - 48) × (r ≤ entries) ⌝ }
 {
     (at(b"002000000200000000000080001010000010100003000000", i) - 48) as usize
+}
+
+// How many numbers of its row a field takes.
+pub fn width(field: u8) -> usize
+    ensures { λ r. ⌜ (r ≡ width (field-of field)) × (r ≤ 2) ⌝ }
+{
+    match field {
+        TURN => 0,
+        STATE => 2,
+        HISTORY => 2,
+        IN_PLACE => 2,
+        _ => 1,
+    }
+}
+
+// Where the form of record n stands, of the kind that a letter names.
+pub fn entry(kind: u8, n: usize) -> usize
+    requires { ⌜ n < most (record-by kind) ⌝ }
+    ensures { λ r. ⌜ (form-at r ≡ form (record-by kind) n) × (r ≤ entries) ⌝ }
+{
+    match kind {
+        b'S' => {
+            if n == 0 {
+                return ROOT;
+            }
+            OTHER_STATE
+        }
+        b'V' => VARIABLE,
+        b'E' => EVENTS,
+        b'T' => TRANSITION,
+        b'A' => ACTION,
+        _ => ENTRIES,
+    }
 }

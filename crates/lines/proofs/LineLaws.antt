@@ -70,79 +70,90 @@ module _ (i n : ℕ) (fs : List (List ℕ)) (at : ℕ) (xs : List ℤ) where
           rw (choice, o) (rw (f, t .kept d) at u)
 
 -- ---- a field, and what follows
-module _ (i n : ℕ) (h : i < ENTRIES) (k f : ℕ) (ek : k ≡ getD steps i 0) (ef : f ≡ getD entry-fields i 0) (s : List ℕ) (from to e at : ℕ) (q : Stop 9 s from to e) (xs : List ℤ) (l : Line) (el : l ≡ read-field (field-of f) n (slice from e s)) where
-  module _ (z : k ≡ 62) where
-    more-form : form-at i ≡ field-of f then form-at (i + 1)
-    more-form = rw ef (form-then i h (sym ek ∙ z))
+module _
+    (i n : ℕ) (h : i < ENTRIES) (k f : ℕ) (ek : k ≡ getD steps i 0) (ef : f ≡ getD entry-fields i 0) (s : List ℕ) (from to e at : ℕ)
+    (q : Stop 9 s from to e) (xs : List ℤ) (l : Line) (el : l ≡ read-field (field-of f) n (slice from e s))
+  where
+    module _ (z : k ≡ 62) where
+      more-form : form-at i ≡ field-of f then form-at (i + 1)
+      more-form = rw ef (form-then i h (sym ek ∙ z))
 
-    pub ends-early : e ≡ to → Taken (read-by (form-at i) n (fields (slice from to s))) at xs 1 xs
-    unfolding read-by
-    ends-early d = wrong-taken (read-by (form-at i) n (fields (slice from to s))) at xs early
-      where
-        early : read-by (form-at i) n (fields (slice from to s)) .mark ≡ 1
-        early = rw (more-form, fields-last s from to e q d) (worse-last (read-field (field-of f) n (slice from e s) .mark) (read-by (form-at (i + 1)) n [] .mark) (no-fields (form-at (i + 1)) n))
-
-    module _ (d : e ≡ to → ⊥) where
-      abbrev more : Line
-      more = read-by (form-at (i + 1)) n (fields (slice (e + 1) to s))
-
-      line-is : read-by (form-at i) n (fields (slice from to s)) ≡ beside l more
+      pub ends-early : e ≡ to → Taken (read-by (form-at i) n (fields (slice from to s))) at xs 1 xs
       unfolding read-by
-      line-is = rw (more-form, fields-more s from to e q d, el)
-
-      pub field-wrong : l .mark ≡ 1 → Taken (read-by (form-at i) n (fields (slice from to s))) at xs 1 xs
-      unfolding worse
-      field-wrong w = rw line-is (wrong-taken (beside l more) at xs mark-one)
+      ends-early d = wrong-taken (read-by (form-at i) n (fields (slice from to s))) at xs early
         where
-          mark-one : worse (l .mark) (more .mark) ≡ 1
-          mark-one = rw w
+          early : read-by (form-at i) n (fields (slice from to s)) .mark ≡ 1
+          early =
+              rw (more-form, fields-last s from to e q d) (worse-last (read-field (field-of f) n (slice from e s) .mark)
+              (read-by (form-at (i + 1)) n [] .mark) (no-fields (form-at (i + 1)) n))
 
-      module _ (w : l .mark ≡ 1 → ⊥) (p m r : ℕ) (ys : List ℤ) (ep : p ≡ length (l .row)) (t : Taken more (at + p) xs m ys) (er : r ≡ worse (l .mark) m) where
-        mark-is : r ≡ worse (l .mark) (more .mark)
-        mark-is = er ∙ ap (worse (l .mark)) (t .took .mark)
+      module _ (d : e ≡ to → ⊥) where
+        abbrev more : Line
+        more = read-by (form-at (i + 1)) n (fields (slice (e + 1) to s))
 
-        pub more-not : (r ≡ 0 → ⊥) → Taken (read-by (form-at i) n (fields (slice from to s))) at xs r ys
-        more-not v = rw line-is (record {
-          took = record { mark = mark-is; row = λ x. absurd (v x); size = t .took .size };
-          kept = λ x. t .kept (worse-one (l .mark) m w (sym er ∙ x));
-        })
+        line-is : read-by (form-at i) n (fields (slice from to s)) ≡ beside l more
+        unfolding read-by
+        line-is = rw (more-form, fields-more s from to e q d, el)
 
-        pub more-put : (zs : List ℤ) → r ≡ 0 → zs ≡ sets ys at (l .row) → Taken (read-by (form-at i) n (fields (slice from to s))) at xs 0 zs
-        more-put zs v g =
-            let b = t .took .row (worse-zero (l .mark) m (sym er ∙ v)) in
-            let y : zs ≡ sets xs at (l .row ++ more .row) = g ∙ ap (λ (x : List ℤ). sets x at (l .row)) b ∙ sets-behind xs (l .row) (more .row) at p ep in
-            rw line-is (record {
-              took = record { mark = sym v ∙ mark-is; row = λ _. y; size = ap length y ∙ length-sets xs at (l .row ++ more .row) };
-              kept = λ x. absurd (omega arith);
+        pub field-wrong : l .mark ≡ 1 → Taken (read-by (form-at i) n (fields (slice from to s))) at xs 1 xs
+        unfolding worse
+        field-wrong w = rw line-is (wrong-taken (beside l more) at xs mark-one)
+          where
+            mark-one : worse (l .mark) (more .mark) ≡ 1
+            mark-one = rw w
+
+        module _
+            (w : l .mark ≡ 1 → ⊥) (p m r : ℕ) (ys : List ℤ) (ep : p ≡ length (l .row)) (t : Taken more (at + p) xs m ys)
+            (er : r ≡ worse (l .mark) m)
+          where
+            mark-is : r ≡ worse (l .mark) (more .mark)
+            mark-is = er ∙ ap (worse (l .mark)) (t .took .mark)
+
+            pub more-not : (r ≡ 0 → ⊥) → Taken (read-by (form-at i) n (fields (slice from to s))) at xs r ys
+            more-not v = rw line-is (record {
+              took = record { mark = mark-is; row = λ x. absurd (v x); size = t .took .size };
+              kept = λ x. t .kept (worse-one (l .mark) m w (sym er ∙ x));
             })
 
-  module _ (z : k ≡ 124 → ⊥) (o : k ≡ 62 → ⊥) where
-    last-form : form-at i ≡ last (field-of f)
-    last-form = rw ef (form-last i h (λ x. z (ek ∙ x)) (λ x. o (ek ∙ x)))
+            pub more-put : (zs : List ℤ) → r ≡ 0 → zs ≡ sets ys at (l .row)
+                → Taken (read-by (form-at i) n (fields (slice from to s))) at xs 0 zs
+            more-put zs v g =
+                let b = t .took .row (worse-zero (l .mark) m (sym er ∙ v)) in
+                let y : zs ≡ sets xs at (l .row ++ more .row) =
+                g ∙ ap (λ (x : List ℤ). sets x at (l .row)) b ∙ sets-behind xs (l .row) (more .row) at p ep in
+                rw line-is (record {
+                  took = record { mark = sym v ∙ mark-is; row = λ _. y; size = ap length y ∙ length-sets xs at (l .row ++ more .row) };
+                  kept = λ x. absurd (omega arith);
+                })
 
-    pub goes-on : (e ≡ to → ⊥) → Taken (read-by (form-at i) n (fields (slice from to s))) at xs 1 xs
-    unfolding read-by fields
-    goes-on d = wrong-taken (read-by (form-at i) n (fields (slice from to s))) at xs late
-      where
-        behind : (l : List ℕ) → read-by (last (field-of f)) n (slice from e s ∷ fields l) .mark ≡ 1
-        behind l = refl
+    module _ (z : k ≡ 124 → ⊥) (o : k ≡ 62 → ⊥) where
+      last-form : form-at i ≡ last (field-of f)
+      last-form = rw ef (form-last i h (λ x. z (ek ∙ x)) (λ x. o (ek ∙ x)))
 
-        late : read-by (form-at i) n (fields (slice from to s)) .mark ≡ 1
-        late = rw (last-form, fields-more s from to e q d) (behind (slice (e + 1) to s))
+      pub goes-on : (e ≡ to → ⊥) → Taken (read-by (form-at i) n (fields (slice from to s))) at xs 1 xs
+      unfolding read-by fields
+      goes-on d = wrong-taken (read-by (form-at i) n (fields (slice from to s))) at xs late
+        where
+          behind : (l : List ℕ) → read-by (last (field-of f)) n (slice from e s ∷ fields l) .mark ≡ 1
+          behind l = refl
 
-    module _ (d : e ≡ to) where
-      last-is : read-by (form-at i) n (fields (slice from to s)) ≡ l
-      unfolding read-by
-      last-is = rw (last-form, fields-last s from to e q d, el)
+          late : read-by (form-at i) n (fields (slice from to s)) .mark ≡ 1
+          late = rw (last-form, fields-more s from to e q d) (behind (slice (e + 1) to s))
 
-      pub last-not : (l .mark ≡ 0 → ⊥) → Taken (read-by (form-at i) n (fields (slice from to s))) at xs (l .mark) xs
-      last-not v = rw last-is (record { took = record { mark = refl; row = λ x. absurd (v x); size = refl }; kept = λ _. refl })
+      module _ (d : e ≡ to) where
+        last-is : read-by (form-at i) n (fields (slice from to s)) ≡ l
+        unfolding read-by
+        last-is = rw (last-form, fields-last s from to e q d, el)
 
-      pub last-put : (zs : List ℤ) → l .mark ≡ 0 → zs ≡ sets xs at (l .row) → Taken (read-by (form-at i) n (fields (slice from to s))) at xs 0 zs
-      last-put zs v g = rw last-is (record {
-        took = record { mark = sym v; row = λ _. g; size = ap length g ∙ length-sets xs at (l .row) };
-        kept = λ x. absurd (omega arith);
-      })
+        pub last-not : (l .mark ≡ 0 → ⊥) → Taken (read-by (form-at i) n (fields (slice from to s))) at xs (l .mark) xs
+        last-not v = rw last-is (record { took = record { mark = refl; row = λ x. absurd (v x); size = refl }; kept = λ _. refl })
+
+        pub last-put : (zs : List ℤ) → l .mark ≡ 0 → zs ≡ sets xs at (l .row)
+            → Taken (read-by (form-at i) n (fields (slice from to s))) at xs 0 zs
+        last-put zs v g = rw last-is (record {
+          took = record { mark = sym v; row = λ _. g; size = ap length g ∙ length-sets xs at (l .row) };
+          kept = λ x. absurd (omega arith);
+        })
 
 -- ---- behind the letter
 module _ (i n most : ℕ) (s : List ℕ) (from to e at : ℕ) (q : Stop 9 s from to e) (xs : List ℤ) where
@@ -155,7 +166,8 @@ module _ (i n most : ℕ) (s : List ℕ) (from to e at : ℕ) (q : Stop 9 s from
       one : whole .mark ≡ 1
       one = rw (fields-last s from to e q d) (worse-last (room n most) (read-by (form-at i) n [] .mark) (no-fields (form-at i) n))
 
-  pub line-took : (e ≡ to → ⊥) → (m r t : ℕ) (ys : List ℤ) → Taken (read-by (form-at i) n (fields (slice (e + 1) to s))) at xs m ys → t ≡ room n most → r ≡ worse t m
+  pub line-took : (e ≡ to → ⊥) → (m r t : ℕ) (ys : List ℤ) → Taken (read-by (form-at i) n (fields (slice (e + 1) to s))) at xs m ys
+      → t ≡ room n most → r ≡ worse t m
       → Took whole at xs r ys
   line-took d m r t ys u et er =
       rw (fields-more s from to e q d) (record {

@@ -79,7 +79,8 @@ module _ (xs : List ℤ) (at w : ℕ) (a b : ℤ) where
   pub put-one : (ys : List ℤ) → w ≡ 1 → ys ≡ set xs at b → ys ≡ sets xs at (numbers-of w a b)
   put-one ys e f = rw (e, f)
 
-  pub put-two : (ys zs : List ℤ) → (w ≡ 0 → ⊥) → (w ≡ 1 → ⊥) → ys ≡ set xs at a → zs ≡ set ys (at + 1) b → zs ≡ sets xs at (numbers-of w a b)
+  pub put-two : (ys zs : List ℤ) → (w ≡ 0 → ⊥) → (w ≡ 1 → ⊥) → ys ≡ set xs at a → zs ≡ set ys (at + 1) b
+      → zs ≡ sets xs at (numbers-of w a b)
   put-two ys zs n m f g = go w n m
     where
       go : (w : ℕ) → (w ≡ 0 → ⊥) → (w ≡ 1 → ⊥) → zs ≡ sets xs at (numbers-of w a b)
@@ -101,7 +102,8 @@ sets-sets xs (a ∷ own) rest i j h =
 
 sets-append : (xs own rest : List ℤ) (i : ℕ) → sets xs i (own ++ rest) ≡ sets (sets xs i own) (i + length own) rest
 sets-append xs [] rest i = let e : i + 0 ≡ i = omega arith in rw e
-sets-append xs (a ∷ own) rest i = let e : i + suc (length own) ≡ suc i + length own = omega arith in rw e (sets-append (set xs i a) own rest (suc i))
+sets-append xs (a ∷ own) rest i =
+    let e : i + suc (length own) ≡ suc i + length own = omega arith in rw e (sets-append (set xs i a) own rest (suc i))
 
 pub sets-behind : (xs own rest : List ℤ) (i k : ℕ) → k ≡ length own → sets (sets xs (i + k) rest) i own ≡ sets xs i (own ++ rest)
 sets-behind xs own rest i k e = rw e (sets-sets xs own rest i (i + length own) (omega arith) ∙ sym (sets-append xs own rest i))

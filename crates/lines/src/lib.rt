@@ -37,7 +37,8 @@ pub fn line_by(
     at: usize,
 ) -> usize
     requires { ⌜ (from ≤ to) × (to ≤ length (now s)) × (at + 2 * (entries - i) ≤ nowhere) ⌝ }
-    ensures { λ r. ⌜ Taken (read-by (form-at i) n (fields (slice from to (now (s .entry))))) at (now (chart .entry)) r (now (chart .exit)) ⌝ }
+    ensures { λ r. ⌜ Taken (read-by (form-at i) n (fields (slice from to (now (s .entry))))) at (now (chart .entry)) r
+        (now (chart .exit)) ⌝ }
 {
     if ENTRIES <= i {
         return 1;
@@ -89,7 +90,8 @@ pub fn line(
     at: usize,
 ) -> usize
     requires { ⌜ (from ≤ to) × (to ≤ length (now s)) × (at + 2 * entries ≤ nowhere) ⌝ }
-    ensures { λ r. ⌜ Took (beside (a-line (room n most) []) (read-by (form-at entry) n (rest-of (fields (slice from to (now (s .entry))))))) at (now (chart .entry)) r (now (chart .exit)) ⌝ }
+    ensures { λ r. ⌜ Took (beside (a-line (room n most) [])
+        (read-by (form-at entry) n (rest-of (fields (slice from to (now (s .entry))))))) at (now (chart .entry)) r (now (chart .exit)) ⌝ }
 {
     let e = stop(s, from, to, TAB);
     if e == to {

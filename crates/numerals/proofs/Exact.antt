@@ -43,7 +43,8 @@ unfolding value exact
 value-exact a [] = capped-at a
 value-exact a (b ∷ bs) = go (byte b) (λ n. value-exact n bs)
   where
-    go : Byte b → ((n : ℕ) → capped (value (min BEYOND n) bs) ≡ capped (exact n bs)) → capped (value (min BEYOND a) (b ∷ bs)) ≡ capped (exact a (b ∷ bs))
+    go : Byte b → ((n : ℕ) → capped (value (min BEYOND n) bs) ≡ capped (exact n bs))
+        → capped (value (min BEYOND a) (b ∷ bs)) ≡ capped (exact a (b ∷ bs))
     go (Byte.digit p q) ih =
         let k : min BEYOND (min BEYOND a * 10 + (b - 48)) ≡ min BEYOND (a * 10 + (b - 48)) = omega arith in
         rw (le-ltb b 48 p, le-ltb 57 b q, k) (ih (a * 10 + (b - 48)))

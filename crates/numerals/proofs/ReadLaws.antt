@@ -46,7 +46,8 @@ module _ (s : List ℕ) (i to n : ℕ) where
     unfolding capped
     val-high p = rw (slice-cons i to s 0 h k, value-high n (getD s i 0) (slice (suc i) to s) p)
 
-    pub val-more : (m : ℕ) → 48 ≤ getD s i 0 → getD s i 0 ≤ 57 → m ≡ min BEYOND (n * 10 + (getD s i 0 - 48)) → value m (slice (i + 1) to s) ≡ value n (slice i to s)
+    pub val-more : (m : ℕ) → 48 ≤ getD s i 0 → getD s i 0 ≤ 57 → m ≡ min BEYOND (n * 10 + (getD s i 0 - 48))
+        → value m (slice (i + 1) to s) ≡ value n (slice i to s)
     val-more m p q e = rw (add-one, e, slice-cons i to s 0 h k, value-digit n (getD s i 0) (slice (suc i) to s) p q)
 
 pub capped-is : (n : ℕ) → n < BEYOND → nat.Is n ≡ capped (some n)

@@ -114,7 +114,8 @@ all-over [] l n h = omega arith
 all-over (b ∷ bs) l n h = go (ltb n (length l)) refl (λ m k. all-over bs m (n + 1) k) (λ k. all-over bs l (length l + 1) k)
   where
     go : (t : Bool) → ltb n (length l) ≡ t → ((m : List ℕ) → length m < n + 1 + length bs → length m < put-all bs (pen m (n + 1)) .at)
-        → (length l < length l + 1 + length bs → length l < put-all bs (pen l (length l + 1)) .at) → length l < put-all bs (put-if t b (pen l n)) .at
+        → (length l < length l + 1 + length bs → length l < put-all bs (pen l (length l + 1)) .at)
+        → length l < put-all bs (put-if t b (pen l n)) .at
     go true e f g =
         let s : length (set l n b) ≡ length l = length-set l n b in
         let k = f (set l n b) (rw s (omega arith)) in

@@ -34,7 +34,8 @@ module _ (z w : ℤ) (f : mag z < 2 ^ 31) (e : w ≡ z) where
     neg-back : toZ w64 (ofZ w64 (pos 0 -ℤ toZ w64 (ofZ w64 w))) ≡ pos (natAbs z)
     neg-back = rw is-neg (back64 (pos (natAbs z)) (omega (arith, size-small z f)))
 
-    pub neg-cast : T (nonNeg (toZ w64 (ofZ w64 (pos 0 -ℤ toZ w64 (ofZ w64 w))))) × Fits w64 (natAbs (toZ w64 (ofZ w64 (pos 0 -ℤ toZ w64 (ofZ w64 w)))))
+    pub neg-cast : T (nonNeg (toZ w64 (ofZ w64 (pos 0 -ℤ toZ w64 (ofZ w64 w)))))
+        × Fits w64 (natAbs (toZ w64 (ofZ w64 (pos 0 -ℤ toZ w64 (ofZ w64 w)))))
     neg-cast = rw neg-back (tt, record { fits = omega (arith, size-small z f) })
 
     pub neg-size : natAbs (toZ w64 (ofZ w64 (pos 0 -ℤ toZ w64 (ofZ w64 w)))) ≡ natAbs z

@@ -10,7 +10,8 @@ use lib.Seq.{take-at, drop-at}
 use borrow.Author.Tests.{le-leb}
 use Rattle.sizes.specs.Sizes.{STATES, VARIABLES, TRANSITIONS, ACTIONS}
 use Rattle.meaning.specs.Lists.{chunks, padded}
-use Rattle.meaning.specs.Value.{Rows, rows-of, size-by, VALUE, STATES-AT, STATE-ROW, VARS-AT, VAR-ROW, TRANSITIONS-AT, TRANS-ROW, ACTIONS-AT, ACT-ROW}
+use Rattle.meaning.specs.Value.{Rows, rows-of, size-by, VALUE, STATES-AT, STATE-ROW, VARS-AT, VAR-ROW, TRANSITIONS-AT, TRANS-ROW}
+use Rattle.meaning.specs.Value.{ACTIONS-AT, ACT-ROW}
 use Rattle.meaning.specs.Text.{flat, area, value-of}
 use Rattle.reader.specs.Scanned.{zeros, Wide, Fit}
 use Rattle.reader.proofs.LayLaws.{area-is}
@@ -20,7 +21,8 @@ use Rattle.reader.proofs.HeldLaws.{s-long, v-long, t-long, a-long}
 chunks-flat : (k : ℕ) (rs : List (List ℤ)) (t : List ℤ) → Wide k rs → chunks (length rs) k (flat rs ++ t) ≡ rs
 unfolding chunks Wide
 chunks-flat k [] t w = refl
-chunks-flat k (r ∷ rs) t w = rw (append-assoc r (flat rs) t, take-at r (flat rs ++ t) k (w .0), drop-at r (flat rs ++ t) k (w .0), chunks-flat k rs t (w .1))
+chunks-flat k (r ∷ rs) t w =
+    rw (append-assoc r (flat rs) t, take-at r (flat rs ++ t) k (w .0), drop-at r (flat rs ++ t) k (w .0), chunks-flat k rs t (w .1))
 
 chunks-area : (n k : ℕ) (rs : List (List ℤ)) (t : List ℤ) → Wide k rs → chunks (length rs) k (area n rs ++ t) ≡ rs
 chunks-area n k rs t w = rw (area-is n rs, append-assoc) (chunks-flat k rs _ w)
@@ -64,7 +66,8 @@ module _ (r : Rows) (z : List ℤ) (f : Fit r) where
   a-area = area (ACTIONS * ACT-ROW) (r .actions)
 
   abbrev counted : List ℤ → List ℤ
-  counted l = five (pos (length (r .states))) (pos (length (r .vars))) (r .events) (pos (length (r .transitions))) (pos (length (r .actions))) l
+  counted l =
+      five (pos (length (r .states))) (pos (length (r .vars))) (r .events) (pos (length (r .transitions))) (pos (length (r .actions))) l
 
   four : (a b c d : List ℤ) → (a ++ (b ++ (c ++ d))) ++ z ≡ a ++ (b ++ (c ++ (d ++ z)))
   four a b c d = simp append-assoc
@@ -73,24 +76,29 @@ module _ (r : Rows) (z : List ℤ) (f : Fit r) where
   unfolding value-of five
   value-is = ap counted (four s-area v-area t-area a-area)
 
-  states-back : chunks (length (r .states)) STATE-ROW (drop STATES-AT (counted (s-area ++ (v-area ++ (t-area ++ (a-area ++ z)))))) ≡ r .states
+  states-back : chunks (length (r .states)) STATE-ROW (drop STATES-AT (counted (s-area ++ (v-area ++ (t-area ++ (a-area ++ z))))))
+      ≡ r .states
   unfolding five
   states-back = chunks-area (STATES * STATE-ROW) STATE-ROW (r .states) _ (f .states)
 
   vars-back : chunks (length (r .vars)) VAR-ROW (drop VARS-AT (counted (s-area ++ (v-area ++ (t-area ++ (a-area ++ z)))))) ≡ r .vars
   vars-back =
       let i = s-long r z z f in
-      ap (chunks (length (r .vars)) VAR-ROW) (from-second _ _ _ _ _ s-area [] [] (v-area ++ (t-area ++ (a-area ++ z))) VARS-AT (omega arith))
+      ap (chunks (length (r .vars)) VAR-ROW) (from-second _ _ _ _ _ s-area [] [] (v-area ++ (t-area ++ (a-area ++ z))) VARS-AT
+      (omega arith))
       ∙ chunks-area (VARIABLES * VAR-ROW) VAR-ROW (r .vars) _ (f .vars)
 
-  transitions-back : chunks (length (r .transitions)) TRANS-ROW (drop TRANSITIONS-AT (counted (s-area ++ (v-area ++ (t-area ++ (a-area ++ z)))))) ≡ r .transitions
+  transitions-back : chunks (length (r .transitions)) TRANS-ROW
+      (drop TRANSITIONS-AT (counted (s-area ++ (v-area ++ (t-area ++ (a-area ++ z)))))) ≡ r .transitions
   transitions-back =
       let i = s-long r z z f in
       let j = v-long r z z f in
-      ap (chunks (length (r .transitions)) TRANS-ROW) (from-third _ _ _ _ _ s-area v-area [] (t-area ++ (a-area ++ z)) TRANSITIONS-AT (omega arith))
+      ap (chunks (length (r .transitions)) TRANS-ROW)
+      (from-third _ _ _ _ _ s-area v-area [] (t-area ++ (a-area ++ z)) TRANSITIONS-AT (omega arith))
       ∙ chunks-area (TRANSITIONS * TRANS-ROW) TRANS-ROW (r .transitions) _ (f .transitions)
 
-  actions-back : chunks (length (r .actions)) ACT-ROW (drop ACTIONS-AT (counted (s-area ++ (v-area ++ (t-area ++ (a-area ++ z)))))) ≡ r .actions
+  actions-back : chunks (length (r .actions)) ACT-ROW (drop ACTIONS-AT (counted (s-area ++ (v-area ++ (t-area ++ (a-area ++ z))))))
+      ≡ r .actions
   actions-back =
       let i = s-long r z z f in
       let j = v-long r z z f in

@@ -12,7 +12,8 @@ use borrow.Author.Tests.{leb-true}
 use Rattle.meaning.specs.Lists.{padded}
 use Rattle.meaning.specs.Value.{Rows, VALUE, chart-by, chart-of, rows-of}
 use Rattle.meaning.specs.Rules.{failing-rule, verdict}
-use Rattle.meaning.specs.Text.{Outcome, done, refused, answer, answer-of, lent, lent-numbers, read-text, value-of, by-rule, checked-if, checked, read}
+use Rattle.meaning.specs.Text.{Outcome, done, refused, answer, answer-of, lent, lent-numbers, read-text, value-of, by-rule, checked-if}
+use Rattle.meaning.specs.Text.{checked, read}
 use Rattle.meaning.specs.declared.Answer.{Answer}
 use Rattle.reader.specs.Scanned.{zeros, Fit}
 use Rattle.reader.specs.RowsRead.{roomy-if, roomy, Left, RowsRead}
@@ -70,8 +71,11 @@ module _ (s : List ℕ) (n : ℕ) (a : Answer) (l : List ℤ) (q : RowsRead (rea
     unfolding read
     read-ruled l′ bad good = by (read-text s) refl (q .answer) (q .numbers)
       where
-        passed : (r : Rows) (b : Bool) → leb VALUE n ≡ b → a ≡ answer-of (roomy-if b r) → Left (roomy-if b r) n l → Seen n (checked-if b r) v l′
-        passed r true h i j = by-verdict r (j .1) (leb-true VALUE n h) (j .0) (failing-rule (chart-by r)) (w ∙ ap (λ c. verdict (failing-rule c)) (chart-is r (j .1) (j .0))) l′ bad good
+        passed : (r : Rows) (b : Bool) → leb VALUE n ≡ b → a ≡ answer-of (roomy-if b r) → Left (roomy-if b r) n l
+            → Seen n (checked-if b r) v l′
+        passed r true h i j =
+            by-verdict r (j .1) (leb-true VALUE n h) (j .0) (failing-rule (chart-by r))
+            (w ∙ ap (λ c. verdict (failing-rule c)) (chart-is r (j .1) (j .0))) l′ bad good
         passed r false h i j = let m : _≡_ {A = ℕ} 3 0 = sym (ap (λ (a : Answer). a .number) i) ∙ z in absurd (omega arith)
 
         by : (o : Outcome Rows) → read-text s ≡ o → a ≡ answer-of (roomy n o) → Left (roomy n o) n l → Seen n (checked n o) v l′

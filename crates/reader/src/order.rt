@@ -40,7 +40,8 @@ ghost use Rattle.reader.specs.Order.{place-of, turns-after, Within, with
 // A line whose first field is the letter k.
 pub fn line(s: &[u8], from: usize, to: usize, k: u8, t: Turns, chart: &mut [i32]) -> usize
     requires { ⌜ (from ≤ to) × (to ≤ length (now s)) × Within t ⌝ }
-    ensures { λ r. ⌜ Took (line-of (record-by k) t (fields (slice from to (now (s .entry))))) (place-of (record-by k) t) (now (chart .entry)) r (now (chart .exit)) ⌝ }
+    ensures { λ r. ⌜ Took (line-of (record-by k) t (fields (slice from to (now (s .entry))))) (place-of (record-by k) t)
+        (now (chart .entry)) r (now (chart .exit)) ⌝ }
 {
     let stage = t.stage;
     if k == b'S' {

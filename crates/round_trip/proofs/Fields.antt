@@ -21,10 +21,12 @@ use Rattle.meaning.specs.Lists.{has}
 use Rattle.meaning.specs.Grammar.{Field, turn, number, count, letter, dash, state, history, in-place, width}
 use Rattle.meaning.specs.Value.{ABSENT, num, is-letter, is-absent, one-of-letters, count-fits, fits-field}
 use Rattle.meaning.specs.Number.{number-of, numeral}
-use Rattle.meaning.specs.Line.{Line, worse, room, line, wrong, beyond, letter-of, is-dash, behind, is-turn, number-line, count-line, right-if, read-field, write-field}
+use Rattle.meaning.specs.Line.{Line, worse, room, line, wrong, beyond, letter-of, is-dash, behind, is-turn, number-line, count-line}
+use Rattle.meaning.specs.Line.{right-if, read-field, write-field}
 use Rattle.meaning.specs.declared.Num.{Num}
 use Rattle.meaning.specs.declared.Num.the-variants.{Is, Beyond, Not}
-use Rattle.round_trip.proofs.Numbers.{no, number-writes, number-back, number-numeral, in-range-size, size-in-range, numeral-length, lead}
+use Rattle.round_trip.proofs.Numbers.{no, number-writes, number-back, number-numeral, in-range-size, size-in-range}
+use Rattle.round_trip.proofs.Numbers.{numeral-length, lead}
 use Rattle.round_trip.proofs.Splits.{Free, free-byte, free-append, free-numeral}
 
 -- ---- marks: neither 1 nor 2
@@ -268,12 +270,14 @@ field-reads in-place n i row p m e =
 
 -- ---- free of separators, and short
 
-pub field-free : (sep : ℕ) → sep < 45 → (x : Field) (n i : ℕ) (row : List ℤ) → Plain x → fits-field x i row ≡ true → Free sep (write-field x n i row)
+pub field-free : (sep : ℕ) → sep < 45 → (x : Field) (n i : ℕ) (row : List ℤ) → Plain x → fits-field x i row ≡ true
+    → Free sep (write-field x n i row)
 unfolding write-field
 field-free sep s turn n i row p e = free-numeral sep s (pos n)
 field-free sep s number n i row p e = free-numeral sep s (num row i)
 field-free sep s (count low high) n i row p e = free-numeral sep s (num row i)
-field-free sep s (letter ls) n i row p e = free-byte sep (ref (num row i)) s (above-has (ref (num row i)) ls p (letter-is ls (num row i) e .in-list))
+field-free sep s (letter ls) n i row p e =
+    free-byte sep (ref (num row i)) s (above-has (ref (num row i)) ls p (letter-is ls (num row i) e .in-list))
 field-free sep s dash n i row p e = free-byte sep 45 s (omega arith)
 field-free sep s state n i row p e = free-numeral sep s (num row (i + 1))
 field-free sep s history n i row p e =
@@ -294,7 +298,8 @@ longest in-place = 1
 short-numeral : (z : ℤ) → inRange z ≡ true → length (numeral z) ≤ 11
 short-numeral z e = numeral-length z (in-range-size z e)
 
-pub field-short : (x : Field) (n i : ℕ) (row : List ℤ) → Plain x → n ≤ MOST → fits-field x i row ≡ true → length (write-field x n i row) ≤ longest x
+pub field-short : (x : Field) (n i : ℕ) (row : List ℤ) → Plain x → n ≤ MOST → fits-field x i row ≡ true
+    → length (write-field x n i row) ≤ longest x
 unfolding write-field
 field-short turn n i row p m e = numeral-length (pos n) m
 field-short number n i row p m e = short-numeral (num row i) e
@@ -345,27 +350,49 @@ unfolding numeral
 h-numeral (pos n) = let l = lead n in let h = l .greatest in rw (l .is, ne-eqb (l .head) 104 (λ e. omega arith))
 h-numeral (negsuc n) = refl
 
-pub apart-text : {x y : Field} → Apart x y → (n i : ℕ) (row : List ℤ) → fits-field y i row ≡ true → read-field x n (write-field y n i row) .mark ≡ 1
+pub apart-text : {x y : Field} → Apart x y → (n i : ℕ) (row : List ℤ) → fits-field y i row ≡ true
+    → read-field x n (write-field y n i row) .mark ≡ 1
 unfolding read-field write-field number-of
-apart-text (other-letters {ls = ls} {ms = ms} d) n i row e = rw (apart-letters (ref (num row i)) ls ms d (letter-is ms (num row i) e .in-list))
+apart-text (other-letters {ls = ls} {ms = ms} d) n i row e =
+    rw (apart-letters (ref (num row i)) ls ms d (letter-is ms (num row i) e .in-list))
 apart-text dash-number n i row e = rw (dash-numeral (num row i))
 apart-text place-history n i row e = rw (dash-two 104 (numeral (num row (i + 1))) (omega arith))
 apart-text place-state n i row e = rw (dash-numeral (num row (i + 1)))
 apart-text history-state n i row e = rw (h-numeral (num row (i + 1)))
 
-pub apart-row : {x y : Field} → Apart x y → (i : ℕ) (row : List ℤ) → fits-field x i row ≡ true → fits-field y i row ≡ true → ⊥
-apart-row (other-letters {ls = ls} {ms = ms} d) i row e f =
+-- the first number of a row tells a field from one that is apart from it: a letter, "-", or h
+unfoldable pub tells : Field → ℤ → Bool
+tells turn z = false
+tells number z = false
+tells (count low high) z = false
+tells (letter ls) z = one-of-letters ls z
+tells dash z = is-absent z
+tells state z = false
+tells history z = is-letter (code "h") z
+tells in-place z = is-absent z
+
+pub tells-own : {x y : Field} → Apart x y → (i : ℕ) (row : List ℤ) → fits-field x i row ≡ true → tells x (num row i) ≡ true
+unfolding tells
+tells-own (other-letters d) i row e = e
+tells-own dash-number i row e = e
+tells-own place-history i row e = both (is-absent (num row i)) (is-absent (num row (i + 1))) e .0
+tells-own place-state i row e = both (is-absent (num row i)) (is-absent (num row (i + 1))) e .0
+tells-own history-state i row e = both (is-letter 104 (num row i)) (inRange (num row (i + 1))) e .0
+
+pub tells-not : {x y : Field} → Apart x y → (i : ℕ) (row : List ℤ) → tells x (num row i) ≡ true → fits-field y i row ≡ true → ⊥
+unfolding tells
+tells-not (other-letters {ls = ls} {ms = ms} d) i row e f =
     true≢false (sym (letter-is ls (num row i) e .in-list) ∙ apart-letters (ref (num row i)) ls ms d (letter-is ms (num row i) f .in-list))
-apart-row dash-number i row e f = true≢false (sym e ∙ absent-number (num row i) f)
-apart-row place-history i row e f =
-    let a = absent-is (num row i) (both (is-absent (num row i)) (is-absent (num row (i + 1))) e .0) in
+tells-not dash-number i row e f = true≢false (sym e ∙ absent-number (num row i) f)
+tells-not place-history i row e f =
     let b = both (is-letter 104 (num row i)) (inRange (num row (i + 1))) f .0 in
-    let c : false ≡ true = rw a at b in false≢true c
-apart-row place-state i row e f =
-    let a = absent-is (num row i) (both (is-absent (num row i)) (is-absent (num row (i + 1))) e .0) in
+    let c : false ≡ true = rw (absent-is (num row i) e) at b in false≢true c
+tells-not place-state i row e f =
     let b = both (is-letter 0 (num row i)) (inRange (num row (i + 1))) f .0 in
-    let c : false ≡ true = rw a at b in false≢true c
-apart-row history-state i row e f =
-    let a = eqZ-true (num row i) (pos 104) (both (is-letter 104 (num row i)) (inRange (num row (i + 1))) e .0) in
+    let c : false ≡ true = rw (absent-is (num row i) e) at b in false≢true c
+tells-not history-state i row e f =
     let b = both (is-letter 0 (num row i)) (inRange (num row (i + 1))) f .0 in
-    let c : false ≡ true = rw a at b in false≢true c
+    let c : false ≡ true = rw (eqZ-true (num row i) (pos 104) e) at b in false≢true c
+
+pub apart-row : {x y : Field} → Apart x y → (i : ℕ) (row : List ℤ) → fits-field x i row ≡ true → fits-field y i row ≡ true → ⊥
+apart-row p i row e f = tells-not p i row (tells-own p i row e) f

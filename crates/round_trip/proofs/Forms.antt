@@ -1,5 +1,6 @@
--- Forms both ways, for any form that is unambiguous: a line that reads well is the written form of its row, and the row fits the form; a row
--- that fits, written, reads as itself. In the order: unambiguous forms; how a written row begins; both ways; free and short. Assumes nothing.
+-- Forms both ways, for any form that is unambiguous: a line that reads well is the written form of its row, and the row fits the form; a
+-- row that fits, written, reads as itself. In the order: unambiguous forms; how a written row begins; both ways; free and short. Assumes
+-- nothing.
 use mathlib.Core.Path.{_≡_, refl, sym, ap, _∙_, subst}
 use mathlib.Core.Bool.{Bool, true, false, cond, _&&_, _||_, true≢false, false≢true}
 use mathlib.Core.List.{List, [], _∷_, _++_}
@@ -11,11 +12,13 @@ use lib.ListN.{length, length-append}
 use borrow.Author.Tests.{eqb-true, eqb-false, leb-true}
 use Rattle.sizes.specs.Sizes.{MOST}
 use Rattle.meaning.specs.Grammar.{Field, width, Form, last, _then_, _or_}
-use Rattle.meaning.specs.Value.{fits, fits-field}
+use Rattle.meaning.specs.Value.{num, fits, fits-field}
 use Rattle.meaning.specs.Split.{TAB, tails}
 use Rattle.meaning.specs.Line.{Line, worse, line, beside, or-else, read-field, read-by, write-field, write-by}
 use Rattle.round_trip.proofs.Splits.{AllFree}
-use Rattle.round_trip.proofs.Fields.{Good, worse-good, both, Plain, At, numbers, numbers-more, at-both, Kept, field-kept, field-reads, field-free, longest, field-short, Apart, apart-text, apart-row}
+use Rattle.round_trip.proofs.Fields.{Good, worse-good, both, Plain, At, numbers, numbers-more, at-both, Kept, field-kept}
+use Rattle.round_trip.proofs.Fields.{field-reads, field-free, longest, field-short, Apart, apart-text, apart-row, tells}
+use Rattle.round_trip.proofs.Fields.{tells-own, tells-not}
 
 -- ---- unambiguous forms
 
@@ -49,15 +52,23 @@ begins : (P : Field → Type 0) (a : Form) (n i : ℕ) (row : List ℤ) → Firs
 unfolding write-by
 begins P (last x) n i row f e = record { field = x; holds = f; ok = e; more = []; is = refl }
 begins P (x then xs) n i row f e =
-    record { field = x; holds = f; ok = both (fits-field x i row) (fits xs (i + width x) row) e .0; more = write-by xs n (i + width x) row; is = refl }
+    record {
+      field = x;
+      holds = f;
+      ok = both (fits-field x i row) (fits xs (i + width x) row) e .0;
+      more = write-by xs n (i + width x) row;
+      is = refl;
+    }
 begins P (a or b) n i row f e = go (fits a i row) refl e (λ h. begins P a n i row (f .0) h) (λ h. begins P b n i row (f .1) h)
   where
-    go : (t : Bool) → fits a i row ≡ t → t || fits b i row ≡ true → (fits a i row ≡ true → Begins P a n i row) → (fits b i row ≡ true → Begins P b n i row) → Begins P (a or b) n i row
+    go : (t : Bool) → fits a i row ≡ t → t || fits b i row ≡ true → (fits a i row ≡ true → Begins P a n i row)
+        → (fits b i row ≡ true → Begins P b n i row) → Begins P (a or b) n i row
     go true h e p q = let w = p h in record { field = w .field; holds = w .holds; ok = w .ok; more = w .more; is = rw h (w .is) }
     go false h e p q = let w = q e in record { field = w .field; holds = w .holds; ok = w .ok; more = w .more; is = rw h (w .is) }
 
 -- a line whose first field is of no kind that a form begins with
-wrong-front : (P : Field → Type 0) (a : Form) (n : ℕ) (f : List ℕ) (fs : List (List ℕ)) → First P a → ((x : Field) → P x → read-field x n f .mark ≡ 1)
+wrong-front : (P : Field → Type 0) (a : Form) (n : ℕ) (f : List ℕ) (fs : List (List ℕ)) → First P a
+    → ((x : Field) → P x → read-field x n f .mark ≡ 1)
     → read-by a n (f ∷ fs) .mark ≡ 1
 unfolding read-by worse
 wrong-front P (last x) n f [] p h = h x p
@@ -88,10 +99,53 @@ swap-first P a (b or c) f = (swap-first P a b (left a f), swap-first P a c (righ
     right (a or d) f = (right a (f .0), right d (f .1))
 
 -- the written form of a row of the second reads wrong by the first
-not-first : (a b : Form) → First (λ x. First (λ y. Apart x y) b) a → (n i : ℕ) (row : List ℤ) → fits b i row ≡ true → read-by a n (write-by b n i row) .mark ≡ 1
+not-first : (a b : Form) → First (λ x. First (λ y. Apart x y) b) a → (n i : ℕ) (row : List ℤ) → fits b i row ≡ true
+    → read-by a n (write-by b n i row) .mark ≡ 1
 not-first a b p n i row e =
     let w = begins (λ y. First (λ x. Apart x y) a) b n i row (swap-first Apart a b p) e in
-    rw (w .is) (wrong-front (λ x. Apart x (w .field)) a n (write-field (w .field) n i row) (w .more) (w .holds) (λ x q. apart-text q n i row (w .ok)))
+    rw (w .is) (wrong-front (λ x. Apart x (w .field)) a n (write-field (w .field) n i row) (w .more) (w .holds)
+    (λ x q. apart-text q n i row (w .ok)))
+
+-- ---- a choice: the first number of a row tells which form it has, where the first form begins with one field
+
+abbrev pub Starts : Form → Field → Type 0
+Starts (last y) x = y ≡ x
+Starts (y then ys) x = y ≡ x
+Starts (a or b) x = ⊥
+
+starts-first : (P : Field → Type 0) (a : Form) (x : Field) → Starts a x → First P a → P x
+starts-first P (last y) x s f = subst P s f
+starts-first P (y then ys) x s f = subst P s f
+starts-first P (a or b) x s f = absurd s
+
+pub starts-fits : (a : Form) (x : Field) (i : ℕ) (row : List ℤ) → Starts a x → fits a i row ≡ true → fits-field x i row ≡ true
+starts-fits (last y) x i row s e = rw (← s) e
+starts-fits (y then ys) x i row s e = rw (← s) (both (fits-field y i row) (fits ys (i + width y) row) e .0)
+starts-fits (a or b) x i row s e = absurd s
+
+some-first : (x : Field) (b : Form) (i : ℕ) (row : List ℤ) → First (λ y. Apart x y) b → fits-field x i row ≡ true
+    → tells x (num row i) ≡ true
+some-first x (last y) i row f e = tells-own f i row e
+some-first x (y then ys) i row f e = tells-own f i row e
+some-first x (b or c) i row f e = some-first x b i row (f .0) e
+
+module _ (a b : Form) (x : Field) (s : Starts a x) (c : Clear (a or b)) (i : ℕ) (row : List ℤ) (e : fits (a or b) i row ≡ true) where
+  apart : First (λ y. Apart x y) b
+  apart = starts-first (λ x. First (λ y. Apart x y) b) a x s (c .1 .1 .0)
+
+  pub choice-first : tells x (num row i) ≡ true → fits a i row ≡ true
+  choice-first t = go (fits a i row) refl e
+    where
+      go : (u : Bool) → fits a i row ≡ u → u || fits b i row ≡ true → u ≡ true
+      go true h e = refl
+      go false h e = let w = begins (λ y. Apart x y) b 0 i row apart e in absurd (tells-not (w .holds) i row t (w .ok))
+
+  pub choice-second : tells x (num row i) ≡ false → (fits a i row ≡ false) × (fits b i row ≡ true)
+  choice-second t = go (fits a i row) refl e
+    where
+      go : (u : Bool) → fits a i row ≡ u → u || fits b i row ≡ true → (u ≡ false) × (fits b i row ≡ true)
+      go true h e = absurd (true≢false (sym (some-first x b i row apart (starts-fits a x i row s h)) ∙ t))
+      go false h e = (refl, e)
 
 -- ---- both ways
 
@@ -145,7 +199,8 @@ form-kept (a or b) n fs c g =
     }
 
     go : (t : Bool) → eqb (read-by a n fs .mark) 1 ≡ t → Good (or-else t (read-by a n fs) (λ _. read-by b n fs) .mark)
-        → (Good (read-by a n fs .mark) → LineKept a n fs (read-by a n fs .row)) → (Good (read-by b n fs .mark) → LineKept b n fs (read-by b n fs .row))
+        → (Good (read-by a n fs .mark) → LineKept a n fs (read-by a n fs .row))
+        → (Good (read-by b n fs .mark) → LineKept b n fs (read-by b n fs .row))
         → LineKept (a or b) n fs (or-else t (read-by a n fs) (λ _. read-by b n fs) .row)
     go true h g p q = second (read-by b n fs .row) (q g)
     go false h g p q = first (read-by a n fs .row) (p g)
@@ -157,11 +212,14 @@ form-reads (last x) n i row c m e = field-reads x n i row c m e
 form-reads (x then xs) n i row c m e =
     let w = both (fits-field x i row) (fits xs (i + width x) row) e in
     rw (field-reads x n i row (c .0) m (w .0), form-reads xs n (i + width x) row (c .1) m (w .1), numbers-more i (width x) (size xs) row)
-form-reads (a or b) n i row c m e = go (fits a i row) refl e (λ h. form-reads a n i row (c .0) m h) (λ h. form-reads b n i row (c .1 .0) m h)
+form-reads (a or b) n i row c m e =
+    go (fits a i row) refl e (λ h. form-reads a n i row (c .0) m h) (λ h. form-reads b n i row (c .1 .0) m h)
   where
     second : (fs : List (List ℕ)) → read-by a n fs .mark ≡ 1 → read-by b n fs ≡ line 0 (numbers i (size b) row)
         → or-else (eqb (read-by a n fs .mark) 1) (read-by a n fs) (λ _. read-by b n fs) ≡ line 0 (numbers i (size a) row)
-    second fs h k = ap (λ (t : ℕ). or-else (eqb t 1) (read-by a n fs) (λ _. read-by b n fs)) h ∙ k ∙ ap (λ (t : ℕ). line 0 (numbers i t row)) (sym (c .1 .1 .1))
+    second fs h k =
+        ap (λ (t : ℕ). or-else (eqb t 1) (read-by a n fs) (λ _. read-by b n fs)) h ∙ k
+        ∙ ap (λ (t : ℕ). line 0 (numbers i t row)) (sym (c .1 .1 .1))
 
     first : (fs : List (List ℕ)) → read-by a n fs ≡ line 0 (numbers i (size a) row)
         → or-else (eqb (read-by a n fs .mark) 1) (read-by a n fs) (λ _. read-by b n fs) ≡ line 0 (numbers i (size a) row)
@@ -176,15 +234,18 @@ form-reads (a or b) n i row c m e = go (fits a i row) refl e (λ h. form-reads a
 
 -- ---- free of separators, and short
 
-pub form-free : (sep : ℕ) → sep < 45 → (a : Form) (n i : ℕ) (row : List ℤ) → Clear a → fits a i row ≡ true → AllFree sep (write-by a n i row)
+pub form-free : (sep : ℕ) → sep < 45 → (a : Form) (n i : ℕ) (row : List ℤ) → Clear a → fits a i row ≡ true
+    → AllFree sep (write-by a n i row)
 unfolding write-by AllFree
 form-free sep s (last x) n i row c e = (field-free sep s x n i row c e, tt)
 form-free sep s (x then xs) n i row c e =
     let w = both (fits-field x i row) (fits xs (i + width x) row) e in
     (field-free sep s x n i row (c .0) (w .0), form-free sep s xs n (i + width x) row (c .1) (w .1))
-form-free sep s (a or b) n i row c e = go (fits a i row) refl e (λ h. form-free sep s a n i row (c .0) h) (λ h. form-free sep s b n i row (c .1 .0) h)
+form-free sep s (a or b) n i row c e =
+    go (fits a i row) refl e (λ h. form-free sep s a n i row (c .0) h) (λ h. form-free sep s b n i row (c .1 .0) h)
   where
-    go : (t : Bool) → fits a i row ≡ t → t || fits b i row ≡ true → (fits a i row ≡ true → AllFree sep (write-by a n i row)) → (fits b i row ≡ true → AllFree sep (write-by b n i row))
+    go : (t : Bool) → fits a i row ≡ t → t || fits b i row ≡ true → (fits a i row ≡ true → AllFree sep (write-by a n i row))
+        → (fits b i row ≡ true → AllFree sep (write-by b n i row))
         → AllFree sep (cond t (write-by a n i row) (write-by b n i row))
     go true h e p q = p h
     go false h e p q = q e
@@ -195,7 +256,8 @@ within (last x) m = leb (suc (longest x)) m
 within (x then xs) m = leb (suc (longest x)) m && within xs (m - suc (longest x))
 within (a or b) m = within a m && within b m
 
-pub form-short : (a : Form) (m n i : ℕ) (row : List ℤ) → within a m ≡ true → Clear a → n ≤ MOST → fits a i row ≡ true → length (tails TAB (write-by a n i row)) ≤ m
+pub form-short : (a : Form) (m n i : ℕ) (row : List ℤ) → within a m ≡ true → Clear a → n ≤ MOST → fits a i row ≡ true
+    → length (tails TAB (write-by a n i row)) ≤ m
 unfolding write-by tails
 form-short (last x) m n i row h c k e =
     let l = field-short x n i row c k e in
@@ -213,6 +275,7 @@ form-short (a or b) m n i row h c k e =
     go (fits a i row) refl e (λ q. form-short a m n i row (v .0) (c .0) k q) (λ q. form-short b m n i row (v .1) (c .1 .0) k q)
   where
     go : (t : Bool) → fits a i row ≡ t → t || fits b i row ≡ true → (fits a i row ≡ true → length (tails TAB (write-by a n i row)) ≤ m)
-        → (fits b i row ≡ true → length (tails TAB (write-by b n i row)) ≤ m) → length (tails TAB (cond t (write-by a n i row) (write-by b n i row))) ≤ m
+        → (fits b i row ≡ true → length (tails TAB (write-by b n i row)) ≤ m)
+        → length (tails TAB (cond t (write-by a n i row) (write-by b n i row))) ≤ m
     go true h e p q = p h
     go false h e p q = q e

@@ -13,7 +13,8 @@ use borrow.Author.Tests.{ltb-true, ltb-false, lt-ltb, le-ltb, leb-true, le-leb, 
 use Rattle.sizes.specs.Sizes.{MOST}
 use Rattle.numbers.specs.Range.{inRange, lowest, highest}
 use Rattle.numbers.proofs.Ranges.{within-low, within-high, within-both}
-use Rattle.meaning.specs.Number.{BEYOND, value, alone, unless-zero, natural, capped, natural-of, with-no-sign, minus, signed, number-of, by-size, digits-in, digits, numeral}
+use Rattle.meaning.specs.Number.{BEYOND, value, alone, unless-zero, natural, capped, natural-of, with-no-sign, minus, signed, number-of}
+use Rattle.meaning.specs.Number.{by-size, digits-in, digits, numeral}
 use Rattle.meaning.specs.declared.Num.the-variants as num
 use Rattle.meaning.specs.declared.Nat.{Nat}
 use Rattle.meaning.specs.declared.Nat.the-variants as nat
@@ -42,7 +43,8 @@ digits-enough zero g n p q = absurd (omega arith)
 digits-enough (suc f) zero n p q = absurd (omega arith)
 digits-enough (suc f) (suc g) n p q = go (ltb n 10) refl (λ h. digits-enough f g (n / 10) (omega arith) (omega arith))
   where
-    go : (t : Bool) → ltb n 10 ≡ t → (10 ≤ n → digits-in f (n / 10) ≡ digits-in g (n / 10)) → by-size t n (λ m. digits-in f m) ≡ by-size t n (λ m. digits-in g m)
+    go : (t : Bool) → ltb n 10 ≡ t → (10 ≤ n → digits-in f (n / 10) ≡ digits-in g (n / 10))
+        → by-size t n (λ m. digits-in f m) ≡ by-size t n (λ m. digits-in g m)
     go true e ih = refl
     go false e ih = rw (ih (ltb-false n 10 e))
 
@@ -89,7 +91,8 @@ digit-is : (a b m : ℕ) (bs : List ℕ) → value a (b ∷ bs) ≡ some m → D
 unfolding value
 digit-is a b m bs e = go (ltb b 48) (ltb 57 b) refl refl e
   where
-    go : (s t : Bool) → ltb b 48 ≡ s → ltb 57 b ≡ t → cond s none (cond t none (value (min BEYOND (a * 10 + (b - 48))) bs)) ≡ some m → Digit a b m bs
+    go : (s t : Bool) → ltb b 48 ≡ s → ltb 57 b ≡ t → cond s none (cond t none (value (min BEYOND (a * 10 + (b - 48))) bs)) ≡ some m
+        → Digit a b m bs
     go true t p q e = no cc
     go false true p q e = no cc
     go false false p q e = record { least = ltb-false b 48 p; greatest = ltb-false 57 b q; rest = e }
@@ -118,8 +121,24 @@ pub record Lead (n : ℕ) (l : List ℕ) : Type 0 where
 
 pub lead : (n : ℕ) → Lead n (digits n)
 lead = by-digits (λ n. Lead n (digits n))
-    (λ n h. record { head = 48 + n; tail = []; is = digits-one n h; least = omega arith; greatest = omega arith; zero-is = λ e. omega arith })
-    (λ n h r. record { head = r .head; tail = r .tail ++ ((48 + n % 10) ∷ []); is = digits-more n h ∙ rw (r .is); least = r .least; greatest = r .greatest; zero-is = λ e. let z = r .zero-is e in absurd (omega arith) })
+    (λ n h. record {
+      head = 48 + n;
+      tail = [];
+      is = digits-one n h;
+      least = omega arith;
+      greatest = omega arith;
+      zero-is = λ e.
+          omega arith;
+    })
+    (λ n h r. record {
+      head = r .head;
+      tail = r .tail ++ ((48 + n % 10) ∷ []);
+      is = digits-more n h
+          ∙ rw (r .is);
+      least = r .least;
+      greatest = r .greatest;
+      zero-is = λ e. let z = r .zero-is e in absurd (omega arith);
+    })
 
 value-none : (a : ℕ) → value a [] ≡ some a
 unfolding value
@@ -182,7 +201,8 @@ digits-after a m (b ∷ bs) h k e = go (ltb MOST (a * 10 + (b - 48))) refl (λ n
     w : Digit a b m bs
     w = digit-is a b m bs e
 
-    go : (t : Bool) → ltb MOST (a * 10 + (b - 48)) ≡ t → ((n : ℕ) → 0 < n → value n bs ≡ some m → digits m ≡ digits n ++ bs) → digits m ≡ digits a ++ (b ∷ bs)
+    go : (t : Bool) → ltb MOST (a * 10 + (b - 48)) ≡ t → ((n : ℕ) → 0 < n → value n bs ≡ some m → digits m ≡ digits n ++ bs)
+        → digits m ≡ digits a ++ (b ∷ bs)
     go true p ih =
         let h = ltb-true MOST (a * 10 + (b - 48)) p in
         let z = value-beyond (min BEYOND (a * 10 + (b - 48))) m bs (omega arith) (w .rest) in

@@ -16,7 +16,8 @@ use Rattle.meaning.specs.Split.{TAB, LF, fields, joined, tails}
 use Rattle.meaning.specs.Line.{Line, worse, room, line, letter-of, field, rest-of, read-by, line-by, write-by, text-of-row}
 use Rattle.meaning.specs.Text.{record-of}
 use Rattle.round_trip.proofs.Splits.{Free, AllFree, free-byte, free-joined, fields-joined, joined-fields}
-use Rattle.round_trip.proofs.Fields.{Good, worse-good, room-good, numbers-at, at-self, letter-field, other-letters, dash-number, place-history, place-state, history-state}
+use Rattle.round_trip.proofs.Fields.{Good, worse-good, room-good, numbers-at, at-self, letter-field, other-letters, dash-number}
+use Rattle.round_trip.proofs.Fields.{place-history, place-state, history-state}
 use Rattle.round_trip.proofs.Forms.{size, Clear, LineKept, form-kept, form-reads, form-free, within, form-short}
 
 -- ---- the forms

@@ -13,7 +13,8 @@ use Rattle.sizes.specs.Sizes.{TEXT}
 use Rattle.meaning.specs.Value.{Rows, VALUE, state-by, rows-of, chart-by, chart-of, rule-0}
 use Rattle.meaning.specs.Chart.{Chart}
 use Rattle.meaning.specs.Tree.{is-o, kind-of}
-use Rattle.meaning.specs.Rules.{rule-1, rule-2, rule-3, rule-4, rule-5, rule-6, rule-7, first-failing, failing-rule, after-rule-0, failing-rule-of}
+use Rattle.meaning.specs.Rules.{rule-1, rule-2, rule-3, rule-4, rule-5, rule-6, rule-7, first-failing, failing-rule, after-rule-0}
+use Rattle.meaning.specs.Rules.{failing-rule-of}
 use Rattle.meaning.specs.Text.{Outcome, done, refused, value-of, by-rule, checked-if, checked, read-text, read, text-of, write}
 use Rattle.round_trip.proofs.Numbers.{no}
 use Rattle.round_trip.proofs.Fields.{both}
@@ -33,7 +34,9 @@ first-is n false bs e = no cc
 two-states : (c : Chart) → failing-rule c ≡ none → 2 ≤ length (c .states)
 unfolding failing-rule rule-1
 two-states c e =
-    let r = first-is 1 (leb 2 (length (c .states)) && is-o (kind-of c 0)) (rule-2 c ∷ rule-3 c ∷ rule-4 c ∷ rule-5 c ∷ rule-6 c ∷ rule-7 c ∷ []) e in
+    let r =
+    first-is 1 (leb 2 (length (c .states)) && is-o (kind-of c 0))
+    (rule-2 c ∷ rule-3 c ∷ rule-4 c ∷ rule-5 c ∷ rule-6 c ∷ rule-7 c ∷ []) e in
     leb-true 2 (length (c .states)) (both (leb 2 (length (c .states))) (is-o (kind-of c 0)) r .0)
 
 two-rows : (r : Rows) → failing-rule (chart-by r) ≡ none → 2 ≤ length (r .states)

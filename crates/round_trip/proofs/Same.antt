@@ -12,10 +12,13 @@ use lib.Seq.{getD-take, getD-drop, getD-append-add}
 use Rattle.sizes.specs.Sizes.{STATES, VARIABLES, EVENTS, TRANSITIONS, ACTIONS}
 use Rattle.numbers.specs.Reference.{ref}
 use Rattle.meaning.specs.Lists.{padded, chunks}
-use Rattle.meaning.specs.Value.{num, COUNTS, STATE-ROW, VAR-ROW, TRANS-ROW, ACT-ROW, STATES-AT, VARS-AT, TRANSITIONS-AT, ACTIONS-AT, VALUE, size-by, rows-of, count-fits, counts-fit, rule-0}
+use Rattle.meaning.specs.Value.{num, COUNTS, STATE-ROW, VAR-ROW, TRANS-ROW, ACT-ROW, STATES-AT, VARS-AT, TRANSITIONS-AT, ACTIONS-AT}
+use Rattle.meaning.specs.Value.{VALUE, size-by, rows-of, count-fits, counts-fit, rule-0}
 use Rattle.meaning.specs.Text.{flat, area, value-of}
 use Rattle.round_trip.proofs.Fields.{both}
-use Rattle.round_trip.proofs.Values.{flat-length, flat-chunks, chunks-length, chunks-long, area-length, size-is, states-from, vars-from, transitions-from, actions-from, value-length, counted-is, counts-of, enough, value-shaped}
+use Rattle.round_trip.proofs.Values.{flat-length, flat-chunks, chunks-length, chunks-long, area-length, size-is, states-from}
+use Rattle.round_trip.proofs.Values.{vars-from, transitions-from, actions-from, value-length, counted-is, counts-of, enough}
+use Rattle.round_trip.proofs.Values.{value-shaped}
 
 -- ---- one kind's rows
 
@@ -84,7 +87,9 @@ module _ (v : List ℤ) (keeps : rule-0 v ≡ true) where
   unfolding counts-fit
   the-counts =
       let rest : Bool = count-fits 0 TRANSITIONS (num v 3) && count-fits 0 ACTIONS (num v 4) in
-      let a = both (count-fits 2 STATES (num v 0)) (count-fits 0 VARIABLES (num v 1) && (count-fits 0 EVENTS (num v 2) && rest)) (counts-of v keeps) in
+      let a =
+      both (count-fits 2 STATES (num v 0)) (count-fits 0 VARIABLES (num v 1) && (count-fits 0 EVENTS (num v 2) && rest))
+      (counts-of v keeps) in
       let b = both (count-fits 0 VARIABLES (num v 1)) (count-fits 0 EVENTS (num v 2) && rest) (a .1) in
       let c = both (count-fits 0 EVENTS (num v 2)) rest (b .1) in
       let d = both (count-fits 0 TRANSITIONS (num v 3)) (count-fits 0 ACTIONS (num v 4)) (c .1) in
@@ -107,7 +112,8 @@ module _ (v : List ℤ) (keeps : rule-0 v ≡ true) where
       let m : ref z * k ≤ most * k = mul-le-mul-right k few in
       let n = enough v keeps in
       let g : ref z * k ≤ length (drop at v) = rw (length-drop at v) (omega arith) in
-      let f : drop at w ≡ area (most * k) (chunks (ref z) k (drop at v)) ++ t = e ∙ ap (λ (x : ℕ). area (most * k) (chunks x k (drop at v)) ++ t) (size-of most z few is) in
+      let f : drop at w ≡ area (most * k) (chunks (ref z) k (drop at v)) ++ t =
+      e ∙ ap (λ (x : ℕ). area (most * k) (chunks x k (drop at v)) ++ t) (size-of most z few is) in
       record { within = area-within v w at most k (ref z) few g t f; past = area-past v w at most k (ref z) few g t f }
 
   count-same : (most k : ℕ) (l : List ℤ) (z : ℤ) → ref z ≤ most → z ≡ pos (ref z) → pos (length (chunks (size-by most z) k l)) ≡ z
@@ -118,8 +124,10 @@ module _ (v : List ℤ) (keeps : rule-0 v ≡ true) where
   counts-same zero h = count-same STATES STATE-ROW (drop STATES-AT v) (num v 0) (the-counts .states .0) (the-counts .states .1)
   counts-same (suc zero) h = count-same VARIABLES VAR-ROW (drop VARS-AT v) (num v 1) (the-counts .vars .0) (the-counts .vars .1)
   counts-same (suc (suc zero)) h = refl
-  counts-same (suc (suc (suc zero))) h = count-same TRANSITIONS TRANS-ROW (drop TRANSITIONS-AT v) (num v 3) (the-counts .transitions .0) (the-counts .transitions .1)
-  counts-same (suc (suc (suc (suc zero)))) h = count-same ACTIONS ACT-ROW (drop ACTIONS-AT v) (num v 4) (the-counts .actions .0) (the-counts .actions .1)
+  counts-same (suc (suc (suc zero))) h =
+      count-same TRANSITIONS TRANS-ROW (drop TRANSITIONS-AT v) (num v 3) (the-counts .transitions .0) (the-counts .transitions .1)
+  counts-same (suc (suc (suc (suc zero)))) h =
+      count-same ACTIONS ACT-ROW (drop ACTIONS-AT v) (num v 4) (the-counts .actions .0) (the-counts .actions .1)
   counts-same (suc (suc (suc (suc (suc i))))) h = absurd (omega arith)
 
   pub value-same : Same v (value-of (rows-of v))
@@ -130,8 +138,14 @@ module _ (v : List ℤ) (keeps : rule-0 v ≡ true) where
       record {
         long = value-length r s;
         counts = counts-same;
-        states = same-rows STATES-AT STATES STATE-ROW (num v 0) _ (omega arith) (the-counts .states .0) (the-counts .states .1) (states-from r s);
+        states =
+            same-rows STATES-AT STATES STATE-ROW (num v 0) _ (omega arith) (the-counts .states .0) (the-counts .states .1)
+            (states-from r s);
         vars = same-rows VARS-AT VARIABLES VAR-ROW (num v 1) _ (omega arith) (the-counts .vars .0) (the-counts .vars .1) (vars-from r s);
-        transitions = same-rows TRANSITIONS-AT TRANSITIONS TRANS-ROW (num v 3) _ (omega arith) (the-counts .transitions .0) (the-counts .transitions .1) (transitions-from r s);
-        actions = same-rows ACTIONS-AT ACTIONS ACT-ROW (num v 4) [] (omega arith) (the-counts .actions .0) (the-counts .actions .1) (actions-from r s);
+        transitions =
+            same-rows TRANSITIONS-AT TRANSITIONS TRANS-ROW (num v 3) _ (omega arith) (the-counts .transitions .0)
+            (the-counts .transitions .1) (transitions-from r s);
+        actions =
+            same-rows ACTIONS-AT ACTIONS ACT-ROW (num v 4) [] (omega arith) (the-counts .actions .0) (the-counts .actions .1)
+            (actions-from r s);
       }

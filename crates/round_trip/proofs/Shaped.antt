@@ -9,18 +9,21 @@ use lib.IntN.{ℤ, pos}
 use lib.ListN.{length, length-append}
 use Rattle.sizes.specs.Sizes.{STATES, VARIABLES, EVENTS, TRANSITIONS, ACTIONS}
 use Rattle.meaning.specs.Lists.{every, every-from, map-from}
-use Rattle.meaning.specs.Value.{Rows, count-fits, STATE-ROW, VAR-ROW, TRANS-ROW, ACT-ROW, state-statable, var-statable, trans-statable, action-statable}
+use Rattle.meaning.specs.Value.{Rows, count-fits, STATE-ROW, VAR-ROW, TRANS-ROW, ACT-ROW, state-statable, var-statable, trans-statable}
+use Rattle.meaning.specs.Value.{action-statable}
 use Rattle.round_trip.proofs.Fields.{both}
 
 -- ---- one more at the end
 
 module _ {A : Type 0} where
-  pub map-from-more : {B : Type 0} (f : ℕ → A → B) (k : ℕ) (xs : List A) (x : A) → map-from f k (xs ++ (x ∷ [])) ≡ map-from f k xs ++ (f (k + length xs) x ∷ [])
+  pub map-from-more : {B : Type 0} (f : ℕ → A → B) (k : ℕ) (xs : List A) (x : A)
+      → map-from f k (xs ++ (x ∷ [])) ≡ map-from f k xs ++ (f (k + length xs) x ∷ [])
   unfolding map-from
   map-from-more f k [] x = let e : k + 0 ≡ k = omega arith in rw e
   map-from-more f k (y ∷ xs) x = let e : suc k + length xs ≡ k + suc (length xs) = omega arith in rw (map-from-more f (suc k) xs x, e)
 
-  every-from-more : (p : ℕ → A → Bool) (k : ℕ) (xs : List A) (x : A) → every-from p k xs ≡ true → p (k + length xs) x ≡ true → every-from p k (xs ++ (x ∷ [])) ≡ true
+  every-from-more : (p : ℕ → A → Bool) (k : ℕ) (xs : List A) (x : A) → every-from p k xs ≡ true → p (k + length xs) x ≡ true
+      → every-from p k (xs ++ (x ∷ [])) ≡ true
   unfolding every-from
   every-from-more p k [] x h e = let n : k + 0 ≡ k = omega arith in rw (rw n at e)
   every-from-more p k (y ∷ xs) x h e =
@@ -76,7 +79,8 @@ none-of p size most = fitting-none (every p) size most refl
 
 -- one more
 module _ (rs : List (List ℤ)) (r : List ℤ) (size most : ℕ) (long : length r ≡ size) (fits : length rs < most) where
-  pub fitting-from-more : (p : ℕ → List ℤ → Bool) → Fitting (every-from p 0) size most rs → p (length rs) r ≡ true → Fitting (every-from p 0) size most (rs ++ (r ∷ []))
+  pub fitting-from-more : (p : ℕ → List ℤ → Bool) → Fitting (every-from p 0) size most rs → p (length rs) r ≡ true
+      → Fitting (every-from p 0) size most (rs ++ (r ∷ []))
   fitting-from-more p f e =
       let n : length rs ≡ 0 + length rs = omega arith in
       record {

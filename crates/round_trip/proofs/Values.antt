@@ -1,5 +1,6 @@
--- The value of rows and the rows of a value: rows that a text can state come back from their value, and a value that keeps R0 has such rows.
--- In the order: rows laid out and cut again; areas; rows back from a value; R0 of a value of rows; rows of a value that keeps R0. Assumes nothing.
+-- The value of rows and the rows of a value: rows that a text can state come back from their value, and a value that keeps R0 has such
+-- rows. In the order: rows laid out and cut again; areas; rows back from a value; R0 of a value of rows; rows of a value that keeps R0.
+-- Assumes nothing.
 use mathlib.Core.Path.{_≡_, refl, sym, ap, _∙_}
 use mathlib.Core.Bool.{Bool, true, false, cond, _&&_, false≢true}
 use mathlib.Core.List.{List, [], _∷_, _++_, append-assoc, append-nil}
@@ -15,7 +16,8 @@ use Rattle.sizes.specs.Sizes.{STATES, VARIABLES, EVENTS, TRANSITIONS, ACTIONS}
 use Rattle.numbers.specs.Reference.{ref}
 use Rattle.meaning.specs.Lists.{every, every-from, padded, chunks}
 use Rattle.meaning.specs.Value.{Rows, num, STATE-ROW, VAR-ROW, TRANS-ROW, ACT-ROW, STATES-AT, VARS-AT, TRANSITIONS-AT, ACTIONS-AT, VALUE}
-use Rattle.meaning.specs.Value.{state-statable, var-statable, trans-statable, action-statable, size-by, rows-of, count-fits, counts-fit, rows-statable, rule-0}
+use Rattle.meaning.specs.Value.{state-statable, var-statable, trans-statable, action-statable, size-by, rows-of, count-fits, counts-fit}
+use Rattle.meaning.specs.Value.{rows-statable, rule-0}
 use Rattle.meaning.specs.Text.{flat, area, value-of}
 use Rattle.round_trip.proofs.Fields.{both}
 use Rattle.round_trip.proofs.Shaped.{Shaped, Fitting, AllLong}
@@ -67,12 +69,18 @@ module _ (k most : ℕ) (rs : List (List ℤ)) (long : AllLong k rs) (few : leng
   unfolding padded
   area-length =
       let h = flat-fits in
-      rw (length-append (flat rs) (replicate (most * k - length (flat rs)) (pos 0)), length-replicate {A = ℤ} (most * k - length (flat rs)) (pos 0)) (omega arith)
+      rw (
+        length-append (flat rs) (replicate (most * k - length (flat rs)) (pos 0)),
+        length-replicate {A = ℤ}
+            (most * k - length (flat rs)) (pos 0),
+      ) (omega arith)
 
   -- the rows of an area, whatever follows it
   area-rows : (t : List ℤ) → chunks (length rs) k (area (most * k) rs ++ t) ≡ rs
   unfolding padded
-  area-rows t = rw (append-assoc (flat rs) (replicate (most * k - length (flat rs)) (pos 0)) t) (chunks-flat k rs (replicate (most * k - length (flat rs)) (pos 0) ++ t) long)
+  area-rows t =
+      rw (append-assoc (flat rs) (replicate (most * k - length (flat rs)) (pos 0)) t)
+      (chunks-flat k rs (replicate (most * k - length (flat rs)) (pos 0) ++ t) long)
 
 -- ---- rows back from their value
 
@@ -88,11 +96,15 @@ size-few most z = go (leb (ref z) most) refl
     go true e = leb-true (ref z) most e
     go false e = omega arith
 
-rows-same : (a b : Rows) → a .states ≡ b .states → a .vars ≡ b .vars → a .events ≡ b .events → a .transitions ≡ b .transitions → a .actions ≡ b .actions → a ≡ b
-rows-same a b p q r s t = go (a .states) (b .states) (a .vars) (b .vars) (a .events) (b .events) (a .transitions) (b .transitions) (a .actions) (b .actions) p q r s t
+rows-same : (a b : Rows) → a .states ≡ b .states → a .vars ≡ b .vars → a .events ≡ b .events → a .transitions ≡ b .transitions
+    → a .actions ≡ b .actions → a ≡ b
+rows-same a b p q r s t =
+    go (a .states) (b .states) (a .vars) (b .vars) (a .events) (b .events) (a .transitions) (b .transitions) (a .actions) (b .actions) p q
+    r s t
   where
     go : (s s′ v v′ : List (List ℤ)) (e e′ : ℤ) (t t′ x x′ : List (List ℤ)) → s ≡ s′ → v ≡ v′ → e ≡ e′ → t ≡ t′ → x ≡ x′
-        → _≡_ {A = Rows} (record { states = s; vars = v; events = e; transitions = t; actions = x }) (record { states = s′; vars = v′; events = e′; transitions = t′; actions = x′ })
+        → _≡_ {A = Rows} (record { states = s; vars = v; events = e; transitions = t; actions = x })
+        (record { states = s′; vars = v′; events = e′; transitions = t′; actions = x′ })
     go s s′ v v′ e e′ t t′ x x′ p q r u w = rw (p, q, r, u, w)
 
 module _ (r : Rows) (s : Shaped r) where
@@ -157,7 +169,8 @@ module _ (r : Rows) (s : Shaped r) where
       omega arith
 
   -- the rows of one kind
-  back : (most k at : ℕ) (rs : List (List ℤ)) (t : List ℤ) → AllLong k rs → length rs ≤ most → drop at (value-of r) ≡ area (most * k) rs ++ t
+  back : (most k at : ℕ) (rs : List (List ℤ)) (t : List ℤ) → AllLong k rs → length rs ≤ most
+      → drop at (value-of r) ≡ area (most * k) rs ++ t
       → chunks (size-by most (pos (length rs))) k (drop at (value-of r)) ≡ rs
   back most k at rs t long few e = rw (size-is most (length rs) few, e) (area-rows k most rs long few t)
 
@@ -207,11 +220,15 @@ module _ (v : List ℤ) (keeps : rule-0 v ≡ true) where
 
   pub counts-of : counts-fit v ≡ true
   unfolding rule-0
-  counts-of = both (counts-fit v) (rows-statable (rows-of v)) (both (leb VALUE (length v)) (counts-fit v && rows-statable (rows-of v)) keeps .1) .0
+  counts-of =
+      both (counts-fit v) (rows-statable (rows-of v))
+      (both (leb VALUE (length v)) (counts-fit v && rows-statable (rows-of v)) keeps .1) .0
 
   rows-ok : rows-statable (rows-of v) ≡ true
   unfolding rule-0
-  rows-ok = both (counts-fit v) (rows-statable (rows-of v)) (both (leb VALUE (length v)) (counts-fit v && rows-statable (rows-of v)) keeps .1) .1
+  rows-ok =
+      both (counts-fit v) (rows-statable (rows-of v))
+      (both (leb VALUE (length v)) (counts-fit v && rows-statable (rows-of v)) keeps .1) .1
 
   -- one kind's rows, cut from the value
   fitting-of : (statable : List (List ℤ) → Bool) (k most at : ℕ) (z : ℤ) → at + most * k ≤ VALUE
@@ -229,8 +246,13 @@ module _ (v : List ℤ) (keeps : rule-0 v ≡ true) where
   pub value-shaped : Shaped (rows-of v)
   unfolding rows-of rows-statable counts-fit
   value-shaped =
-      let a = both (every-from state-statable 0 (rows-of v .states)) (every var-statable (rows-of v .vars) && (every trans-statable (rows-of v .transitions) && every action-statable (rows-of v .actions))) rows-ok in
-      let b = both (every var-statable (rows-of v .vars)) (every trans-statable (rows-of v .transitions) && every action-statable (rows-of v .actions)) (a .1) in
+      let a =
+      both (every-from state-statable 0 (rows-of v .states))
+      (every var-statable (rows-of v .vars) && (every trans-statable (rows-of v .transitions)
+      && every action-statable (rows-of v .actions))) rows-ok in
+      let b =
+      both (every var-statable (rows-of v .vars)) (every trans-statable (rows-of v .transitions)
+      && every action-statable (rows-of v .actions)) (a .1) in
       let c = both (every trans-statable (rows-of v .transitions)) (every action-statable (rows-of v .actions)) (b .1) in
       record {
         states = fitting-of (every-from state-statable 0) STATE-ROW STATES STATES-AT (num v 0) (omega arith) (a .0);

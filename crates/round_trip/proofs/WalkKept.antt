@@ -11,11 +11,13 @@ use lib.ListN.{length}
 use borrow.Author.Tests.{eqb-true, leb-true, le-leb, lt-leb}
 use Rattle.sizes.specs.Sizes.{STATES, VARIABLES, TRANSITIONS, ACTIONS, TEXT}
 use Rattle.meaning.specs.Lists.{map-from}
-use Rattle.meaning.specs.Value.{Rows, num, STATE-ROW, VAR-ROW, TRANS-ROW, ACT-ROW, state-statable, var-statable, trans-statable, action-statable}
+use Rattle.meaning.specs.Value.{Rows, num, STATE-ROW, VAR-ROW, TRANS-ROW, ACT-ROW, state-statable, var-statable, trans-statable}
+use Rattle.meaning.specs.Value.{action-statable}
 use Rattle.meaning.specs.Split.{LF, fields, lines, tails, ended}
 use Rattle.meaning.specs.Grammar.{Record, s-record, v-record, e-record, t-record, a-record, no-record, name, record-by}
 use Rattle.meaning.specs.Line.{Line, letter-of, field, in-order, stage-after, turn-of, line-by, line-in-order, line-of, text-of-row}
-use Rattle.meaning.specs.Text.{done, refused, Walk, start, turns-of, with-row, taken, further, record-of, ending, walk, no-rows, read-unless, read-text, text-by}
+use Rattle.meaning.specs.Text.{done, refused, Walk, start, turns-of, with-row, taken, further, record-of, ending, walk, no-rows}
+use Rattle.meaning.specs.Text.{read-unless, read-text, text-by}
 use Rattle.meaning.specs.declared.Turns.{Turns}
 use Rattle.round_trip.proofs.Numbers.{no}
 use Rattle.round_trip.proofs.Splits.{glued, glued-lines, ended-append}
@@ -184,7 +186,8 @@ module _ (w : Walk) (s : Sound w) (l : List ℕ) (x : List ℤ) where
         states = s .shaped .states;
         vars = s .shaped .vars;
         events = s .shaped .events;
-        transitions = fitting-more (rs .transitions) x TRANS-ROW TRANSITIONS (k .long) (k .fits) trans-statable (s .shaped .transitions) (k .ok);
+        transitions =
+            fitting-more (rs .transitions) x TRANS-ROW TRANSITIONS (k .long) (k .fits) trans-statable (s .shaped .transitions) (k .ok);
         actions = s .shaped .actions;
       };
       staged = record {
@@ -264,9 +267,11 @@ module _ (w : Walk) (s : Sound w) (l : List ℕ) where
   in-order-kept a-record true o n g = a-step w s l _ (leb-true 2 (w .stage) o) (row-kept a-record (turns .actions) l n g)
   in-order-kept no-record true o n g = absurd (false≢true o)
 
-  line-kept : Good (line-of (record-of (fields l)) turns (fields l) .mark) → StepBy (record-of (fields l)) (line-of (record-of (fields l)) turns (fields l))
+  line-kept : Good (line-of (record-of (fields l)) turns (fields l) .mark)
+      → StepBy (record-of (fields l)) (line-of (record-of (fields l)) turns (fields l))
   unfolding line-of turns-of
-  line-kept g = in-order-kept (record-of (fields l)) (in-order (w .stage) (record-of (fields l))) refl (named (letter-of (field (fields l) 0))) g
+  line-kept g =
+      in-order-kept (record-of (fields l)) (in-order (w .stage) (record-of (fields l))) refl (named (letter-of (field (fields l) 0))) g
 
 -- ---- the walk
 

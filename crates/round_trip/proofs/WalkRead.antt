@@ -10,7 +10,8 @@ use lib.ListN.{length, length-append}
 use borrow.Author.Tests.{eq-eqb, le-leb, le-ltb}
 use Rattle.sizes.specs.Sizes.{STATES, VARIABLES, EVENTS, TRANSITIONS, ACTIONS, TEXT}
 use Rattle.meaning.specs.Lists.{every, every-from, map-from}
-use Rattle.meaning.specs.Value.{Rows, count-fits, STATE-ROW, VAR-ROW, TRANS-ROW, ACT-ROW, state-statable, var-statable, trans-statable, action-statable}
+use Rattle.meaning.specs.Value.{Rows, count-fits, STATE-ROW, VAR-ROW, TRANS-ROW, ACT-ROW, state-statable, var-statable, trans-statable}
+use Rattle.meaning.specs.Value.{action-statable}
 use Rattle.meaning.specs.Split.{LF, fields, lines, ended}
 use Rattle.meaning.specs.Grammar.{s-record, v-record, e-record, t-record, a-record, record-by}
 use Rattle.meaning.specs.Line.{in-order, stage-after, line-of, text-of-row}
@@ -56,19 +57,22 @@ stage-past after stage [] = stage
 stage-past after stage (x ∷ xs) = stage-past after after xs
 
 module _ (f : ℕ → List ℤ → List ℕ) (P : ℕ → List ℤ → Type 0) where
-  fine-free : ((k : ℕ) (x : List ℤ) → P k x → Free LF (f k x)) → (k : ℕ) (xs : List (List ℤ)) → AllFine P k xs → AllFree LF (map-from f k xs)
+  fine-free : ((k : ℕ) (x : List ℤ) → P k x → Free LF (f k x)) → (k : ℕ) (xs : List (List ℤ)) → AllFine P k xs
+      → AllFree LF (map-from f k xs)
   unfolding AllFree map-from
   fine-free h k [] a = tt
   fine-free h k (x ∷ xs) a = (h k x (a .0), fine-free h (suc k) xs (a .1))
 
-  fine-short : (b : ℕ) → ((k : ℕ) (x : List ℤ) → P k x → length (f k x) ≤ b) → (k : ℕ) (xs : List (List ℤ)) → AllFine P k xs → AllShort b (map-from f k xs)
+  fine-short : (b : ℕ) → ((k : ℕ) (x : List ℤ) → P k x → length (f k x) ≤ b) → (k : ℕ) (xs : List (List ℤ)) → AllFine P k xs
+      → AllShort b (map-from f k xs)
   unfolding AllShort map-from
   fine-short b h k [] a = tt
   fine-short b h k (x ∷ xs) a = (h k x (a .0), fine-short b h (suc k) xs (a .1))
 
   module _
       (at : ℕ → List (List ℤ) → Walk) (Stage : ℕ → Type 0) (after : ℕ) (stays : Stage after)
-      (goes : (stage : ℕ) (acc : List (List ℤ)) (x : List ℤ) → Stage stage → P (length acc) x → Goes (at stage acc) (f (length acc) x) (at after (acc ++ (x ∷ []))))
+      (goes : (stage : ℕ) (acc : List (List ℤ)) (x : List ℤ) → Stage stage → P (length acc) x
+      → Goes (at stage acc) (f (length acc) x) (at after (acc ++ (x ∷ []))))
     where
       fine-reads : (stage : ℕ) (acc xs : List (List ℤ)) (k : ℕ) → k ≡ length acc → Stage stage → AllFine P k xs
           → Reads (at stage acc) (map-from f k xs) (at (stage-past after stage xs) (acc ++ xs))
@@ -91,14 +95,16 @@ record Row (statable : ℕ → List ℤ → Bool) (size most k : ℕ) (x : List 
   long : length x ≡ size
   fits : k < most
 
-fine-from : (p : ℕ → List ℤ → Bool) (size most k : ℕ) (xs : List (List ℤ)) → every-from p k xs ≡ true → AllLong size xs → k + length xs ≤ most → AllFine (Row p size most) k xs
+fine-from : (p : ℕ → List ℤ → Bool) (size most k : ℕ) (xs : List (List ℤ)) → every-from p k xs ≡ true → AllLong size xs
+    → k + length xs ≤ most → AllFine (Row p size most) k xs
 unfolding every-from AllLong
 fine-from p size most k [] e l h = tt
 fine-from p size most k (x ∷ xs) e l h =
     let w = both (p k x) (every-from p (suc k) xs) e in
     (record { ok = w .0; long = l .0; fits = omega arith }, fine-from p size most (suc k) xs (w .1) (l .1) (omega arith))
 
-fine-every : (p : List ℤ → Bool) (size most k : ℕ) (xs : List (List ℤ)) → every p xs ≡ true → AllLong size xs → k + length xs ≤ most → AllFine (Row (λ _ x. p x) size most) k xs
+fine-every : (p : List ℤ → Bool) (size most k : ℕ) (xs : List (List ℤ)) → every p xs ≡ true → AllLong size xs → k + length xs ≤ most
+    → AllFine (Row (λ _ x. p x) size most) k xs
 unfolding every AllLong
 fine-every p size most k [] e l h = tt
 fine-every p size most k (x ∷ xs) e l h =
@@ -126,13 +132,23 @@ s-goes : (vs ts qs : List (List ℤ)) (z : ℤ) (stage : ℕ) (acc : List (List 
     → Goes (at stage acc vs z ts qs) (text-of-row s-record (length acc) x) (at 0 (acc ++ (x ∷ [])) vs z ts qs)
 unfolding line-of in-order turns-of with-row stage-after record-by state-statable
 s-goes vs ts qs z stage acc x o r n more =
-    rw (row-named s-record (length acc) x (r .ok) (r .fits), eq-eqb stage 0 o, row-reads s-record (length acc) x (r .ok) (r .fits) (r .long))
+    rw (
+      row-named s-record (length acc) x (r .ok) (r .fits),
+      eq-eqb stage 0 o,
+      row-reads s-record (length acc) x (r .ok) (r .fits)
+          (r .long),
+    )
 
 v-goes : (ss ts qs : List (List ℤ)) (z : ℤ) (stage : ℕ) (acc : List (List ℤ)) (x : List ℤ) → stage ≤ 1 → VRow (length acc) x
     → Goes (at stage ss acc z ts qs) (text-of-row v-record (length acc) x) (at 1 ss (acc ++ (x ∷ [])) z ts qs)
 unfolding line-of in-order turns-of with-row stage-after record-by var-statable
 v-goes ss ts qs z stage acc x o r n more =
-    rw (row-named v-record (length acc) x (r .ok) (r .fits), le-leb stage 1 o, row-reads v-record (length acc) x (r .ok) (r .fits) (r .long))
+    rw (
+      row-named v-record (length acc) x (r .ok) (r .fits),
+      le-leb stage 1 o,
+      row-reads v-record (length acc) x (r .ok) (r .fits)
+          (r .long),
+    )
 
 e-goes : (ss vs ts qs : List (List ℤ)) (z y : ℤ) (stage : ℕ) → stage ≤ 1 → count-fits 0 EVENTS y ≡ true
     → Goes (at stage ss vs z ts qs) (text-of-row e-record 0 (y ∷ [])) (at 2 ss vs y ts qs)
@@ -144,13 +160,23 @@ t-goes : (ss vs qs : List (List ℤ)) (z : ℤ) (stage : ℕ) (acc : List (List 
     → Goes (at stage ss vs z acc qs) (text-of-row t-record (length acc) x) (at 2 ss vs z (acc ++ (x ∷ [])) qs)
 unfolding line-of in-order turns-of with-row stage-after record-by trans-statable
 t-goes ss vs qs z stage acc x o r n more =
-    rw (row-named t-record (length acc) x (r .ok) (r .fits), eq-eqb stage 2 o, row-reads t-record (length acc) x (r .ok) (r .fits) (r .long))
+    rw (
+      row-named t-record (length acc) x (r .ok) (r .fits),
+      eq-eqb stage 2 o,
+      row-reads t-record (length acc) x (r .ok) (r .fits)
+          (r .long),
+    )
 
 a-goes : (ss vs ts : List (List ℤ)) (z : ℤ) (stage : ℕ) (acc : List (List ℤ)) (x : List ℤ) → 2 ≤ stage → ARow (length acc) x
     → Goes (at stage ss vs z ts acc) (text-of-row a-record (length acc) x) (at 3 ss vs z ts (acc ++ (x ∷ [])))
 unfolding line-of in-order turns-of with-row stage-after record-by action-statable
 a-goes ss vs ts z stage acc x o r n more =
-    rw (row-named a-record (length acc) x (r .ok) (r .fits), le-leb 2 stage o, row-reads a-record (length acc) x (r .ok) (r .fits) (r .long))
+    rw (
+      row-named a-record (length acc) x (r .ok) (r .fits),
+      le-leb 2 stage o,
+      row-reads a-record (length acc) x (r .ok) (r .fits)
+          (r .long),
+    )
 
 -- ---- free of LF, and short: lines of S and V have at most 49 bytes, of E 13, of T 76, of A 41
 
@@ -206,7 +232,9 @@ module _
     (fs : AllFine SRow 0 ss) (fv : AllFine VRow 0 vs) (h : count-fits 0 EVENTS m ≡ true) (ft : AllFine TRow 0 ts) (fa : AllFine ARow 0 qs)
   where
     abbrev all-lines : List (List ℕ)
-    all-lines = map-from (text-of-row s-record) 0 ss ++ (map-from (text-of-row v-record) 0 vs ++ (text-of-row e-record 0 (m ∷ []) ∷ (map-from (text-of-row t-record) 0 ts ++ map-from (text-of-row a-record) 0 qs)))
+    all-lines =
+        map-from (text-of-row s-record) 0 ss ++ (map-from (text-of-row v-record) 0 vs
+        ++ (text-of-row e-record 0 (m ∷ []) ∷ (map-from (text-of-row t-record) 0 ts ++ map-from (text-of-row a-record) 0 qs)))
 
     abbrev v-past : ℕ
     v-past = stage-past 1 (stage-past 0 0 ss) vs
@@ -215,23 +243,32 @@ module _
     all-reads =
         let s0 : stage-past 0 0 ss ≤ 1 = past-below 0 0 ss 1 (omega arith) (omega arith) in
         let s2 : 2 ≤ stage-past 2 2 ts = past-above 2 2 ts 2 (omega arith) (omega arith) in
-        then (fine-reads (text-of-row s-record) SRow (λ st acc. at st acc [] (pos 0) [] []) (λ st. st ≡ 0) 0 refl (s-goes [] [] [] (pos 0)) 0 [] ss 0 refl refl fs)
-        (then (fine-reads (text-of-row v-record) VRow (λ st acc. at st ss acc (pos 0) [] []) (λ st. st ≤ 1) 1 (omega arith) (v-goes ss [] [] (pos 0)) (stage-past 0 0 ss) [] vs 0 refl s0 fv)
+        then (fine-reads (text-of-row s-record) SRow (λ st acc. at st acc [] (pos 0) [] []) (λ st. st ≡ 0) 0 refl
+        (s-goes [] [] [] (pos 0)) 0 [] ss 0 refl refl fs)
+        (then (fine-reads (text-of-row v-record) VRow (λ st acc. at st ss acc (pos 0) [] []) (λ st. st ≤ 1) 1 (omega arith)
+        (v-goes ss [] [] (pos 0)) (stage-past 0 0 ss) [] vs 0 refl s0 fv)
         (one (e-goes ss vs [] [] (pos 0) m v-past (past-below 1 (stage-past 0 0 ss) vs 1 (omega arith) s0) h)
-        (then (fine-reads (text-of-row t-record) TRow (λ st acc. at st ss vs m acc []) (λ st. st ≡ 2) 2 refl (t-goes ss vs [] m) 2 [] ts 0 refl refl ft)
-        (fine-reads (text-of-row a-record) ARow (λ st acc. at st ss vs m ts acc) (λ st. 2 ≤ st) 3 (omega arith) (a-goes ss vs ts m) (stage-past 2 2 ts) [] qs 0 refl s2 fa))))
+        (then (fine-reads (text-of-row t-record) TRow (λ st acc. at st ss vs m acc []) (λ st. st ≡ 2) 2 refl (t-goes ss vs [] m) 2 [] ts 0
+        refl refl ft)
+        (fine-reads (text-of-row a-record) ARow (λ st acc. at st ss vs m ts acc) (λ st. 2 ≤ st) 3 (omega arith) (a-goes ss vs ts m)
+        (stage-past 2 2 ts) [] qs 0 refl s2 fa))))
 
-    all-walked : walk 1 start (all-lines ++ ([] ∷ [])) ≡ done (record { states = ss; vars = vs; events = m; transitions = ts; actions = qs })
+    all-walked : walk 1 start (all-lines ++ ([] ∷ []))
+        ≡ done (record { states = ss; vars = vs; events = m; transitions = ts; actions = qs })
     all-walked =
         let s2 : 2 ≤ stage-past 2 2 ts = past-above 2 2 ts 2 (omega arith) (omega arith) in
-        walk-reads 1 all-reads ∙ rw (le-leb 2 (stage-past 3 (stage-past 2 2 ts) qs) (past-above 3 (stage-past 2 2 ts) qs 2 (omega arith) s2))
+        walk-reads 1 all-reads ∙ rw (le-leb 2 (stage-past 3 (stage-past 2 2 ts) qs)
+        (past-above 3 (stage-past 2 2 ts) qs 2 (omega arith) s2))
 
     all-free : AllFree LF all-lines
     unfolding AllFree
     all-free =
-        all-free-append LF (map-from (text-of-row s-record) 0 ss) (map-from (text-of-row v-record) 0 vs ++ (text-of-row e-record 0 (m ∷ []) ∷ (map-from (text-of-row t-record) 0 ts ++ map-from (text-of-row a-record) 0 qs)))
+        all-free-append LF (map-from (text-of-row s-record) 0 ss)
+        (map-from (text-of-row v-record) 0 vs ++ (text-of-row e-record 0 (m ∷ [])
+        ∷ (map-from (text-of-row t-record) 0 ts ++ map-from (text-of-row a-record) 0 qs)))
         (fine-free (text-of-row s-record) SRow s-free 0 ss fs)
-        (all-free-append LF (map-from (text-of-row v-record) 0 vs) (text-of-row e-record 0 (m ∷ []) ∷ (map-from (text-of-row t-record) 0 ts ++ map-from (text-of-row a-record) 0 qs))
+        (all-free-append LF (map-from (text-of-row v-record) 0 vs)
+        (text-of-row e-record 0 (m ∷ []) ∷ (map-from (text-of-row t-record) 0 ts ++ map-from (text-of-row a-record) 0 qs))
         (fine-free (text-of-row v-record) VRow v-free 0 vs fv) (
           row-free e-record 0 (m ∷ []) h (omega arith),
           all-free-append LF (map-from (text-of-row t-record) 0 ts) (map-from (text-of-row a-record) 0 qs)
@@ -258,7 +295,8 @@ module _
 fine-states : (xs : List (List ℤ)) → Fitting (every-from state-statable 0) STATE-ROW STATES xs → AllFine SRow 0 xs
 fine-states xs f = let k = f .few in fine-from state-statable STATE-ROW STATES 0 xs (f .ok) (f .long) (omega arith)
 
-fine-rows : (p : List ℤ → Bool) (size most : ℕ) (xs : List (List ℤ)) → Fitting (every p) size most xs → AllFine (Row (λ _ x. p x) size most) 0 xs
+fine-rows : (p : List ℤ → Bool) (size most : ℕ) (xs : List (List ℤ)) → Fitting (every p) size most xs
+    → AllFine (Row (λ _ x. p x) size most) 0 xs
 fine-rows p size most xs f = let k = f .few in fine-every p size most 0 xs (f .ok) (f .long) (omega arith)
 
 -- rows that a text can state: their text is never too long, and it reads as those rows
@@ -284,7 +322,9 @@ module _ (r : Rows) (s : Shaped r) where
   lines-read : walk 1 start (lines (text-by r)) ≡ done r
   unfolding text-by
   lines-read =
-      ap (λ (ls : List (List ℕ)). walk 1 start ls) (lines-ended (all-lines (r .states) (r .vars) (r .transitions) (r .actions) (r .events) fs fv (s .events) ft fa) (all-free (r .states) (r .vars) (r .transitions) (r .actions) (r .events) fs fv (s .events) ft fa))
+      ap (λ (ls : List (List ℕ)). walk 1 start ls) (lines-ended
+      (all-lines (r .states) (r .vars) (r .transitions) (r .actions) (r .events) fs fv (s .events) ft fa)
+      (all-free (r .states) (r .vars) (r .transitions) (r .actions) (r .events) fs fv (s .events) ft fa))
       ∙ all-walked (r .states) (r .vars) (r .transitions) (r .actions) (r .events) fs fv (s .events) ft fa
 
   pub text-reads : read-text (text-by r) ≡ done r

@@ -17,18 +17,6 @@ use Rattle.rules.specs.Clauses.{number-if, guard-statable, target-statab
 use Rattle.rules.proofs.Clauses.{state-is, trans-is, action-is}
 use Rattle.chart_rows.proofs.Rows.{chunk-at, num-at, num-first}
 
--- ---- the loop over the letters: those from i on say as much as all
-
-module _ (ls : List ℕ) (i : ℕ) (z : ℤ) {b : Bool} where
-  pub letter-here : i < length ls → is-letter (getD ls i 0) z ≡ true → one-of-letters (drop i ls) z ≡ b → true ≡ b
-  letter-here h e g = rw (drop-cons ls i 0 h, e) at g
-
-  pub letter-next : i < length ls → is-letter (getD ls i 0) z ≡ false → one-of-letters (drop i ls) z ≡ b → one-of-letters (drop (i + 1) ls) z ≡ b
-  letter-next h e g = rw (add-one i) (rw (drop-cons ls i 0 h, e) at g)
-
-  pub letter-none : length ls ≤ i → one-of-letters (drop i ls) z ≡ b → false ≡ b
-  letter-none h g = rw (drop-of-length-le ls h) at g
-
 -- ---- the rows, number by number, from the place b where a row begins
 
 pub row-of : (n k a : ℕ) (v : List ℤ) (i : ℕ) → i < n → getD (chunks n k (drop a v)) i [] ≡ take k (drop (a + i * k) v)

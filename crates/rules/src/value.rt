@@ -1,8 +1,9 @@
 // R0 (01, "Chart rules, in order"), for a chart handed over as a value: counts and constants keep their sizes and every
 // field is one that a text can state. Each function equals the definition of the same name in the crate meaning.
-use chart_rows::action_count;
+use chart_rows::count_at;
 use chart_rows::decode::is_absent;
 use chart_rows::decode::is_letter;
+use chart_rows::decode::one_of_letters;
 use chart_rows::layout::ACT_ROW;
 use chart_rows::layout::ACTION_COUNT;
 use chart_rows::layout::ACTIONS_AT;
@@ -18,9 +19,6 @@ use chart_rows::layout::VAR_COUNT;
 use chart_rows::layout::VAR_ROW;
 use chart_rows::layout::VARS_AT;
 use chart_rows::number_at;
-use chart_rows::state_count;
-use chart_rows::transition_count;
-use chart_rows::var_count;
 use numbers::between;
 use numbers::in_range;
 use numbers::number;
@@ -32,30 +30,17 @@ use sizes::VARIABLES;
 ghost use mathlib.Core.Path.{_≡_};
 ghost use mathlib.Core.Bool.{_&&_, _||_};
 ghost use mathlib.Core.List.{_∷_, []};
-ghost use Prim.Native.Nat.{_<_, _+_, _*_};
+ghost use Prim.Native.Nat.{_<_, _≤_, _+_, _*_};
 ghost use lib.ListN.{take, drop};
 ghost use Rattle.sizes.specs.Sizes.{STATES, VARIABLES, TRANSITIONS, ACTIONS};
 ghost use Rattle.numbers.specs.Reference.{NOWHERE};
 ghost use Rattle.numbers.specs.Range.{inRange};
-ghost use Rattle.meaning.specs.Lists.{every, every-from};
+ghost use Rattle.meaning.specs.Lists.{every-from};
 ghost use Rattle.meaning.specs.Value.{STATE-ROW, VAR-ROW, TRANS-ROW, ACT-ROW, STATES-AT, VARS-AT, TRANSITIONS-AT, ACTIONS-AT};
 ghost use Rattle.meaning.specs.Value.{num, is-letter, is-absent, one-of-letters, count-fits, counts-fit, rows-of, rows-statable, rule-0};
 ghost use Rattle.meaning.specs.Value.{state-statable, var-statable, trans-statable, action-statable};
 ghost use Rattle.rules.specs.Clauses.{number-if, guard-statable, target-statable};
-
-// Is the number one of these letters?
-fn one_of_letters(letters: &[u8], z: i32) -> bool
-    ensures { λ r. ⌜ r ≡ one-of-letters (now (letters .entry)) z ⌝ }
-{
-    let mut i = 0;
-    while i < letters.len() {
-        if is_letter(letters[i], z) {
-            return true;
-        }
-        i += 1;
-    }
-    false
-}
+ghost use Rattle.rules.specs.ByKind.{most-by, statable-by, row-in, rows-by};
 
 // A number where it is wanted, else "-".
 fn number_if(wanted: bool, z: i32) -> bool
@@ -209,55 +194,27 @@ fn action_statable(chart: &[i32], i: usize) -> bool
     number_if(one_of_letters(b"saq", act), number_at(chart, at + 4))
 }
 
-fn states_statable(chart: &[i32]) -> bool
-    ensures { λ r. ⌜ r ≡ every-from state-statable 0 (rows-of (now (chart .entry)) .states) ⌝ }
+// Row i of the kind that a letter names.
+fn row_statable(chart: &[i32], kind: u8, i: usize) -> bool
+    requires { ⌜ i < most-by kind ⌝ }
+    ensures { λ r. ⌜ r ≡ statable-by kind i (row-in kind i (now (chart .entry))) ⌝ }
 {
-    let n = state_count(chart);
-    let mut i = 0;
-    while i < n {
-        if !state_statable(chart, i) {
-            return false;
-        }
-        i += 1;
+    match kind {
+        b'S' => state_statable(chart, i),
+        b'V' => var_statable(chart, i),
+        b'T' => trans_statable(chart, i),
+        _ => action_statable(chart, i),
     }
-    true
 }
 
-fn vars_statable(chart: &[i32]) -> bool
-    ensures { λ r. ⌜ r ≡ every var-statable (rows-of (now (chart .entry)) .vars) ⌝ }
+// So many rows of that kind.
+fn kind_statable(chart: &[i32], kind: u8, count: usize) -> bool
+    requires { ⌜ count ≤ most-by kind ⌝ }
+    ensures { λ r. ⌜ r ≡ every-from (statable-by kind) 0 (rows-by kind count (now (chart .entry))) ⌝ }
 {
-    let n = var_count(chart);
     let mut i = 0;
-    while i < n {
-        if !var_statable(chart, i) {
-            return false;
-        }
-        i += 1;
-    }
-    true
-}
-
-fn transitions_statable(chart: &[i32]) -> bool
-    ensures { λ r. ⌜ r ≡ every trans-statable (rows-of (now (chart .entry)) .transitions) ⌝ }
-{
-    let n = transition_count(chart);
-    let mut i = 0;
-    while i < n {
-        if !trans_statable(chart, i) {
-            return false;
-        }
-        i += 1;
-    }
-    true
-}
-
-fn actions_statable(chart: &[i32]) -> bool
-    ensures { λ r. ⌜ r ≡ every action-statable (rows-of (now (chart .entry)) .actions) ⌝ }
-{
-    let n = action_count(chart);
-    let mut i = 0;
-    while i < n {
-        if !action_statable(chart, i) {
+    while i < count {
+        if !row_statable(chart, kind, i) {
             return false;
         }
         i += 1;
@@ -294,16 +251,16 @@ fn counts_fit(chart: &[i32]) -> bool
 fn rows_statable(chart: &[i32]) -> bool
     ensures { λ r. ⌜ r ≡ rows-statable (rows-of (now (chart .entry))) ⌝ }
 {
-    if !states_statable(chart) {
+    if !kind_statable(chart, b'S', count_at(chart, STATE_COUNT, STATES)) {
         return false;
     }
-    if !vars_statable(chart) {
+    if !kind_statable(chart, b'V', count_at(chart, VAR_COUNT, VARIABLES)) {
         return false;
     }
-    if !transitions_statable(chart) {
+    if !kind_statable(chart, b'T', count_at(chart, TRANSITION_COUNT, TRANSITIONS)) {
         return false;
     }
-    actions_statable(chart)
+    kind_statable(chart, b'A', count_at(chart, ACTION_COUNT, ACTIONS))
 }
 
 // R0; numbers too few for the layout do not state a chart.

@@ -1,6 +1,4 @@
-pub mod MarkLaws
+pub mod CellLaws
+pub mod LineLaws
 pub mod RowLaws
-pub mod LetterLaws
-pub mod TextLaws
-pub mod LoopLaws
 pub mod WriteLaws

@@ -53,72 +53,77 @@ drop-zeros (suc k) (suc n) = let e : suc n - suc k ≡ n - k = omega arith in rw
 
 -- ---- what the caller sees
 
-module _ (v : List ℤ) (allowed : failing-rule-of v ≡ none) (o l : List ℕ) (n e : ℕ) (o-is : o ≡ zeros n) (w : pen l e ≡ put-all (text-of v) (pen o 0)) where
-  w-zeros : pen l e ≡ put-all (text-of v) (pen (zeros n) 0)
-  w-zeros = w ∙ ap (λ (x : List ℕ). put-all (text-of v) (pen x 0)) o-is
+module _
+    (v : List ℤ) (allowed : failing-rule-of v ≡ none) (o l : List ℕ) (n e : ℕ) (o-is : o ≡ zeros n)
+    (w : pen l e ≡ put-all (text-of v) (pen o 0))
+  where
+    w-zeros : pen l e ≡ put-all (text-of v) (pen (zeros n) 0)
+    w-zeros = w ∙ ap (λ (x : List ℕ). put-all (text-of v) (pen x 0)) o-is
 
-  zeros-length : length (zeros n) ≡ n
-  unfolding zeros
-  zeros-length = length-replicate {A = ℕ} n 0
+    zeros-length : length (zeros n) ≡ n
+    unfolding zeros
+    zeros-length = length-replicate {A = ℕ} n 0
 
-  tail : length (text-of v) ≤ n → sets (zeros n) 0 (text-of v) ≡ padded n 0 (text-of v)
-  unfolding zeros padded
-  tail h =
-      let z : 0 + length (text-of v) ≡ length (text-of v) = omega arith in
-      sets-eq (text-of v) (replicate n 0) 0 (omega (arith, length-replicate {A = ℕ} n 0)) ∙ rw (drop-zeros, z)
+    tail : length (text-of v) ≤ n → sets (zeros n) 0 (text-of v) ≡ padded n 0 (text-of v)
+    unfolding zeros padded
+    tail h =
+        let z : 0 + length (text-of v) ≡ length (text-of v) = omega arith in
+        sets-eq (text-of v) (replicate n 0) 0 (omega (arith, length-replicate {A = ℕ} n 0)) ∙ rw (drop-zeros, z)
 
-  -- the end of a text that fits, and of one that does not
-  ended-in : length (text-of v) ≤ n → (e ≡ length (text-of v)) × (l ≡ padded n 0 (text-of v))
-  ended-in h =
-      let b = zeros-length in
-      let f = w-zeros ∙ fits (text-of v) (zeros n) 0 (omega arith) in
-      let z : 0 + length (text-of v) ≡ length (text-of v) = omega arith in
-      (ap (λ (p : Pen). p .at) f ∙ z, ap (λ (p : Pen). p .bytes) f ∙ tail h)
+    -- the end of a text that fits, and of one that does not
+    ended-in : length (text-of v) ≤ n → (e ≡ length (text-of v)) × (l ≡ padded n 0 (text-of v))
+    ended-in h =
+        let b = zeros-length in
+        let f = w-zeros ∙ fits (text-of v) (zeros n) 0 (omega arith) in
+        let z : 0 + length (text-of v) ≡ length (text-of v) = omega arith in
+        (ap (λ (p : Pen). p .at) f ∙ z, ap (λ (p : Pen). p .bytes) f ∙ tail h)
 
-  ended-over : n < length (text-of v) → n < e
-  ended-over h =
-      let b = zeros-length in
-      let x = all-over (text-of v) (zeros n) 0 (omega arith) in
-      let q : e ≡ put-all (text-of v) (pen (zeros n) 0) .at = ap (λ (p : Pen). p .at) w-zeros in
-      omega arith
+    ended-over : n < length (text-of v) → n < e
+    ended-over h =
+        let b = zeros-length in
+        let x = all-over (text-of v) (zeros n) 0 (omega arith) in
+        let q : e ≡ put-all (text-of v) (pen (zeros n) 0) .at = ap (λ (p : Pen). p .at) w-zeros in
+        omega arith
 
-  abbrev Seen : Written → List ℕ → Type 0
-  Seen r x = (r ≡ written v n) × (x ≡ lent-bytes n (write v n))
+    abbrev Seen : Written → List ℕ → Type 0
+    Seen r x = (r ≡ written v n) × (x ≡ lent-bytes n (write v n))
 
-  abbrev told : Answer → ℕ → Written
-  told a k = record { answer = a; length = k }
+    abbrev told : Answer → ℕ → Written
+    told a k = record { answer = a; length = k }
 
-  seen-over : n < length (text-of v) → Seen (told (answer 13 0) 0) (zeros n)
-  unfolding written write lent-bytes lent zeros
-  seen-over h = rw (allowed, lt-ltb n (length (text-of v)) h) (refl, refl)
+    seen-over : n < length (text-of v) → Seen (told (answer 13 0) 0) (zeros n)
+    unfolding written write lent-bytes lent zeros
+    seen-over h = rw (allowed, lt-ltb n (length (text-of v)) h) (refl, refl)
 
-  seen-in : length (text-of v) ≤ n → Seen (told (answer 0 0) (length (text-of v))) (padded n 0 (text-of v))
-  unfolding written write lent-bytes lent
-  seen-in h = rw (allowed, le-ltb n (length (text-of v)) h) (refl, refl)
+    seen-in : length (text-of v) ≤ n → Seen (told (answer 0 0) (length (text-of v))) (padded n 0 (text-of v))
+    unfolding written write lent-bytes lent
+    seen-in h = rw (allowed, le-ltb n (length (text-of v)) h) (refl, refl)
 
-  -- by the place after the last byte
-  pub wrote-over : n < e → (m : List ℕ) (k : ℕ) → k ≡ n → m ≡ zeros k → Seen (told (answer 13 0) 0) m
-  wrote-over h m k ek em = go (ltb n (length (text-of v))) refl
-    where
-      go : (t : Bool) → ltb n (length (text-of v)) ≡ t → Seen (told (answer 13 0) 0) m
-      go true x = rw (em, ek) (seen-over (ltb-true n (length (text-of v)) x))
-      go false x = let j = ltb-false n (length (text-of v)) x in let i = ended-in j .0 in absurd (omega arith)
+    -- by the place after the last byte
+    pub wrote-over : n < e → (m : List ℕ) (k : ℕ) → k ≡ n → m ≡ zeros k → Seen (told (answer 13 0) 0) m
+    wrote-over h m k ek em = go (ltb n (length (text-of v))) refl
+      where
+        go : (t : Bool) → ltb n (length (text-of v)) ≡ t → Seen (told (answer 13 0) 0) m
+        go true x = rw (em, ek) (seen-over (ltb-true n (length (text-of v)) x))
+        go false x = let j = ltb-false n (length (text-of v)) x in let i = ended-in j .0 in absurd (omega arith)
 
-  pub wrote-in : e ≤ n → Seen (told (answer 0 0) e) l
-  wrote-in h = go (ltb n (length (text-of v))) refl
-    where
-      go : (t : Bool) → ltb n (length (text-of v)) ≡ t → Seen (told (answer 0 0) e) l
-      go true x = let y = ended-over (ltb-true n (length (text-of v)) x) in absurd (omega arith)
-      go false x = let i = ended-in (ltb-false n (length (text-of v)) x) in rw (i .0, i .1) (seen-in (ltb-false n (length (text-of v)) x))
+    pub wrote-in : e ≤ n → Seen (told (answer 0 0) e) l
+    wrote-in h = go (ltb n (length (text-of v))) refl
+      where
+        go : (t : Bool) → ltb n (length (text-of v)) ≡ t → Seen (told (answer 0 0) e) l
+        go true x = let y = ended-over (ltb-true n (length (text-of v)) x) in absurd (omega arith)
+        go false x = let i = ended-in (ltb-false n (length (text-of v)) x) in rw (i .0, i .1) (seen-in (ltb-false n (length (text-of v)) x))
 
 -- ---- the verdict of the rules
 
 module _ (v : List ℤ) (a : Answer) (e : a ≡ verdict (failing-rule-of v)) where
-  pub wrote-refused : (n k : ℕ) (m : List ℕ) → (a .number ≡ 0 → ⊥) → k ≡ n → m ≡ zeros k → (record { answer = a; length = 0 } ≡ written v n) × (m ≡ lent-bytes n (write v n))
+  pub wrote-refused : (n k : ℕ) (m : List ℕ) → (a .number ≡ 0 → ⊥) → k ≡ n → m ≡ zeros k
+      → (record { answer = a; length = 0 } ≡ written v n) × (m ≡ lent-bytes n (write v n))
   unfolding verdict written write lent-bytes lent zeros
   wrote-refused n k m h ek em = go (failing-rule-of v) e
     where
       go : (o : Option ℕ) → a ≡ verdict o
-          → (_≡_ {A = Written} (record { answer = a; length = 0 }) (record { answer = answer-of (written-by o v n); length = count-of (written-by o v n) })) × (m ≡ lent 0 n (written-by o v n))
+          → (_≡_ {A = Written} (record { answer = a; length = 0 })
+          (record { answer = answer-of (written-by o v n); length = count-of (written-by o v n) })) × (m ≡ lent 0 n (written-by o v n))
       go none x = absurd (h (ap (λ (y : Answer). y .number) x))
       go (some r) x = (ap (λ (y : Answer). record { answer = y; length = 0 }) x, em ∙ ap zeros ek)

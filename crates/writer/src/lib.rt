@@ -1,6 +1,5 @@
 // The writer (01, "Chart text"): the text of a chart that passes the rules, in a lent slice; 13 where it is too long for the slice.
-pub mod kinds;
-pub mod marks;
+pub mod cells;
 pub mod rows;
 
 use meaning::Answer;
@@ -27,10 +26,11 @@ pub fn clear(text: &mut [u8])
 // The text of a chart that passes the rules; 13 where it is longer than the slice.
 pub fn write_passed(chart: &[i32], text: &mut [u8]) -> Written
     requires { ⌜ failing-rule-of (now chart) ≡ none ⌝ }
-    ensures { λ r. ⌜ (r ≡ written (now (chart .entry)) (length (now (text .entry)))) × (now (text .exit) ≡ lent-bytes (length (now (text .entry))) (written-out (now (chart .entry)) (length (now (text .entry))))) ⌝ }
+    ensures { λ r. ⌜ (r ≡ written (now (chart .entry)) (length (now (text .entry))))
+        × (now (text .exit) ≡ lent-bytes (length (now (text .entry))) (written-out (now (chart .entry)) (length (now (text .entry))))) ⌝ }
 {
     clear(text);
-    let end = kinds::put_chart(chart, text);
+    let end = rows::put_chart(chart, text);
     if text.len() < end {
         clear(text);
         let answer = Answer {

@@ -20,75 +20,27 @@ field-at t = and 1 field-kinds.ps (is 1 field-kinds.ps μ-field t) field.Pre
 abbrev field-below : ℕ → In 1 field-kinds.ps
 field-below t = and 1 field-kinds.ps (falls 1 field-kinds.ps _<_ μ-field t) field.Pre
 
-field-stop-requires : (t : ℕ) → field-lts.Need-stop-requires (
-  stop-reads.Asked,
-  stop-reads.Learnt,
-  field-below t,
-  field.Post,
-) (field-at t) field.Post
-field-stop-requires t c κs = search needs
-
-field-returns : (t : ℕ) → field-lts.Need-returns (
-  stop-reads.Asked,
-  stop-reads.Learnt,
-  field-below t,
-  field.Post,
-) (field-at t) field.Post
-field-returns t c = field-first _ _ _ _ (c .before .stop .ensures) _ (c .if1 .taken)
-
-field-returns-2 : (t : ℕ) → field-lts.Need-returns-2 (
-  stop-reads.Asked,
-  stop-reads.Learnt,
-  field-below t,
-  field.Post,
-) (field-at t) field.Post
-field-returns-2 t c = field-none _ _ _ _ (c .before .before .stop .ensures) _ (c .before .if1 .left) (c .if2 .taken)
-
-field-add-field : (t : ℕ) → field-lts.Need-add-field (
-  stop-reads.Asked,
-  stop-reads.Learnt,
-  field-below t,
-  field.Post,
-) (field-at t) field.Post
-field-add-field t c = search needs
-
-field-sub-field : (t : ℕ) → field-lts.Need-sub-field (
-  stop-reads.Asked,
-  stop-reads.Learnt,
-  field-below t,
-  field.Post,
-) (field-at t) field.Post
-field-sub-field t c = search needs
-
-field-field-requires : (t : ℕ) → field-lts.Need-field-requires (
-  stop-reads.Asked,
-  stop-reads.Learnt,
-  field-below t,
-  field.Post,
-) (field-at t) field.Post
-field-field-requires t c κs = search needs
-
-field-returns-3 : (t : ℕ) → field-lts.Need-returns-3 (
-  stop-reads.Asked,
-  stop-reads.Learnt,
-  field-below t,
-  field.Post,
-) (field-at t) field.Post
-field-returns-3 t c = field-next _ _ _ _ (c .before .before .before .stop .ensures) _ _ _ (c .before .before .if1 .left) (c .before .if2 .left) (c .field .ensures)
-
-pub +field-spec : {M : Type 1} → statement M
-+field-spec = close μ-field λ t. field-lts.spec (
+abbrev field-knows : ℕ → field-lts.Claims
+field-knows t = (
   stop-reads.Asked,
   stop-reads.Learnt,
   field-below t,
   field.Post,
 )
-    (field-at t)
-    field.Post
-    (field-stop-requires t)
-    (field-returns t)
-    (field-returns-2 t)
-    (field-add-field t)
-    (field-sub-field t)
-    (field-field-requires t)
+
+field-returns : (t : ℕ) → field-lts.Need-returns (field-knows t) (field-at t) field.Post
+field-returns t c = field-first _ _ _ _ (c .before .stop .ensures) _ (c .if1 .taken)
+
+field-returns-2 : (t : ℕ) → field-lts.Need-returns-2 (field-knows t) (field-at t) field.Post
+field-returns-2 t c = field-none _ _ _ _ (c .before .before .stop .ensures) _ (c .before .if1 .left) (c .if2 .taken)
+
+field-returns-3 : (t : ℕ) → field-lts.Need-returns-3 (field-knows t) (field-at t) field.Post
+field-returns-3 t c =
+    field-next _ _ _ _ (c .before .before .before .stop .ensures) _ _ _ (c .before .before .if1 .left)
+    (c .before .if2 .left) (c .field .ensures)
+
+pub +field-spec : {M : Type 1} → statement M
++field-spec =
+    close μ-field λ t. field-lts.spec (field-knows t) (field-at t) field.Post (λ c κs. search needs)
+    (field-returns t) (field-returns-2 t) (λ c. search needs) (λ c. search needs) (λ c κs. search needs)
     (field-returns-3 t)

@@ -19,9 +19,6 @@ abbrev μ-loop : tie.MeasureT-loop
 loop-holds : tie.Need-loop-holds Inv-loop μ-loop
 loop-holds c = (refl, omega arith, omega arith)
 
-shared-slice-read-b : tie.Need-shared-slice-read-b Inv-loop μ-loop
-shared-slice-read-b c = search needs
-
 returns : tie.Need-returns Inv-loop μ-loop
 returns c =
     let l = c .before .before in
@@ -32,19 +29,11 @@ returns-2 c =
     let l = c .before .before .before in
     val-high _ _ _ _ (l .loop-test .taken) (l .before .before .before .pre .1) (c .if2 .taken) ∙ ap capped (l .before .loop .inv .0)
 
-grown-requires : tie.Need-grown-requires Inv-loop μ-loop
-grown-requires c κs = search needs
-
-add-i : tie.Need-add-i Inv-loop μ-loop
-add-i c = search needs
-
-loop-less : tie.Need-loop-less Inv-loop μ-loop
-loop-less c = search needs
-
 loop-again : tie.Need-loop-again Inv-loop μ-loop
 loop-again c =
     let l = c .before .before .before .before in (
-      val-more _ _ _ _ (l .loop-test .taken) (l .before .before .before .pre .1) _ (c .before .before .if1 .left) (c .before .if2 .left) (c .grown .ensures) ∙ l .before .loop .inv .0,
+      val-more _ _ _ _ (l .loop-test .taken) (l .before .before .before .pre .1) _
+          (c .before .before .if1 .left) (c .before .if2 .left) (c .grown .ensures) ∙ l .before .loop .inv .0,
       omega arith,
       omega (arith, c .grown .ensures),
     )
@@ -61,17 +50,5 @@ returns-4 c =
 
 pub digits-of-spec : {M : Type 1} → statement M
 digits-of-spec =
-    tie.close
-    (tie.spec
-    Inv-loop
-    μ-loop
-    loop-holds
-    shared-slice-read-b
-    returns
-    returns-2
-    grown-requires
-    add-i
-    loop-less
-    loop-again
-    returns-3
-    returns-4)
+    tie.close (tie.spec Inv-loop μ-loop loop-holds (λ c. search needs) returns returns-2
+    (λ c κs. search needs) (λ c. search needs) (λ c. search needs) loop-again returns-3 returns-4)

@@ -11,15 +11,6 @@ use Rattle.numerals.proofs.number.Tie as tie
 returns : tie.Need-returns
 returns c = num-empty _ _ _ (c .if1 .taken)
 
-shared-slice-read-if2 : tie.Need-shared-slice-read-if2
-shared-slice-read-if2 c = search needs
-
-add-natural : tie.Need-add-natural
-add-natural c = search needs
-
-natural-requires : tie.Need-natural-requires
-natural-requires c κs = search needs
-
 minus-of-requires : tie.Need-minus-of-requires
 minus-of-requires c κs = rw (c .natural .ensures) (nat-small _)
 
@@ -28,9 +19,6 @@ returns-2 c =
     let s = c .before .before .before .before .before .before in
     let h : s .args .from < s .args .to = omega arith in
     c .minus-of .ensures ∙ ap minus (c .before .natural .ensures) ∙ sym (num-minus _ _ _ h (s .pre .1) (c .before .before .if2 .taken))
-
-natural-requires-2 : tie.Need-natural-requires-2
-natural-requires-2 c κs = search needs
 
 plain-of-requires : tie.Need-plain-of-requires
 plain-of-requires c κs = rw (c .natural2 .ensures) (nat-small _)
@@ -43,14 +31,5 @@ returns-3 c =
 
 pub number-spec : {M : Type 1} → statement M
 number-spec =
-    tie.close
-    (tie.spec
-    returns
-    shared-slice-read-if2
-    add-natural
-    natural-requires
-    minus-of-requires
-    returns-2
-    natural-requires-2
-    plain-of-requires
-    returns-3)
+    tie.close (tie.spec returns (λ c. search needs) (λ c. search needs) (λ c κs. search needs)
+    minus-of-requires returns-2 (λ c κs. search needs) plain-of-requires returns-3)

@@ -4,27 +4,16 @@ use borrow.Author.Needs.{needs}
 use Rattle.numerals.proofs.plain_of.Statement.{statement}
 use Rattle.numerals.proofs.plain_of.Tie as tie
 
-enum-known-v : tie.Need-enum-known-v
-enum-known-v c = search needs
+abbrev start-from-known-told : tie.After-known-told → tie.Start
+start-from-known-told c = c .before .before .before
 
 cast-t4 : tie.Need-cast-t4
-cast-t4 c = is-fits _ _ (c .before .v .given .1) (c .before .before .before .pre)
-
-enum-told : tie.Need-enum-told
-enum-told c = search needs
-
-enum-told-2 : tie.Need-enum-told-2
-enum-told-2 c = search needs
+cast-t4 c = is-fits _ _ (c .before .v .given .1) (start-from-known-told c .pre)
 
 returns : tie.Need-returns
-returns c = plain-is _ _ (c .before .v .given .1) (c .before .before .before .pre)
-
-returns-2 : tie.Need-returns-2
-returns-2 c = search needs
-
-returns-3 : tie.Need-returns-3
-returns-3 c = search needs
+returns c = plain-is _ _ (c .before .v .given .1) (start-from-known-told c .pre)
 
 pub plain-of-spec : {M : Type 1} → statement M
 plain-of-spec =
-    tie.close (tie.spec enum-known-v cast-t4 enum-told enum-told-2 returns returns-2 returns-3)
+    tie.close (tie.spec (λ c. search needs) cast-t4 (λ c. search needs) (λ c. search needs) returns
+    (λ c. search needs) (λ c. search needs))

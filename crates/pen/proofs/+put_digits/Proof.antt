@@ -22,113 +22,25 @@ abbrev put-digits-below : ℕ → In 1 put-digits-kinds.ps
 put-digits-below t =
     and 1 put-digits-kinds.ps (falls 1 put-digits-kinds.ps _<_ μ-put-digits t) put-digits.Pre
 
-put-digits-cast-put : (t : ℕ) → put-digits-lts.Need-cast-put (
-  put-reads.Asked,
-  put-reads.Learnt,
-  put-digits-below t,
-  put-digits.Post,
-) (put-digits-at t) put-digits.Post
-put-digits-cast-put t c = search needs
-
-put-digits-add-put : (t : ℕ) → put-digits-lts.Need-add-put (
-  put-reads.Asked,
-  put-reads.Learnt,
-  put-digits-below t,
-  put-digits.Post,
-) (put-digits-at t) put-digits.Post
-put-digits-add-put t c = search needs
-
-put-digits-put-requires : (t : ℕ) → put-digits-lts.Need-put-requires (
-  put-reads.Asked,
-  put-reads.Learnt,
-  put-digits-below t,
-  put-digits.Post,
-) (put-digits-at t) put-digits.Post
-put-digits-put-requires t c κs = search needs
-
-put-digits-same-length : (t : ℕ) → put-digits-lts.Need-same-length (
-  put-reads.Asked,
-  put-reads.Learnt,
-  put-digits-below t,
-  put-digits.Post,
-) (put-digits-at t) put-digits.Post
-put-digits-same-length t c = search needs
-
-put-digits-returns : (t : ℕ) → put-digits-lts.Need-returns (
-  put-reads.Asked,
-  put-reads.Learnt,
-  put-digits-below t,
-  put-digits.Post,
-) (put-digits-at t) put-digits.Post
-put-digits-returns t c = digits-put-one _ _ _ (c .before .before .before .before .if1 .taken) (c .before .before .put .ensures)
-
-put-digits-put-digits-requires : (t : ℕ) → put-digits-lts.Need-put-digits-requires (
-  put-reads.Asked,
-  put-reads.Learnt,
-  put-digits-below t,
-  put-digits.Post,
-) (put-digits-at t) put-digits.Post
-put-digits-put-digits-requires t c κs = search needs
-
-put-digits-cast-put-2 : (t : ℕ) → put-digits-lts.Need-cast-put-2 (
-  put-reads.Asked,
-  put-reads.Learnt,
-  put-digits-below t,
-  put-digits.Post,
-) (put-digits-at t) put-digits.Post
-put-digits-cast-put-2 t c = search needs
-
-put-digits-add-put-2 : (t : ℕ) → put-digits-lts.Need-add-put-2 (
-  put-reads.Asked,
-  put-reads.Learnt,
-  put-digits-below t,
-  put-digits.Post,
-) (put-digits-at t) put-digits.Post
-put-digits-add-put-2 t c = search needs
-
-put-digits-put-requires-2 : (t : ℕ) → put-digits-lts.Need-put-requires-2 (
-  put-reads.Asked,
-  put-reads.Learnt,
-  put-digits-below t,
-  put-digits.Post,
-) (put-digits-at t) put-digits.Post
-put-digits-put-requires-2 t c κs = search needs
-
-put-digits-same-length-2 : (t : ℕ) → put-digits-lts.Need-same-length-2 (
-  put-reads.Asked,
-  put-reads.Learnt,
-  put-digits-below t,
-  put-digits.Post,
-) (put-digits-at t) put-digits.Post
-put-digits-same-length-2 t c = search needs
-
-put-digits-returns-2 : (t : ℕ) → put-digits-lts.Need-returns-2 (
-  put-reads.Asked,
-  put-reads.Learnt,
-  put-digits-below t,
-  put-digits.Post,
-) (put-digits-at t) put-digits.Post
-put-digits-returns-2 t c =
-    let p = c .before .before .before .before .before .before in
-    digits-put-more _ _ _ _ (p .before .before .if1 .left) (p .put-digits .ensures) (c .before .before .put2 .ensures)
-
-pub +put-digits-spec : {M : Type 1} → statement M
-+put-digits-spec = close μ-put-digits λ t. put-digits-lts.spec (
+abbrev put-digits-knows : ℕ → put-digits-lts.Claims
+put-digits-knows t = (
   put-reads.Asked,
   put-reads.Learnt,
   put-digits-below t,
   put-digits.Post,
 )
-    (put-digits-at t)
-    put-digits.Post
-    (put-digits-cast-put t)
-    (put-digits-add-put t)
-    (put-digits-put-requires t)
-    (put-digits-same-length t)
-    (put-digits-returns t)
-    (put-digits-put-digits-requires t)
-    (put-digits-cast-put-2 t)
-    (put-digits-add-put-2 t)
-    (put-digits-put-requires-2 t)
-    (put-digits-same-length-2 t)
+
+put-digits-returns : (t : ℕ) → put-digits-lts.Need-returns (put-digits-knows t) (put-digits-at t) put-digits.Post
+put-digits-returns t c = digits-put-one _ _ _ (c .before .before .before .before .if1 .taken) (c .before .before .put .ensures)
+
+put-digits-returns-2 : (t : ℕ) → put-digits-lts.Need-returns-2 (put-digits-knows t) (put-digits-at t) put-digits.Post
+put-digits-returns-2 t c =
+    let p = c .before .before .before .before .before .before in
+    digits-put-more _ _ _ _ (p .before .before .if1 .left) (p .put-digits .ensures) (c .before .before .put2 .ensures)
+
+pub +put-digits-spec : {M : Type 1} → statement M
++put-digits-spec =
+    close μ-put-digits λ t. put-digits-lts.spec (put-digits-knows t) (put-digits-at t) put-digits.Post
+    (λ c. search needs) (λ c. search needs) (λ c κs. search needs) (λ c. search needs) (put-digits-returns t)
+    (λ c κs. search needs) (λ c. search needs) (λ c. search needs) (λ c κs. search needs) (λ c. search needs)
     (put-digits-returns-2 t)

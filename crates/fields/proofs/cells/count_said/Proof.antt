@@ -14,11 +14,15 @@ cast-if2 c = turn-cast _ _ (c .before .before .v .given .1) (c .before .known-to
 
 returns-2 : tie.Need-returns-2
 unfolding said
-returns-2 c = count-in _ _ (c .before .before .before .v .given .1) (c .before .before .known-told .given .0 .1) (c .before .if1 .left) (c .if2 .taken)
+returns-2 c =
+    count-in _ _ (c .before .before .before .v .given .1) (c .before .before .known-told .given .0 .1)
+    (c .before .if1 .left) (c .if2 .taken)
 
 returns-3 : tie.Need-returns-3
 unfolding said
-returns-3 c = count-past _ _ (c .before .before .before .v .given .1) (c .before .before .known-told .given .0 .1) (c .before .if1 .left) (c .if2 .left)
+returns-3 c =
+    count-past _ _ (c .before .before .before .v .given .1) (c .before .before .known-told .given .0 .1)
+    (c .before .if1 .left) (c .if2 .left)
 
 returns-4 : tie.Need-returns-4
 unfolding said
@@ -29,4 +33,6 @@ unfolding said
 returns-5 c = count-not _ (c .enum-told2 .given .1)
 
 pub count-said-spec : {M : Type 1} → statement M
-count-said-spec = tie.close (tie.spec (λ c. search needs) returns cast-if2 returns-2 (λ c. search needs) (λ c. search needs) returns-3 returns-4 returns-5)
+count-said-spec =
+    tie.close (tie.spec (λ c. search needs) returns cast-if2 returns-2 (λ c. search needs) (λ c. search needs)
+    returns-3 returns-4 returns-5)

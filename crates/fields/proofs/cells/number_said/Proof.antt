@@ -18,4 +18,6 @@ unfolding said
 returns-3 c = number-not _ (c .enum-told2 .given .1)
 
 pub number-said-spec : {M : Type 1} → statement M
-number-said-spec = tie.close (tie.spec (λ c. search needs) (λ c. search needs) (λ c. search needs) returns returns-2 returns-3)
+number-said-spec =
+    tie.close
+    (tie.spec (λ c. search needs) (λ c. search needs) (λ c. search needs) returns returns-2 returns-3)

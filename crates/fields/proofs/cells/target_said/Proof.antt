@@ -21,4 +21,6 @@ unfolding said
 returns-3 c = target-not _ _ (c .enum-told2 .given .1)
 
 pub target-said-spec : {M : Type 1} → statement M
-target-said-spec = tie.close (tie.spec (λ c. search needs) (λ c. search needs) (λ c. search needs) (λ c. search needs) returns returns-2 returns-3)
+target-said-spec =
+    tie.close (tie.spec (λ c. search needs) (λ c. search needs) (λ c. search needs) (λ c. search needs)
+    returns returns-2 returns-3)

@@ -74,8 +74,13 @@ letter-at-requires c κs = let d = heard-line _ _ _ _ (c .before .step .given .1
     (d .stop .low, d .stop .high)
 
 line-requires : tie.Need-line-requires
-line-requires c κs = let d = heard-line _ _ _ _ (c .before .before .before .step .given .1)
-    (c .before .before .before .before .before .next-line .ensures) in (d .stop .low, d .stop .high, walking-within _ _ _ _ _ _ (c .before .before .before .before .before .before .before .before .pre))
+line-requires c κs =
+    let d = heard-line _ _ _ _ (c .before .before .before .step .given .1)
+    (c .before .before .before .before .before .next-line .ensures) in (
+      d .stop .low,
+      d .stop .high,
+      walking-within _ _ _ _ _ _ (c .before .before .before .before .before .before .before .before .pre),
+    )
 
 returns-4 : tie.Need-returns-4
 returns-4 c =
