@@ -46,12 +46,14 @@ module _ (b w : ℕ) (bs : List ℕ) (p : Part) (f : Option ℕ → Num) (n : f 
 plain-on : (v : ℕ) (bs : List ℕ) → read (Plain v) bs ≡ plain (capped (value v bs))
 unfolding part-on part-fed part-number value capped
 plain-on v [] = refl
-plain-on v (b ∷ bs) = digit-on b (grown v b) bs (Plain (grown v b)) (λ o. plain (capped o)) refl (plain-on (grown v b) bs) (ltb b 48) (ltb 57 b)
+plain-on v (b ∷ bs) =
+    digit-on b (grown v b) bs (Plain (grown v b)) (λ o. plain (capped o)) refl (plain-on (grown v b) bs) (ltb b 48) (ltb 57 b)
 
 minus-on : (v : ℕ) (bs : List ℕ) → read (Negative v) bs ≡ minus (capped (value v bs))
 unfolding part-on part-fed part-number value capped
 minus-on v [] = refl
-minus-on v (b ∷ bs) = digit-on b (grown v b) bs (Negative (grown v b)) (λ o. minus (capped o)) refl (minus-on (grown v b) bs) (ltb b 48) (ltb 57 b)
+minus-on v (b ∷ bs) =
+    digit-on b (grown v b) bs (Negative (grown v b)) (λ o. minus (capped o)) refl (minus-on (grown v b) bs) (ltb b 48) (ltb 57 b)
 
 -- "no leading zero": 0 alone
 zero-on : (bs : List ℕ) → read Zero bs ≡ plain (capped (alone bs))
@@ -110,8 +112,10 @@ unfolding scan-on fed line-at split part-on
 argument-on e p [] = refl
 argument-on e p (b ∷ bs) = go (eqb b TAB) (split TAB bs) (argument-on e (part-fed p b) bs)
   where
-    go : (t : Bool) (q : Parts) → line-at (scan-on (Argument e (part-fed p b)) bs) ≡ unless-more (q .rest) (line-by (part-number e) (read (part-fed p b) (q .first)))
-        → line-at (scan-on (cond t More (Argument e (part-fed p b))) bs) ≡ unless-more (cut t b q .rest) (line-by (part-number e) (read p (cut t b q .first)))
+    go : (t : Bool) (q : Parts) → line-at (scan-on (Argument e (part-fed p b)) bs)
+        ≡ unless-more (q .rest) (line-by (part-number e) (read (part-fed p b) (q .first)))
+        → line-at (scan-on (cond t More (Argument e (part-fed p b))) bs)
+        ≡ unless-more (cut t b q .rest) (line-by (part-number e) (read p (cut t b q .first)))
     go true q ih = more-on bs
     go false q ih = ih
 
@@ -133,7 +137,8 @@ event-on p (b ∷ bs) = go (eqb b TAB) (split TAB bs) (argument-on p Start bs) (
     go : (t : Bool) (q : Parts)
         → line-at (scan-on (Argument p Start) bs) ≡ unless-more (q .rest) (line-by (part-number p) (read Start (q .first)))
         → line-at (scan-on (Event (part-fed p b)) bs) ≡ with-fields (part-on (part-fed p b) (q .first)) (q .rest)
-        → line-at (scan-on (cond t (Argument p Start) (Event (part-fed p b))) bs) ≡ with-fields (part-on p (cut t b q .first)) (cut t b q .rest)
+        → line-at (scan-on (cond t (Argument p Start) (Event (part-fed p b))) bs)
+        ≡ with-fields (part-on p (cut t b q .first)) (cut t b q .rest)
     go true q arg ih = arg ∙ from-tab p (q .first) (q .rest)
     go false q arg ih = ih
 

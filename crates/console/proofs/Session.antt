@@ -25,7 +25,8 @@ turns-of c u [] = refl
 turns-of c u (l ∷ ls) = rw (turns-of c (turn c u (line-of (fields l)) .state) ls)
 
 -- what does the same to each line prints the same
-pub turns-same : (f g : Turns) → ((u : State) (l : Line) → f u l ≡ g u l) → (u : State) (ls : List (List ℕ)) → turns-by f u ls ≡ turns-by g u ls
+pub turns-same : (f g : Turns) → ((u : State) (l : Line) → f u l ≡ g u l)
+    → (u : State) (ls : List (List ℕ)) → turns-by f u ls ≡ turns-by g u ls
 unfolding turns-by
 turns-same f g h u [] = refl
 turns-same f g h u (l ∷ ls) = rw (h u (line-of (fields l)), turns-same f g h (g u (line-of (fields l)) .state) ls)
@@ -69,7 +70,8 @@ module _ (f : Turns) where
   line-first u pre q rest e = rw (scan-line pre, e (f u (line-of (fields pre)) .state))
 
   -- the input from here, behind these bytes of a line
-  pub printed-from : (u : State) (pre bs : List ℕ) → all-printed f (after u pre) bs ≡ turns-by f u (input-lines (all (onto pre (split LF bs))))
+  pub printed-from : (u : State) (pre bs : List ℕ)
+      → all-printed f (after u pre) bs ≡ turns-by f u (input-lines (all (onto pre (split LF bs))))
   unfolding all-printed passed split
   printed-from u pre [] = at-end u pre ∙ rw append-nil
   printed-from u pre (b ∷ bs) =
@@ -81,7 +83,8 @@ module _ (f : Turns) where
           → by-end f (after u pre) b t .printed ++ all-printed f (by-end f (after u pre) b t .under) bs
           ≡ turns-by f u (input-lines (all (onto pre (cut t b q))))
       go true q next on =
-          rw append-nil (line-first u pre q (λ w. all-printed f (fresh w) bs) (λ w. ap (λ s. all-printed f s bs) (sym (none-fed w)) ∙ next w))
+          rw append-nil
+          (line-first u pre q (λ w. all-printed f (fresh w) bs) (λ w. ap (λ s. all-printed f s bs) (sym (none-fed w)) ∙ next w))
       go false q next on = ap (λ s. all-printed f (record { state = u; scan = s }) bs) (sym (snoc-of pre b)) ∙ on ∙ rw append-assoc
 
 -- ---- the input in parts
@@ -113,7 +116,8 @@ module _ (f : Turns) where
   printed-none u = refl
 
   -- all of it, and then the end of the input
-  pub all-by-parts : (u : Under) (bs : List ℕ) → all-printed f u bs ≡ passed-all f u bs .printed ++ finished f (passed-all f u bs .under) .printed
+  pub all-by-parts : (u : Under) (bs : List ℕ)
+      → all-printed f u bs ≡ passed-all f u bs .printed ++ finished f (passed-all f u bs .under) .printed
   unfolding all-printed passed-all
   all-by-parts u [] = refl
   all-by-parts u (b ∷ bs) = rw (all-by-parts (passed f u b .under) bs, append-assoc)
@@ -124,6 +128,7 @@ unfolding lines
 printed-all f u input = ap (λ s. all-printed f s input) (sym (none-fed u)) ∙ printed-from f u [] input
 
 -- what the program prints after the start, byte by byte, is what the definition says
-pub session-printed : (c : Chart) (t : Turn) (input : List ℕ) → t .printed ++ all-printed (turn c) (fresh (t .state)) input ≡ session c t input
+pub session-printed : (c : Chart) (t : Turn) (input : List ℕ)
+    → t .printed ++ all-printed (turn c) (fresh (t .state)) input ≡ session c t input
 unfolding session
 session-printed c t input = rw (printed-all (turn c) (t .state) input, turns-of c (t .state) (input-lines (lines input)))

@@ -25,7 +25,8 @@ const SPACE: u8 = 32;
 
 // One entry, one line.
 fn put_entry(out: &mut [u8], at: usize, first: i32, second: i32, third: i32) -> usize
-    ensures { λ r. ⌜ (pen (now (out .exit)) r ≡ put-all (entry-line first second third) (pen (now (out .entry)) at)) × (at + Line ≤ length (now (out .entry)) → r ≤ at + Line) ⌝ }
+    ensures { λ r. ⌜ (pen (now (out .exit)) r ≡ put-all (entry-line first second third) (pen (now (out .entry)) at))
+        × (at + Line ≤ length (now (out .entry)) → r ≤ at + Line) ⌝ }
 {
     let a = put_numeral(out, at, first);
     let b = put(out, a, SPACE);
@@ -38,7 +39,8 @@ fn put_entry(out: &mut [u8], at: usize, first: i32, second: i32, third: i32) -> 
 // The first n entries.
 fn put_entries(out: &mut [u8], at: usize, trace: &[i32], n: usize) -> usize
     requires { ⌜ Entry * n ≤ length (now trace) ⌝ }
-    ensures { λ r. ⌜ (pen (now (out .exit)) r ≡ put-all (entry-lines (take (Entry * n) (now (trace .entry)))) (pen (now (out .entry)) at)) × (at + Line * n ≤ length (now (out .entry)) → r ≤ at + Line * n) ⌝ }
+    ensures { λ r. ⌜ (pen (now (out .exit)) r ≡ put-all (entry-lines (take (Entry * n) (now (trace .entry))))
+        (pen (now (out .entry)) at)) × (at + Line * n ≤ length (now (out .entry)) → r ≤ at + Line * n) ⌝ }
 {
     let mut p = at;
     let mut k: usize = 0;
@@ -61,7 +63,8 @@ fn held_of(entries: usize, numbers: usize) -> usize
 // The report of an answer and of the first entries of a trace; of a trace too short for so many, those that it holds. Where the slice
 // has room for the largest report of such a trace, all of the report is in it.
 pub fn report(out: &mut [u8], at: usize, number: usize, trace: &[i32], entries: usize) -> usize
-    ensures { λ r. ⌜ (pen (now (out .exit)) r ≡ put-all (printed number (shown entries (now (trace .entry)))) (pen (now (out .entry)) at)) × (at + largest (now (trace .entry)) ≤ length (now (out .entry)) → r ≤ at + largest (now (trace .entry))) ⌝ }
+    ensures { λ r. ⌜ (pen (now (out .exit)) r ≡ put-all (printed number (shown entries (now (trace .entry)))) (pen (now (out .entry)) at))
+        × (at + largest (now (trace .entry)) ≤ length (now (out .entry)) → r ≤ at + largest (now (trace .entry))) ⌝ }
 {
     let n = held_of(entries, trace.len());
     let a = put(out, at, R);

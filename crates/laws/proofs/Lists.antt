@@ -54,12 +54,14 @@ module _ {A : Type 0} (p : A → Bool) where
   pub every-append : (xs ys : List A) → every p xs ≡ true → every p ys ≡ true → every p (xs ++ ys) ≡ true
   unfolding every
   every-append [] ys h g = g
-  every-append (x ∷ xs) ys h g = and-both (p x) (every p (xs ++ ys)) (and-left (p x) (every p xs) h) (every-append xs ys (and-right (p x) (every p xs) h) g)
+  every-append (x ∷ xs) ys h g =
+      and-both (p x) (every p (xs ++ ys)) (and-left (p x) (every p xs) h) (every-append xs ys (and-right (p x) (every p xs) h) g)
 
   pub every-append-left : (xs ys : List A) → every p (xs ++ ys) ≡ true → every p xs ≡ true
   unfolding every
   every-append-left [] ys h = refl
-  every-append-left (x ∷ xs) ys h = and-both (p x) (every p xs) (and-left (p x) (every p (xs ++ ys)) h) (every-append-left xs ys (and-right (p x) (every p (xs ++ ys)) h))
+  every-append-left (x ∷ xs) ys h = and-both (p x)
+      (every p xs) (and-left (p x) (every p (xs ++ ys)) h) (every-append-left xs ys (and-right (p x) (every p (xs ++ ys)) h))
 
   pub every-append-right : (xs ys : List A) → every p (xs ++ ys) ≡ true → every p ys ≡ true
   unfolding every
@@ -85,7 +87,8 @@ module _ (p : ℕ → Bool) where
   pub range-every : (a n : ℕ) → ((x : ℕ) → a ≤ x → x < a + n → p x ≡ true) → every p (from a n) ≡ true
   unfolding every from
   range-every a zero h = refl
-  range-every a (suc n) h = and-both (p a) (every p (from (suc a) n)) (h a (omega arith) (omega arith)) (range-every (suc a) n (λ x l u. h x (omega arith) (omega arith)))
+  range-every a (suc n) h = and-both (p a) (every p (from (suc a) n))
+      (h a (omega arith) (omega arith)) (range-every (suc a) n (λ x l u. h x (omega arith) (omega arith)))
 
   -- of those that q keeps
   pub every-kept : (q : ℕ → Bool) (a n : ℕ) → every p (keep q (from a n)) ≡ true → (x : ℕ) → a ≤ x → x < a + n → q x ≡ true → p x ≡ true
@@ -96,7 +99,8 @@ module _ (p : ℕ → Bool) where
       (λ r. every-kept q (suc a) n (rest (q a) e) x r (omega arith) t)
       (eq-or-lt-of-le l)
     where
-      rest : (b : Bool) → every p (cond b (a ∷ keep q (from (suc a) n)) (keep q (from (suc a) n))) ≡ true → every p (keep q (from (suc a) n)) ≡ true
+      rest : (b : Bool) → every p (cond b (a ∷ keep q (from (suc a) n)) (keep q (from (suc a) n))) ≡ true
+          → every p (keep q (from (suc a) n)) ≡ true
       rest true h = and-right (p a) (every p (keep q (from (suc a) n))) h
       rest false h = h
 
@@ -109,7 +113,8 @@ module _ (p : ℕ → Bool) where
   kept-every q a zero h = refl
   kept-every q a (suc n) h = go (q a) refl (kept-every q (suc a) n (λ x l u. h x (omega arith) (omega arith)))
     where
-      go : (b : Bool) → q a ≡ b → every p (keep q (from (suc a) n)) ≡ true → every p (cond b (a ∷ keep q (from (suc a) n)) (keep q (from (suc a) n))) ≡ true
+      go : (b : Bool) → q a ≡ b → every p (keep q (from (suc a) n)) ≡ true
+          → every p (cond b (a ∷ keep q (from (suc a) n)) (keep q (from (suc a) n))) ≡ true
       go true e ih = and-both (p a) (every p (keep q (from (suc a) n))) (h a (omega arith) (omega arith) e) ih
       go false e ih = ih
 
@@ -165,7 +170,8 @@ module _ {A : Type 0} (P : A → Type 0) where
   each-mapped f [] h = none-left
   each-mapped f (x ∷ xs) (one-more p ps) = one-more p (each-mapped f xs ps)
 
-  pub each-collected : {B : Type 0} (f : B → List A) (q : B → Bool) (xs : List B) → ((x : B) → q x ≡ true → Each P (f x)) → Each P (concat-map f (keep q xs))
+  pub each-collected : {B : Type 0} (f : B → List A) (q : B → Bool) (xs : List B)
+      → ((x : B) → q x ≡ true → Each P (f x)) → Each P (concat-map f (keep q xs))
   unfolding concat-map keep
   each-collected f q [] h = none-left
   each-collected f q (x ∷ xs) h = go (q x) refl (each-collected f q xs h)

@@ -46,7 +46,10 @@ pub fn react(
     trace: &mut [i32],
 ) -> Went
     requires { ⌜ Examined (now plan) k × (length (now picks) ≡ transitions) × Slotted (now slots) × Linked (now plan) k (now links) ⌝ }
-    ensures { λ r. ⌜ Ran (plan-step (plan-by (now (plan .entry))) event arg then plan-settle (plan-by (now (plan .entry)))) (all-lent (now (active .entry)) (now (slots .entry)) (now (vars .entry)) (now (queue .entry)) (now (trace .entry))) 0 r (all-lent (now (active .exit)) (now (slots .exit)) (now (vars .exit)) (now (queue .exit)) (now (trace .exit))) × (length (now (picks .exit)) ≡ transitions) ⌝ }
+    ensures { λ r. ⌜ Ran (plan-step (plan-by (now (plan .entry))) event arg then plan-settle (plan-by (now (plan .entry))))
+        (all-lent (now (active .entry)) (now (slots .entry)) (now (vars .entry)) (now (queue .entry)) (now (trace .entry))) 0 r
+        (all-lent (now (active .exit)) (now (slots .exit)) (now (vars .exit)) (now (queue .exit)) (now (trace .exit)))
+        × (length (now (picks .exit)) ≡ transitions) ⌝ }
 {
     let went = step(
         plan,
@@ -86,7 +89,8 @@ pub fn react(
 // "A run removes the front event and makes one step with it. Then null steps follow."
 pub fn run_examined(plan: &[i32], k: Counts, state: State, trace: &mut [i32]) -> Called
     requires { ⌜ Examined (now plan) k ⌝ }
-    ensures { λ r. ⌜ (r ≡ called (plan-run (plan-by (now (plan .entry))) state (length (now (trace .entry))))) × (now (trace .exit) ≡ lent (length (now (trace .entry))) (plan-run (plan-by (now (plan .entry))) state (length (now (trace .entry))))) ⌝ }
+    ensures { λ r. ⌜ (r ≡ called (plan-run (plan-by (now (plan .entry))) state (length (now (trace .entry))))) × (now (trace .exit)
+        ≡ lent (length (now (trace .entry))) (plan-run (plan-by (now (plan .entry))) state (length (now (trace .entry))))) ⌝ }
 {
     if !state.started {
         return refuse(NOT_STARTED, 0, state, trace);

@@ -1,5 +1,6 @@
--- Cases that 01 does not star, computed like the starred ones: the starred calls by the plan machine, which gives the same answers,
--- states and traces; and three cases that "Easy errors here", the readings and a full queue turn on, over the chart and by its plan. Assumes nothing.
+-- Cases that 01 does not star, computed like the starred ones: the starred calls by the plan machine, which gives the same
+-- answers, states and traces; and three cases that "Easy errors here", the readings and a full queue turn on, over the chart and
+-- by its plan. Assumes nothing.
 use mathlib.Core.Path.{_≡_, refl}
 use mathlib.Core.List.{List, [], _∷_}
 use mathlib.Core.Option.{none}

@@ -41,7 +41,8 @@ pub fn known(plan: &[i32], i: usize) -> usize
 // match is passed over before anything else is read.
 fn enabled(plan: &[i32], at: usize, active: &[bool; STATES], vars: &[i32; VARIABLES]) -> bool
     requires { ⌜ (at + HEAD-ROW ≤ length (now plan)) × (head-at (now plan) at .source < states) × Reads (head-at (now plan) at .guard) ⌝ }
-    ensures { λ r. ⌜ r ≡ head-enabled (head-at (now (plan .entry)) at .trigger) (seen (now (active .entry)) (now (vars .entry))) (head-at (now (plan .entry)) at) ⌝ }
+    ensures { λ r. ⌜ r ≡ head-enabled (head-at (now (plan .entry)) at .trigger)
+        (seen (now (active .entry)) (now (vars .entry))) (head-at (now (plan .entry)) at) ⌝ }
 {
     let source = known(plan, at + SOURCE);
     if !active[source] {
@@ -53,7 +54,8 @@ fn enabled(plan: &[i32], at: usize, active: &[bool; STATES], vars: &[i32; VARIAB
 
 // Whether the spans of two heads, whose rows begin at these places, have a state in common.
 fn meet(plan: &[i32], at: usize, other: usize) -> bool
-    requires { ⌜ (at + HEAD-ROW ≤ length (now plan)) × (other + HEAD-ROW ≤ length (now plan)) × Spanned (head-at (now plan) at) × Spanned (head-at (now plan) other) ⌝ }
+    requires { ⌜ (at + HEAD-ROW ≤ length (now plan))
+        × (other + HEAD-ROW ≤ length (now plan)) × Spanned (head-at (now plan) at) × Spanned (head-at (now plan) other) ⌝ }
     ensures { λ r. ⌜ r ≡ spans-meet (head-at (now (plan .entry)) at) (head-at (now (plan .entry)) other) ⌝ }
 {
     if known(plan, other + SPAN_LAST) < known(plan, at + SPAN_FIRST) {

@@ -59,7 +59,8 @@ module _ (q : Queue) where
   removed-waits h k l =
       let s : suc (q .len - 1) ≡ q .len = omega arith in
       rw (ne-eqb (q .len) 0 (λ e. omega arith), le-ltb QUEUE (q .len) k)
-      (take-append-le (q .len - 1) (drop 1 (q .items)) (none ∷ []) (rw length-drop (omega arith)) ∙ take-drop (q .len - 1) (q .items) ∙ rw s)
+      (take-append-le (q .len - 1) (drop 1 (q .items)) (none ∷ []) (rw length-drop (omega arith))
+      ∙ take-drop (q .len - 1) (q .items) ∙ rw s)
 
   -- what waited is the front that was handed out, and then what waits now
   pub removed-splits : 0 < q .len → q .len ≤ QUEUE → length (q .items) ≡ QUEUE

@@ -39,9 +39,11 @@ unfolding is-filled
 filled-at e = rw e
 
 -- a slot of the lent array
-pub slot-read : (u : State) {slots : List ℤ} → u .slots ≡ slots → (d : ℕ) → d < length slots → {b : Bool} → b ≡ is-filled (placeOf (getD slots d (pos 0))) → is-filled (slot u d) ≡ b
+pub slot-read : (u : State) {slots : List ℤ} → u .slots ≡ slots
+    → (d : ℕ) → d < length slots → {b : Bool} → b ≡ is-filled (placeOf (getD slots d (pos 0))) → is-filled (slot u d) ≡ b
 unfolding slot
-slot-read u {slots} e d h f = ap (λ l. is-filled (placeOf (getD l d (negsuc 0)))) e ∙ ap (λ x. is-filled (placeOf x)) (getD-any slots d (negsuc 0) (pos 0) h) ∙ sym f
+slot-read u {slots} e d h f = ap (λ l. is-filled (placeOf (getD l d (negsuc 0)))) e
+    ∙ ap (λ x. is-filled (placeOf x)) (getD-any slots d (negsuc 0) (pos 0) h) ∙ sym f
 
 module _ (c : Chart) (u : State) (d : ℕ) {k : Kind} (e : k ≡ kind-of c d) where
   pub leads-o : {b : Bool} → k ≡ kind-o → b ≡ is-filled (slot u d) → b ≡ leads-on c u (kind-of c d) d
@@ -85,7 +87,8 @@ module _ (c : Chart) (u : State) (s : ℕ) (x : ℤ) where
       unfolding slot-fits
       slot-no-child k m = rw (e, lt-ltb d (length (c .states)) (omega arith), k, m)
 
-      pub slot-child : {b : Bool} → is-o (kind-of c s) ≡ true → is-child c s d ≡ true → b ≡ leads-on c u (kind-of c d) d → b ≡ slot-fits c u s x
+      pub slot-child : {b : Bool} → is-o (kind-of c s) ≡ true
+          → is-child c s d ≡ true → b ≡ leads-on c u (kind-of c d) d → b ≡ slot-fits c u s x
       unfolding slot-fits
       slot-child k m f = rw (e, lt-ltb d (length (c .states)) (omega arith), k, m) f
 
@@ -94,7 +97,8 @@ module _ (c : Chart) (u : State) (s : ℕ) (x : ℤ) where
 abbrev pub slot-right : Chart → State → ℕ → Bool
 slot-right c u s = slot-fits c u s (getD (u .slots) s (negsuc 0))
 
-pub slot-tested : (c : Chart) (u : State) {slots : List ℤ} → u .slots ≡ slots → (s : ℕ) → s < length slots → {b : Bool} → b ≡ slot-fits c u s (getD slots s (pos 0)) → slot-right c u s ≡ b
+pub slot-tested : (c : Chart) (u : State) {slots : List ℤ} → u .slots ≡ slots
+    → (s : ℕ) → s < length slots → {b : Bool} → b ≡ slot-fits c u s (getD slots s (pos 0)) → slot-right c u s ≡ b
 slot-tested c u {slots} e s h f =
     ap (λ l. slot-fits c u s (getD l s (negsuc 0))) e ∙ ap (λ x. slot-fits c u s x) (getD-any slots s (negsuc 0) (pos 0) h) ∙ sym f
 
@@ -105,7 +109,8 @@ slots-fitted c u e = e
 -- ---- the slots from a place on, where all of them are empty
 
 empty-right : (c : Chart) (u : State) (s : ℕ) → eqZ (negsuc 0) (getD (u .slots) s (negsuc 0)) ≡ true → slot-right c u s ≡ true
-empty-right c u s e = ap (slot-fits c u s) (sym (eqZ-true (negsuc 0) (getD (u .slots) s (negsuc 0)) e)) ∙ sym (empty-fits c u s (negsuc 0) refl)
+empty-right c u s e = ap (slot-fits c u s) (sym (eqZ-true (negsuc 0) (getD (u .slots) s (negsuc 0)) e))
+    ∙ sym (empty-fits c u s (negsuc 0) refl)
 
 rest-right : (c : Chart) (u : State) → length (u .slots) ≡ STATES → (k s : ℕ) → k + s ≡ STATES
     → every (eqZ (negsuc 0)) (drop s (u .slots)) ≡ true → every (slot-right c u) (drop s (from 0 STATES)) ≡ true

@@ -148,7 +148,8 @@ fn filled(x: i32) -> bool
 
 // The slot of each component of an a state is filled.
 fn all_filled(chart: &[i32], slots: [i32; STATES], s: usize) -> bool
-    ensures { λ r. ⌜ ((u : Widget) → u .slots ≡ slots → r ≡ every (λ d. is-filled (slot u d)) (children (chart-of (now (chart .entry))) s)) ⌝ }
+    ensures { λ r. ⌜ ((u : Widget) → u .slots ≡ slots
+        → r ≡ every (λ d. is-filled (slot u d)) (children (chart-of (now (chart .entry))) s)) ⌝ }
 {
     let n = state_count(chart);
     let mut d: usize = 0;
@@ -168,7 +169,8 @@ fn all_filled(chart: &[i32], slots: [i32; STATES], s: usize) -> bool
 // 01, answer 6: a filled slot leading to an empty one.
 fn leads_on(chart: &[i32], slots: [i32; STATES], d: usize) -> bool
     requires { ⌜ d < states ⌝ }
-    ensures { λ r. ⌜ ((u : Widget) → u .slots ≡ slots → r ≡ leads-on (chart-of (now (chart .entry))) u (kind-of (chart-of (now (chart .entry))) d) d) ⌝ }
+    ensures { λ r. ⌜ ((u : Widget) → u .slots ≡ slots
+        → r ≡ leads-on (chart-of (now (chart .entry))) u (kind-of (chart-of (now (chart .entry))) d) d) ⌝ }
 {
     match kind_of(chart, d) {
         Kind::O => filled(slots[d]),

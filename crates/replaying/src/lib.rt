@@ -72,7 +72,8 @@ fn told(
     trace: &mut [i32],
 ) -> Replayed
     requires { ⌜ at ≤ length (now trace) ⌝ }
-    ensures { λ r. ⌜ Told (went done number (said-by (all-lent active slots vars queue (now (trace .entry)))) (take at (now (trace .entry)))) (now (trace .entry)) r (now (trace .exit)) ⌝ }
+    ensures { λ r. ⌜ Told (went done number (said-by (all-lent active slots vars queue (now (trace .entry))))
+        (take at (now (trace .entry)))) (now (trace .entry)) r (now (trace .exit)) ⌝ }
 {
     clear_from(trace, at);
     let answer = Answer {
@@ -106,8 +107,10 @@ fn as_posted(
     number: usize,
     trace: &mut [i32],
 ) -> Replayed
-    requires { ⌜ Examined (now plan) k × Starts (plan-by (now plan)) state × Broken (plan-by (now plan)) (length (now trace)) (items-of (now events)) state done number × Linked (now plan) k (now links) ⌝ }
-    ensures { λ r. ⌜ Told (once (plan-by (now (plan .entry))) state (items-of (now (events .entry))) (length (now (trace .entry)))) (now (trace .entry)) r (now (trace .exit)) ⌝ }
+    requires { ⌜ Examined (now plan) k × Starts (plan-by (now plan)) state × Broken (plan-by (now plan))
+        (length (now trace)) (items-of (now events)) state done number × Linked (now plan) k (now links) ⌝ }
+    ensures { λ r. ⌜ Told (once (plan-by (now (plan .entry))) state (items-of (now (events .entry))) (length (now (trace .entry))))
+        (now (trace .entry)) r (now (trace .exit)) ⌝ }
 {
     let mut active = state.active;
     let mut slots = state.slots;
@@ -141,7 +144,8 @@ pub fn replay_examined(
     trace: &mut [i32],
 ) -> Replayed
     requires { ⌜ Examined (now plan) k ⌝ }
-    ensures { λ r. ⌜ Told (once (plan-by (now (plan .entry))) state (items-of (now (events .entry))) (length (now (trace .entry)))) (now (trace .entry)) r (now (trace .exit)) ⌝ }
+    ensures { λ r. ⌜ Told (once (plan-by (now (plan .entry))) state (items-of (now (events .entry))) (length (now (trace .entry))))
+        (now (trace .entry)) r (now (trace .exit)) ⌝ }
 {
     if !state.started {
         return stopped(NOT_STARTED, state, trace);
@@ -194,7 +198,8 @@ pub fn replay_examined(
 // Replay on numbers that were examined: without an event no call is made.
 pub fn replay_planned(plan: &[i32], state: State, events: &[i32], trace: &mut [i32]) -> Replayed
     requires { ⌜ well-formed (now plan) ≡ true ⌝ }
-    ensures { λ r. ⌜ Told (defined (now (plan .entry)) state (items-of (now (events .entry))) (length (now (trace .entry)))) (now (trace .entry)) r (now (trace .exit)) ⌝ }
+    ensures { λ r. ⌜ Told (defined (now (plan .entry)) state (items-of (now (events .entry))) (length (now (trace .entry))))
+        (now (trace .entry)) r (now (trace .exit)) ⌝ }
 {
     if events.len() < EVENT {
         return stopped(0, state, trace);
@@ -204,7 +209,8 @@ pub fn replay_planned(plan: &[i32], state: State, events: &[i32], trace: &mut [i
 
 // Replay over any numbers: with an event, 5 where the plan is not well formed.
 pub fn replay(plan: &[i32], state: State, events: &[i32], trace: &mut [i32]) -> Replayed
-    ensures { λ r. ⌜ Told (defined (now (plan .entry)) state (items-of (now (events .entry))) (length (now (trace .entry)))) (now (trace .entry)) r (now (trace .exit)) ⌝ }
+    ensures { λ r. ⌜ Told (defined (now (plan .entry)) state (items-of (now (events .entry))) (length (now (trace .entry))))
+        (now (trace .entry)) r (now (trace .exit)) ⌝ }
 {
     if events.len() < EVENT {
         return stopped(0, state, trace);

@@ -166,7 +166,8 @@ fn line_ends(
     trace: &mut [i32],
 ) -> Under
     requires { ⌜ Accepted (now chart) × (length (now trace) ≡ Room) ⌝ }
-    ensures { λ r. ⌜ Passes (ended (turn-of (chart-of (now (chart .entry))) state (line-at scan))) (now (out .entry)) at (now (out .exit)) r ⌝ }
+    ensures { λ r. ⌜ Passes (ended (turn-of (chart-of (now (chart .entry))) state (line-at scan)))
+        (now (out .entry)) at (now (out .exit)) r ⌝ }
 {
     let ended = turn(chart, state, scan.line(), out, at, trace);
     let after = ended.state;
@@ -199,7 +200,8 @@ pub fn walk(
     trace: &mut [i32],
 ) -> Walked
     requires { ⌜ Accepted (now chart) × (length (now trace) ≡ Room) ⌝ }
-    ensures { λ r. ⌜ Walks (turn-of (chart-of (now (chart .entry)))) (now (part .entry)) from (seen under) (now (out .entry)) (under .at) (now (out .exit)) r ⌝ }
+    ensures { λ r. ⌜ Walks (turn-of (chart-of (now (chart .entry))))
+        (now (part .entry)) from (seen under) (now (out .entry)) (under .at) (now (out .exit)) r ⌝ }
 {
     let mut now = under;
     let mut i = from;
@@ -233,7 +235,8 @@ pub fn walk(
 // The end of the input: "The last line may lack its LF".
 pub fn finish(chart: &[i32], under: Under, out: &mut [u8], trace: &mut [i32]) -> Under
     requires { ⌜ Accepted (now chart) × (length (now trace) ≡ Room) ⌝ }
-    ensures { λ r. ⌜ Passes (finished (turn-of (chart-of (now (chart .entry)))) (seen under)) (now (out .entry)) (under .at) (now (out .exit)) r ⌝ }
+    ensures { λ r. ⌜ Passes (finished (turn-of (chart-of (now (chart .entry)))) (seen under))
+        (now (out .entry)) (under .at) (now (out .exit)) r ⌝ }
 {
     let state = under.state;
     let scan = under.scan;

@@ -218,9 +218,7 @@ returns-2 c =
     (c .before .heads .inv .done) (omega arith) (c .before .heads .inv .within) refl
 
 pub choose-spec : {M : Type 1} → statement M
-choose-spec =
-    tie.close (tie.spec Inv-loop μ-loop Inv-heads μ-heads returns heads-at-requires (λ c. omega arith)
-    element-copy-out-next cast-next heads-holds mul-at add-at element-copy-out-next-2 cast-next-2
-    enabled-requires heads-less heads-again loop-holds mul-pick element-copy-out-pick mul-meet add-meet
-    meet-requires heads-less-2 heads-again-2 (λ c. omega arith) (λ c. omega arith) loop-again mul-picks
-    element-write-picks add-count heads-less-3 heads-again-3 returns-2)
+choose-spec = tie.close (tie.spec Inv-loop μ-loop Inv-heads μ-heads returns heads-at-requires (λ c. omega arith)
+    element-copy-out-next cast-next heads-holds mul-at add-at element-copy-out-next-2 cast-next-2 enabled-requires
+    heads-less heads-again loop-holds mul-pick element-copy-out-pick mul-meet add-meet meet-requires heads-less-2 heads-again-2
+    (λ c. omega arith) (λ c. omega arith) loop-again mul-picks element-write-picks add-count heads-less-3 heads-again-3 returns-2)

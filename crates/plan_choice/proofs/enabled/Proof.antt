@@ -37,6 +37,5 @@ returns-2 c =
     (c .before .guard-at .ensures ∙ sym (guard-is (a .plan .now) (a .at))) refl (c .guard-true .ensures)
 
 pub enabled-spec : {M : Type 1} → statement M
-enabled-spec =
-    tie.close (tie.spec (λ c. search needs) known-requires element-copy-out-if1 returns
-    (λ c κs. search needs) guard-true-requires returns-2)
+enabled-spec = tie.close (tie.spec (λ c. search needs)
+    known-requires element-copy-out-if1 returns (λ c κs. search needs) guard-true-requires returns-2)

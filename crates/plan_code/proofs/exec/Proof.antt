@@ -326,16 +326,13 @@ returns-11 c =
     (all-lent (a .active .now) (a .slots .now) (a .vars .now) (a .queue .now) (a .trace .now)))) refl
 
 pub exec-spec : {M : Type 1} → statement M
-exec-spec =
-    tie.close (tie.spec (λ c. search needs) (λ c κs. search needs) (λ c. search needs) (λ c. search needs)
-    index-requires mark-entered-requires (λ c κs. search needs) (λ c κs. search needs) (λ c κs. search needs)
-    index-requires-2 mark-left-requires (λ c κs. search needs) index-requires-3 is-active-requires unless-requires
-    index-requires-4 slot-requires (λ c κs. search needs) unless-requires-2 index-requires-5 slot-requires-2
-    (λ c κs. search needs) unless-requires-3 index-requires-6 slot-requires-3 index-requires-7
-    (λ c κs. search needs) (λ c. search needs) unless-requires-4 index-requires-8 (λ c κs. search needs)
-    set-requires (λ c κs. search needs) index-requires-9 (λ c κs. search needs) add-to-requires
-    (λ c κs. search needs) index-requires-10 set-requires-2 (λ c κs. search needs) index-requires-11
-    (λ c κs. search needs) send-requires (λ c κs. search needs) (λ c κs. search needs) (λ c κs. search needs)
-    (λ c κs. search needs) (λ c. search needs) returns (λ c. search needs) returns-2 returns-3 returns-4 returns-5
-    returns-6 (λ c. search needs) returns-7 (λ c. search needs) returns-8 (λ c. search needs) returns-9
-    (λ c. search needs) returns-10 (λ c. search needs) returns-11)
+exec-spec = tie.close (tie.spec (λ c. search needs) (λ c κs. search needs) (λ c. search needs) (λ c. search needs)
+    index-requires mark-entered-requires (λ c κs. search needs) (λ c κs. search needs) (λ c κs. search needs) index-requires-2
+    mark-left-requires (λ c κs. search needs) index-requires-3 is-active-requires unless-requires index-requires-4 slot-requires
+    (λ c κs. search needs) unless-requires-2 index-requires-5 slot-requires-2 (λ c κs. search needs) unless-requires-3
+    index-requires-6 slot-requires-3 index-requires-7 (λ c κs. search needs) (λ c. search needs) unless-requires-4 index-requires-8
+    (λ c κs. search needs) set-requires (λ c κs. search needs) index-requires-9 (λ c κs. search needs) add-to-requires
+    (λ c κs. search needs) index-requires-10 set-requires-2 (λ c κs. search needs) index-requires-11 (λ c κs. search needs)
+    send-requires (λ c κs. search needs) (λ c κs. search needs) (λ c κs. search needs) (λ c κs. search needs) (λ c. search needs)
+    returns (λ c. search needs) returns-2 returns-3 returns-4 returns-5 returns-6 (λ c. search needs) returns-7
+    (λ c. search needs) returns-8 (λ c. search needs) returns-9 (λ c. search needs) returns-10 (λ c. search needs) returns-11)

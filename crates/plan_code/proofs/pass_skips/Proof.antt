@@ -111,9 +111,8 @@ loop-again c =
     passed-idle (at-start i .pre) (i .before .loop .inv) (i .loop-test .taken) (says x) (c .index2 .ensures) (c .before .if2 .left)
 
 pub pass-skips-spec : {M : Type 1} → statement M
-pass-skips-spec =
-    tie.close (tie.spec Inv-loop μ-loop (λ c. passed-begin) (λ c. omega (arith, further c 0 (omega arith))) read-requires returns
-    (λ c. omega (arith, further (in-loop c) 0 (omega arith))) index-requires element-copy-out-if2
-    (λ c. further (in-loop (c .before .before .before)) 0 (omega arith)) returns-2
-    (λ c. omega (arith, further (in-loop (c .before .before .before)) 0 (omega arith))) index-requires-2
-    add-row mul-row add-row-2 loop-less loop-again (λ c. c .before .loop .inv))
+pass-skips-spec = tie.close (tie.spec Inv-loop μ-loop (λ c. passed-begin) (λ c. omega (arith, further c 0 (omega arith)))
+    read-requires returns (λ c. omega (arith, further (in-loop c) 0 (omega arith)))
+    index-requires element-copy-out-if2 (λ c. further (in-loop (c .before .before .before)) 0 (omega arith))
+    returns-2 (λ c. omega (arith, further (in-loop (c .before .before .before)) 0 (omega arith)))
+    index-requires-2 add-row mul-row add-row-2 loop-less loop-again (λ c. c .before .loop .inv))

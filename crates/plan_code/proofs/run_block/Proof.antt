@@ -175,7 +175,6 @@ returns-2 c =
     (rw (toZ-ofZ (s .fits .arg)) at (walking-end (w .walking) (omega (arith, w .here, c .loop-test .left))))
 
 pub run-block-spec : {M : Type 1} → statement M
-run-block-spec =
-    tie.close (tie.spec Inv-loop μ-loop code-at-requires add-end mul-end add-end-2 mul-row add-row loop-holds exec-requires
-    (λ c. search needs) returns add-row-2 mul-row-2 add-row-3 pass-skips-requires loop-less loop-again loop-less-2
-    loop-again-2 (λ c. search needs) returns-2)
+run-block-spec = tie.close (tie.spec Inv-loop
+    μ-loop code-at-requires add-end mul-end add-end-2 mul-row add-row loop-holds exec-requires (λ c. search needs) returns
+    add-row-2 mul-row-2 add-row-3 pass-skips-requires loop-less loop-again loop-less-2 loop-again-2 (λ c. search needs) returns-2)

@@ -88,6 +88,5 @@ returns-3 c =
     )
 
 pub react-spec : {M : Type 1} → statement M
-react-spec =
-    tie.close (tie.spec step-requires (λ c. search needs) returns element-copy-out-if2 cast-if2 (λ c. search needs)
-    returns-2 settle-requires (λ c. search needs) returns-3)
+react-spec = tie.close (tie.spec step-requires (λ c. search needs)
+    returns element-copy-out-if2 cast-if2 (λ c. search needs) returns-2 settle-requires (λ c. search needs) returns-3)

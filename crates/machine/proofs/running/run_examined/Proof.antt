@@ -100,7 +100,6 @@ returns-4 c =
 
 pub run-examined-spec : {M : Type 1} → statement M
 run-examined-spec =
-    tie.close (tie.spec (λ c κs. search needs) (λ c. search needs) returns (λ c κs. search needs)
-    (λ c κs. search needs) (λ c. search needs) returns-2 (λ c κs. search needs) (λ c κs. search needs)
-    (λ c. search needs) returns-3 (λ c κs. search needs) (λ c κs. search needs) (λ c κs. search needs) react-requires finish-requires
-    (λ c. search needs) returns-4)
+    tie.close (tie.spec (λ c κs. search needs) (λ c. search needs) returns (λ c κs. search needs) (λ c κs. search needs)
+    (λ c. search needs) returns-2 (λ c κs. search needs) (λ c κs. search needs) (λ c. search needs) returns-3 (λ c κs. search needs)
+    (λ c κs. search needs) (λ c κs. search needs) react-requires finish-requires (λ c. search needs) returns-4)

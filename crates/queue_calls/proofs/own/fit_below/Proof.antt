@@ -21,7 +21,8 @@ use Rattle.queue_calls.proofs.own.fit_below.Tie as tie
 abbrev Inv-loop : tie.InvT-loop
 Inv-loop chart end slots s₀ s =
     (s ≤ end)
-    × ((u : State) → u .slots ≡ slots → every (slot-right (chart-of chart) u) (drop s (from 0 STATES)) ≡ every (slot-right (chart-of chart) u) (from 0 STATES))
+    × ((u : State) → u .slots ≡ slots
+    → every (slot-right (chart-of chart) u) (drop s (from 0 STATES)) ≡ every (slot-right (chart-of chart) u) (from 0 STATES))
 
 abbrev μ-loop : tie.MeasureT-loop
 μ-loop chart end slots s₀ s = end - s
@@ -75,6 +76,5 @@ returns-2 c u e =
     (omega (arith, c .before .loop .inv .0, c .loop-test .left))) ∙ c .before .loop .inv .1 u e)
 
 pub fit-below-spec : {M : Type 1} → statement M
-fit-below-spec =
-    tie.close (tie.spec Inv-loop μ-loop (λ c. (search needs, λ u e. refl)) mul in-array (λ c κs. search needs) returns
-    (λ c. omega (arith, c .before .before .before .before .before .pre .0)) (λ c. search needs) loop-again returns-2)
+fit-below-spec = tie.close (tie.spec Inv-loop μ-loop (λ c. (search needs, λ u e. refl)) mul in-array (λ c κs. search needs)
+    returns (λ c. omega (arith, c .before .before .before .before .before .pre .0)) (λ c. search needs) loop-again returns-2)

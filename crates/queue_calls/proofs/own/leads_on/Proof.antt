@@ -14,53 +14,30 @@ use borrow.Author.Needs.{needs}
 use Rattle.queue_calls.proofs.own.leads_on.Statement.{statement}
 use Rattle.queue_calls.proofs.own.leads_on.Tie as tie
 
-kind-of-requires : tie.Need-kind-of-requires
-kind-of-requires c κs = search needs
+abbrev start-from-enum-told3 : tie.After-enum-told3 → tie.Start
+start-from-enum-told3 c = c .before .before .before
 
-enum-told : tie.Need-enum-told
-enum-told c = search needs
+abbrev start-from-all-filled : tie.After-all-filled → tie.Start
+start-from-all-filled c = c .before .before .before .before
 
-mul-filled : tie.Need-mul-filled
-mul-filled c = search needs
-
-array-copy-out-filled : tie.Need-array-copy-out-filled
-array-copy-out-filled c = search needs
-
-filled-requires : tie.Need-filled-requires
-filled-requires c κs = search needs
-
-enum-told-2 : tie.Need-enum-told-2
-enum-told-2 c = search needs
-
-all-filled-requires : tie.Need-all-filled-requires
-all-filled-requires c κs = search needs
-
-enum-told-3 : tie.Need-enum-told-3
-enum-told-3 c = search needs
+abbrev start-from-filled : tie.After-filled → tie.Start
+start-from-filled c = c .before .before .before .before .before
 
 returns : tie.Need-returns
-returns c u e = let fx : SFits w32 (getD (c .before .before .before .before .before .args .t2) (c .before .before .before .before .before .args .d) (pos 0)) = search needs in
-    let long : length (c .before .before .before .before .before .args .t2) ≡ STATES = search needs in
-    leads-o (chart-of (c .before .before .before .before .before .args .chart .now)) u (c .before .before .before .before .before .args .d) (c .before .before .before .before .kind-of .ensures) (c .before .before .enum-told .given .1) (sym (slot-read u e (c .before .before .before .before .before .args .d) (omega arith) (rw (toZ-ofZ fx) at (c .filled .ensures))))
+returns c u e = let fx : SFits w32 (getD (start-from-filled c .args .t2) (start-from-filled c .args .d) (pos 0)) = search needs in
+    let long : length (start-from-filled c .args .t2) ≡ STATES = search needs in
+    leads-o (chart-of (start-from-filled c .args .chart .now)) u
+    (start-from-filled c .args .d) (c .before .before .before .before .kind-of .ensures) (c .before .before .enum-told .given .1)
+    (sym (slot-read u e (start-from-filled c .args .d) (omega arith) (rw (toZ-ofZ fx) at (c .filled .ensures))))
 
 returns-2 : tie.Need-returns-2
-returns-2 c u e = leads-a (chart-of (c .before .before .before .before .args .chart .now)) u (c .before .before .before .before .args .d) (c .before .before .before .kind-of .ensures) (c .before .enum-told2 .given .1) (c .all-filled .ensures u e)
+returns-2 c u e = leads-a (chart-of (start-from-all-filled c .args .chart .now)) u (start-from-all-filled c .args .d)
+    (c .before .before .before .kind-of .ensures) (c .before .enum-told2 .given .1) (c .all-filled .ensures u e)
 
 returns-3 : tie.Need-returns-3
-returns-3 c u e = leads-b (chart-of (c .before .before .before .args .chart .now)) u (c .before .before .before .args .d) (c .before .before .kind-of .ensures) (c .enum-told3 .given .1)
+returns-3 c u e = leads-b (chart-of (start-from-enum-told3 c .args .chart .now)) u
+    (start-from-enum-told3 c .args .d) (c .before .before .kind-of .ensures) (c .enum-told3 .given .1)
 
 pub leads-on-spec : {M : Type 1} → statement M
-leads-on-spec =
-    tie.close
-    (tie.spec
-    kind-of-requires
-    enum-told
-    mul-filled
-    array-copy-out-filled
-    filled-requires
-    enum-told-2
-    all-filled-requires
-    enum-told-3
-    returns
-    returns-2
-    returns-3)
+leads-on-spec = tie.close (tie.spec (λ c κs. search needs) (λ c. search needs) (λ c. search needs) (λ c. search needs)
+    (λ c κs. search needs) (λ c. search needs) (λ c κs. search needs) (λ c. search needs) returns returns-2 returns-3)

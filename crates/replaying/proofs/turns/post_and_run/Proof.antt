@@ -88,6 +88,5 @@ returns-4 c =
     )
 
 pub post-and-run-spec : {M : Type 1} → statement M
-post-and-run-spec =
-    tie.close (tie.spec (λ c. search needs) returns (λ c κs. search needs) returns-2 (λ c κs. search needs)
-    returns-3 (λ c κs. search needs) react-requires (λ c. search needs) returns-4)
+post-and-run-spec = tie.close (tie.spec (λ c. search needs) returns (λ c κs. search needs)
+    returns-2 (λ c κs. search needs) returns-3 (λ c κs. search needs) react-requires (λ c. search needs) returns-4)

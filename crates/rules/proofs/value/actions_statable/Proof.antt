@@ -21,12 +21,6 @@ Inv-loop chart n i₀ i = every action-statable (drop i (rows-of chart .actions)
 abbrev μ-loop : tie.MeasureT-loop
 μ-loop chart n i₀ i = n - i
 
-action-count-requires : tie.Need-action-count-requires Inv-loop μ-loop
-action-count-requires c κs = search needs
-
-loop-holds : tie.Need-loop-holds Inv-loop μ-loop
-loop-holds c = refl
-
 action-statable-requires : tie.Need-action-statable-requires Inv-loop μ-loop
 action-statable-requires c κs = omega (arith, actions-most (c .before .before .before .args .chart .now))
 
@@ -37,13 +31,8 @@ returns c =
     let w = c .before .before .before .loop in
     let h : w .i < size-by ACTIONS (num v 4) = omega (arith, actions-count v) in
     every-stop action-statable (rows-of v .actions) [] (w .i) (rw (length-chunks (size-by ACTIONS (num v 4)) ACT-ROW (drop ACTIONS-AT v)) h)
-    (refuted (c .before .action-statable .ensures ∙ ap (action-statable) (sym (row-of (size-by ACTIONS (num v 4)) ACT-ROW ACTIONS-AT v (w .i) h))) (c .if1 .taken)) (w .inv)
-
-add-i : tie.Need-add-i Inv-loop μ-loop
-add-i c = omega arith
-
-loop-less : tie.Need-loop-less Inv-loop μ-loop
-loop-less c = omega arith
+    (refuted (c .before .action-statable .ensures
+    ∙ ap (action-statable) (sym (row-of (size-by ACTIONS (num v 4)) ACT-ROW ACTIONS-AT v (w .i) h))) (c .if1 .taken)) (w .inv)
 
 loop-again : tie.Need-loop-again Inv-loop μ-loop
 unfolding rows-of
@@ -52,7 +41,8 @@ loop-again c =
     let w = c .before .before .before .loop in
     let h : w .i < size-by ACTIONS (num v 4) = omega (arith, actions-count v) in
     every-next action-statable (rows-of v .actions) [] (w .i) (rw (length-chunks (size-by ACTIONS (num v 4)) ACT-ROW (drop ACTIONS-AT v)) h)
-    (held (c .before .action-statable .ensures ∙ ap (action-statable) (sym (row-of (size-by ACTIONS (num v 4)) ACT-ROW ACTIONS-AT v (w .i) h))) (c .if1 .left)) (w .inv)
+    (held (c .before .action-statable .ensures
+    ∙ ap (action-statable) (sym (row-of (size-by ACTIONS (num v 4)) ACT-ROW ACTIONS-AT v (w .i) h))) (c .if1 .left)) (w .inv)
 
 returns-2 : tie.Need-returns-2 Inv-loop μ-loop
 unfolding rows-of
@@ -60,19 +50,9 @@ returns-2 c =
     let v = c .before .before .before .args .chart .now in
     let w = c .before .loop in
     let h : size-by ACTIONS (num v 4) ≤ w .i = omega (arith, actions-count v) in
-    every-done action-statable (rows-of v .actions) [] (w .i) (rw (length-chunks (size-by ACTIONS (num v 4)) ACT-ROW (drop ACTIONS-AT v)) h) (w .inv)
+    every-done action-statable (rows-of v .actions) []
+    (w .i) (rw (length-chunks (size-by ACTIONS (num v 4)) ACT-ROW (drop ACTIONS-AT v)) h) (w .inv)
 
 pub actions-statable-spec : {M : Type 1} → statement M
-actions-statable-spec =
-    tie.close
-    (tie.spec
-    Inv-loop
-    μ-loop
-    action-count-requires
-    loop-holds
-    action-statable-requires
-    returns
-    add-i
-    loop-less
-    loop-again
-    returns-2)
+actions-statable-spec = tie.close (tie.spec Inv-loop μ-loop (λ c κs. search needs)
+    (λ c. refl) action-statable-requires returns (λ c. omega arith) (λ c. omega arith) loop-again returns-2)

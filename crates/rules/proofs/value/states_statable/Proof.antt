@@ -21,12 +21,6 @@ Inv-loop chart n i₀ i = every-from state-statable i (drop i (rows-of chart .st
 abbrev μ-loop : tie.MeasureT-loop
 μ-loop chart n i₀ i = n - i
 
-state-count-requires : tie.Need-state-count-requires Inv-loop μ-loop
-state-count-requires c κs = search needs
-
-loop-holds : tie.Need-loop-holds Inv-loop μ-loop
-loop-holds c = refl
-
 state-statable-requires : tie.Need-state-statable-requires Inv-loop μ-loop
 state-statable-requires c κs = omega (arith, states-most (c .before .before .before .args .chart .now))
 
@@ -37,13 +31,8 @@ returns c =
     let w = c .before .before .before .loop in
     let h : w .i < size-by STATES (num v 0) = omega (arith, states-count v) in
     placed-stop state-statable (rows-of v .states) [] (w .i) (rw (length-chunks (size-by STATES (num v 0)) STATE-ROW (drop STATES-AT v)) h)
-    (refuted (c .before .state-statable .ensures ∙ ap (state-statable (w .i)) (sym (row-of (size-by STATES (num v 0)) STATE-ROW STATES-AT v (w .i) h))) (c .if1 .taken)) (w .inv)
-
-add-i : tie.Need-add-i Inv-loop μ-loop
-add-i c = omega arith
-
-loop-less : tie.Need-loop-less Inv-loop μ-loop
-loop-less c = omega arith
+    (refuted (c .before .state-statable .ensures ∙ ap (state-statable (w .i))
+    (sym (row-of (size-by STATES (num v 0)) STATE-ROW STATES-AT v (w .i) h))) (c .if1 .taken)) (w .inv)
 
 loop-again : tie.Need-loop-again Inv-loop μ-loop
 unfolding rows-of
@@ -52,7 +41,8 @@ loop-again c =
     let w = c .before .before .before .loop in
     let h : w .i < size-by STATES (num v 0) = omega (arith, states-count v) in
     placed-next state-statable (rows-of v .states) [] (w .i) (rw (length-chunks (size-by STATES (num v 0)) STATE-ROW (drop STATES-AT v)) h)
-    (held (c .before .state-statable .ensures ∙ ap (state-statable (w .i)) (sym (row-of (size-by STATES (num v 0)) STATE-ROW STATES-AT v (w .i) h))) (c .if1 .left)) (w .inv)
+    (held (c .before .state-statable .ensures
+    ∙ ap (state-statable (w .i)) (sym (row-of (size-by STATES (num v 0)) STATE-ROW STATES-AT v (w .i) h))) (c .if1 .left)) (w .inv)
 
 returns-2 : tie.Need-returns-2 Inv-loop μ-loop
 unfolding rows-of
@@ -60,19 +50,9 @@ returns-2 c =
     let v = c .before .before .before .args .chart .now in
     let w = c .before .loop in
     let h : size-by STATES (num v 0) ≤ w .i = omega (arith, states-count v) in
-    placed-done state-statable (rows-of v .states) [] (w .i) (rw (length-chunks (size-by STATES (num v 0)) STATE-ROW (drop STATES-AT v)) h) (w .inv)
+    placed-done state-statable (rows-of v .states) []
+    (w .i) (rw (length-chunks (size-by STATES (num v 0)) STATE-ROW (drop STATES-AT v)) h) (w .inv)
 
 pub states-statable-spec : {M : Type 1} → statement M
-states-statable-spec =
-    tie.close
-    (tie.spec
-    Inv-loop
-    μ-loop
-    state-count-requires
-    loop-holds
-    state-statable-requires
-    returns
-    add-i
-    loop-less
-    loop-again
-    returns-2)
+states-statable-spec = tie.close (tie.spec Inv-loop μ-loop
+    (λ c κs. search needs) (λ c. refl) state-statable-requires returns (λ c. omega arith) (λ c. omega arith) loop-again returns-2)

@@ -21,12 +21,6 @@ Inv-loop chart n i₀ i = every trans-statable (drop i (rows-of chart .transitio
 abbrev μ-loop : tie.MeasureT-loop
 μ-loop chart n i₀ i = n - i
 
-transition-count-requires : tie.Need-transition-count-requires Inv-loop μ-loop
-transition-count-requires c κs = search needs
-
-loop-holds : tie.Need-loop-holds Inv-loop μ-loop
-loop-holds c = refl
-
 trans-statable-requires : tie.Need-trans-statable-requires Inv-loop μ-loop
 trans-statable-requires c κs = omega (arith, transitions-most (c .before .before .before .args .chart .now))
 
@@ -36,14 +30,10 @@ returns c =
     let v = c .before .before .before .before .before .args .chart .now in
     let w = c .before .before .before .loop in
     let h : w .i < size-by TRANSITIONS (num v 3) = omega (arith, transitions-count v) in
-    every-stop trans-statable (rows-of v .transitions) [] (w .i) (rw (length-chunks (size-by TRANSITIONS (num v 3)) TRANS-ROW (drop TRANSITIONS-AT v)) h)
-    (refuted (c .before .trans-statable .ensures ∙ ap (trans-statable) (sym (row-of (size-by TRANSITIONS (num v 3)) TRANS-ROW TRANSITIONS-AT v (w .i) h))) (c .if1 .taken)) (w .inv)
-
-add-i : tie.Need-add-i Inv-loop μ-loop
-add-i c = omega arith
-
-loop-less : tie.Need-loop-less Inv-loop μ-loop
-loop-less c = omega arith
+    every-stop trans-statable (rows-of v .transitions) []
+    (w .i) (rw (length-chunks (size-by TRANSITIONS (num v 3)) TRANS-ROW (drop TRANSITIONS-AT v)) h)
+    (refuted (c .before .trans-statable .ensures ∙ ap (trans-statable)
+    (sym (row-of (size-by TRANSITIONS (num v 3)) TRANS-ROW TRANSITIONS-AT v (w .i) h))) (c .if1 .taken)) (w .inv)
 
 loop-again : tie.Need-loop-again Inv-loop μ-loop
 unfolding rows-of
@@ -51,8 +41,10 @@ loop-again c =
     let v = c .before .before .before .before .before .args .chart .now in
     let w = c .before .before .before .loop in
     let h : w .i < size-by TRANSITIONS (num v 3) = omega (arith, transitions-count v) in
-    every-next trans-statable (rows-of v .transitions) [] (w .i) (rw (length-chunks (size-by TRANSITIONS (num v 3)) TRANS-ROW (drop TRANSITIONS-AT v)) h)
-    (held (c .before .trans-statable .ensures ∙ ap (trans-statable) (sym (row-of (size-by TRANSITIONS (num v 3)) TRANS-ROW TRANSITIONS-AT v (w .i) h))) (c .if1 .left)) (w .inv)
+    every-next trans-statable (rows-of v .transitions) []
+    (w .i) (rw (length-chunks (size-by TRANSITIONS (num v 3)) TRANS-ROW (drop TRANSITIONS-AT v)) h)
+    (held (c .before .trans-statable .ensures ∙ ap (trans-statable)
+    (sym (row-of (size-by TRANSITIONS (num v 3)) TRANS-ROW TRANSITIONS-AT v (w .i) h))) (c .if1 .left)) (w .inv)
 
 returns-2 : tie.Need-returns-2 Inv-loop μ-loop
 unfolding rows-of
@@ -60,19 +52,9 @@ returns-2 c =
     let v = c .before .before .before .args .chart .now in
     let w = c .before .loop in
     let h : size-by TRANSITIONS (num v 3) ≤ w .i = omega (arith, transitions-count v) in
-    every-done trans-statable (rows-of v .transitions) [] (w .i) (rw (length-chunks (size-by TRANSITIONS (num v 3)) TRANS-ROW (drop TRANSITIONS-AT v)) h) (w .inv)
+    every-done trans-statable (rows-of v .transitions) []
+    (w .i) (rw (length-chunks (size-by TRANSITIONS (num v 3)) TRANS-ROW (drop TRANSITIONS-AT v)) h) (w .inv)
 
 pub transitions-statable-spec : {M : Type 1} → statement M
-transitions-statable-spec =
-    tie.close
-    (tie.spec
-    Inv-loop
-    μ-loop
-    transition-count-requires
-    loop-holds
-    trans-statable-requires
-    returns
-    add-i
-    loop-less
-    loop-again
-    returns-2)
+transitions-statable-spec = tie.close (tie.spec Inv-loop μ-loop
+    (λ c κs. search needs) (λ c. refl) trans-statable-requires returns (λ c. omega arith) (λ c. omega arith) loop-again returns-2)

@@ -21,12 +21,6 @@ Inv-loop chart n i₀ i = every var-statable (drop i (rows-of chart .vars)) ≡ 
 abbrev μ-loop : tie.MeasureT-loop
 μ-loop chart n i₀ i = n - i
 
-var-count-requires : tie.Need-var-count-requires Inv-loop μ-loop
-var-count-requires c κs = search needs
-
-loop-holds : tie.Need-loop-holds Inv-loop μ-loop
-loop-holds c = refl
-
 var-statable-requires : tie.Need-var-statable-requires Inv-loop μ-loop
 var-statable-requires c κs = omega (arith, vars-most (c .before .before .before .args .chart .now))
 
@@ -37,13 +31,8 @@ returns c =
     let w = c .before .before .before .loop in
     let h : w .i < size-by VARIABLES (num v 1) = omega (arith, vars-count v) in
     every-stop var-statable (rows-of v .vars) [] (w .i) (rw (length-chunks (size-by VARIABLES (num v 1)) VAR-ROW (drop VARS-AT v)) h)
-    (refuted (c .before .var-statable .ensures ∙ ap (var-statable) (sym (row-of (size-by VARIABLES (num v 1)) VAR-ROW VARS-AT v (w .i) h))) (c .if1 .taken)) (w .inv)
-
-add-i : tie.Need-add-i Inv-loop μ-loop
-add-i c = omega arith
-
-loop-less : tie.Need-loop-less Inv-loop μ-loop
-loop-less c = omega arith
+    (refuted (c .before .var-statable .ensures
+    ∙ ap (var-statable) (sym (row-of (size-by VARIABLES (num v 1)) VAR-ROW VARS-AT v (w .i) h))) (c .if1 .taken)) (w .inv)
 
 loop-again : tie.Need-loop-again Inv-loop μ-loop
 unfolding rows-of
@@ -52,7 +41,8 @@ loop-again c =
     let w = c .before .before .before .loop in
     let h : w .i < size-by VARIABLES (num v 1) = omega (arith, vars-count v) in
     every-next var-statable (rows-of v .vars) [] (w .i) (rw (length-chunks (size-by VARIABLES (num v 1)) VAR-ROW (drop VARS-AT v)) h)
-    (held (c .before .var-statable .ensures ∙ ap (var-statable) (sym (row-of (size-by VARIABLES (num v 1)) VAR-ROW VARS-AT v (w .i) h))) (c .if1 .left)) (w .inv)
+    (held (c .before .var-statable .ensures
+    ∙ ap (var-statable) (sym (row-of (size-by VARIABLES (num v 1)) VAR-ROW VARS-AT v (w .i) h))) (c .if1 .left)) (w .inv)
 
 returns-2 : tie.Need-returns-2 Inv-loop μ-loop
 unfolding rows-of
@@ -60,19 +50,9 @@ returns-2 c =
     let v = c .before .before .before .args .chart .now in
     let w = c .before .loop in
     let h : size-by VARIABLES (num v 1) ≤ w .i = omega (arith, vars-count v) in
-    every-done var-statable (rows-of v .vars) [] (w .i) (rw (length-chunks (size-by VARIABLES (num v 1)) VAR-ROW (drop VARS-AT v)) h) (w .inv)
+    every-done var-statable (rows-of v .vars) []
+    (w .i) (rw (length-chunks (size-by VARIABLES (num v 1)) VAR-ROW (drop VARS-AT v)) h) (w .inv)
 
 pub vars-statable-spec : {M : Type 1} → statement M
-vars-statable-spec =
-    tie.close
-    (tie.spec
-    Inv-loop
-    μ-loop
-    var-count-requires
-    loop-holds
-    var-statable-requires
-    returns
-    add-i
-    loop-less
-    loop-again
-    returns-2)
+vars-statable-spec = tie.close (tie.spec Inv-loop μ-loop
+    (λ c κs. search needs) (λ c. refl) var-statable-requires returns (λ c. omega arith) (λ c. omega arith) loop-again returns-2)
