@@ -3,6 +3,7 @@ use fields::LF;
 use pen::put;
 use pen::put_digits;
 use pen::put_numeral;
+use sizes::ENTRY;
 ghost use mathlib.Core.Path.{_≡_};
 ghost use Prim.Native.Nat.{_+_, _*_, _/_, _≤_, min};
 ghost use lib.ListN.{length, take};
@@ -10,9 +11,6 @@ ghost use Rattle.pen.specs.Pen.{pen, put-all};
 ghost use Rattle.meaning.specs.Widget.{ENTRY as Entry};
 ghost use Rattle.meaning.specs.Program.{entry-lines, report as printed};
 ghost use Rattle.console.specs.Shown.{entry-line, shown, LINE as Line, largest};
-
-// "three signed 32-bit numbers an entry"
-pub const ENTRY: usize = 3;
 
 // Room that is enough for the head of a report, and for the line of an entry.
 pub const HEAD: usize = 48;

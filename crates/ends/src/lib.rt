@@ -6,6 +6,7 @@ use meaning::State;
 use queue::lent::QUEUE_NUMBERS;
 use queue::lent::held;
 use queue_calls::answers::refused;
+use sizes::ENTRY;
 use sizes::STATES;
 use sizes::VARIABLES;
 use widget::Went;
@@ -15,9 +16,6 @@ ghost use Prim.Native.Nat.{_≤_};
 ghost use lib.ListN.{length};
 ghost use Rattle.meaning.specs.Calls.{called, lent, outcome, refused as refusal};
 ghost use Rattle.widget.specs.View.{all-lent, went as gone};
-
-// How many numbers an entry has.
-const ENTRY: usize = 3;
 
 // "Any other leaves the state as it was and zeroes the lent output, its count."
 pub fn refuse(number: usize, place: usize, state: State, trace: &mut [i32]) -> Called

@@ -4,12 +4,14 @@ use mathlib.Core.Path.{_∙_, _≡_, ap, refl, sym}
 use mathlib.Core.Logic.{⊎-elim}
 use Prim.Native.Nat.{_<_, ℕ}
 use native.Mathlib.Omega.{arith}
-use mathlib.Core.Bool.{Bool, _||_, cond, false, false≢true, true, true≢false}
+use mathlib.Core.Bool.{Bool, cond, false, false≢true, true, true≢false}
 use mathlib.Core.List.{List, [], _++_, _∷_, reverse}
 use lib.ListN.{length}
 use lib.Dec.{eqb}
 use borrow.Author.Tests.{eqb-true}
-use Rattle.laws.proofs.Lists.{Each, each-both, each-joined, each-kept, each-range, each-weaker, none-left, one-more, or-cases}
+use Rattle.laws.proofs.Lists.{Each, each-both, each-joined, each-kept, each-range, each-weaker, none-left, one-more}
+use Rattle.laws.proofs.Lists.{or-cases, or-off, or-off-left, or-off-right}
+use Rattle.laws.proofs.Ranges.{has-joined}
 use Rattle.meaning.specs.Chart.{Chart}
 use Rattle.meaning.specs.Lists.{concat-map, exists, from, has, keep}
 use Rattle.meaning.specs.Reaction.{choosing-order, chosen, enabled, meets, thin}
@@ -55,26 +57,6 @@ chosen-enabled c e u = thin-each _ c [] _ (ordered-each _ c _
     (kept-pass (enabled c e u) (from 0 (length (c .transitions))))))
 
 -- ---- spans that lie apart
-
-pub or-off-left : (a b : Bool) → (a || b) ≡ false → a ≡ false
-or-off-left true b e = absurd (true≢false e)
-or-off-left false b e = refl
-
-pub or-off-right : (a b : Bool) → (a || b) ≡ false → b ≡ false
-or-off-right true b e = absurd (true≢false e)
-or-off-right false b e = e
-
-pub or-off : (a b : Bool) → a ≡ false → b ≡ false → (a || b) ≡ false
-or-off a b p q = rw (p, q)
-
-pub has-joined : (x : ℕ) (ys zs : List ℕ) → has x (ys ++ zs) ≡ (has x ys || has x zs)
-unfolding has
-has-joined x [] zs = refl
-has-joined x (y ∷ ys) zs = go (eqb x y) (has-joined x ys zs)
-  where
-    go : (b : Bool) → has x (ys ++ zs) ≡ (has x ys || has x zs) → (b || has x (ys ++ zs)) ≡ ((b || has x ys) || has x zs)
-    go true ih = refl
-    go false ih = ih
 
 meets-left : (xs ys zs : List ℕ) → meets xs (ys ++ zs) ≡ false → meets xs ys ≡ false
 unfolding meets exists

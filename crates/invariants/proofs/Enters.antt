@@ -2,20 +2,19 @@
 -- elsewhere, and below the scope what the way reaches. On the path to a state every state is reached. Assumes nothing.
 use mathlib.Core.Path.{_∙_, _≡_, ap, refl, subst, sym}
 use mathlib.Core.Logic.{_⊎_, inl, inr, ⊎-elim}
-use Prim.Native.Nat.{_+_, _<_, _≤_, suc, zero, ℕ}
+use Prim.Native.Nat.{_<_, suc, zero, ℕ}
 use native.Mathlib.Omega.{arith}
-use native.Mathlib.Nat.{eq-or-lt-of-le}
 use mathlib.Core.Bool.{Bool, _&&_, _||_, cond, false, true}
 use mathlib.Core.List.{List, [], _∷_, map}
 use lib.ListN.{length}
 use lib.Dec.{eqb}
 use borrow.Author.Tests.{eq-eqb, eqb-true, ne-eqb}
-use Rattle.invariants.proofs.Choosing.{or-off}
 use Rattle.invariants.proofs.Fired.{fired, reached-inside}
 use Rattle.invariants.proofs.Left.{left-on}
 use Rattle.laws.proofs.Descent.{Reached, Sound, picks}
 use Rattle.laws.proofs.Lists.{and-both, or-cases, or-left, or-right, same-or}
 use Rattle.laws.proofs.Preorder.{above-child, linear}
+use Rattle.laws.proofs.Ranges.{has-in}
 use Rattle.laws.proofs.Reach.{pass-states, reach, reached}
 use Rattle.laws.proofs.Scope.{first-found}
 use Rattle.laws.proofs.Sound.{Sound-chart, child-parent, no-root-child, parent-child}
@@ -52,19 +51,6 @@ has-kept y p (x ∷ xs) = ⊎-elim (here (p x) refl (has-kept y p xs)) (there (p
     there true ih n = ap (λ t. t || has y (keep p xs)) (ne-eqb y x n) ∙ ih ∙ sym (ap (λ t. p y && (t || has y xs)) (ne-eqb y x n))
     there false ih n = ih ∙ sym (ap (λ t. p y && (t || has y xs)) (ne-eqb y x n))
 
-pub in-range : (y a n : ℕ) → a ≤ y → y < a + n → has y (from a n) ≡ true
-unfolding has from
-in-range y a zero l u = absurd (omega arith)
-in-range y a (suc n) l u = ⊎-elim
-    (λ q. or-left (eqb y a) (has y (from (suc a) n)) (eq-eqb y a (sym q)))
-    (λ q. or-right (eqb y a) (has y (from (suc a) n)) (in-range y (suc a) n q (omega arith)))
-    (eq-or-lt-of-le l)
-
-past-range : (y a n : ℕ) → a + n ≤ y → has y (from a n) ≡ false
-unfolding has from
-past-range y a zero l = refl
-past-range y a (suc n) l = or-off (eqb y a) (has y (from (suc a) n)) (ne-eqb y a (λ q. omega arith)) (past-range y (suc a) n (omega arith))
-
 -- ---- what is in after the entries
 
 or-false : (b : Bool) → (b || false) ≡ b
@@ -91,7 +77,7 @@ module _ (c : Chart) (r : Sound-chart c) (way : ℕ → Way) (g : Sound c way) (
       ∙ go (reaches y) refl
     where
       go : (b : Bool) → reaches y ≡ b → (b && (true && has y (from 0 (length (c .states))))) ≡ b
-      go true e = in-range y 0 (length (c .states))
+      go true e = has-in y 0 (length (c .states))
           (omega arith) (omega (arith, reached-inside c r way reaches s g (reached c way (g .ordered) s) y u e))
       go false e = refl
 

@@ -11,12 +11,13 @@ use lib.IntN.{pos, ℤ}
 use borrow.Author.Tests.{eq-eqb}
 use Rattle.invariants.proofs.Choosing.{Apart, apart-lists, chosen-apart, chosen-enabled, none-apart, one-apart}
 use Rattle.invariants.proofs.Config.{Config, no-hole}
-use Rattle.invariants.proofs.Enters.{has-kept, in-range}
+use Rattle.invariants.proofs.Enters.{has-kept}
 use Rattle.invariants.proofs.Firing.{Armed-by, Moved-by, Standing, fire-to-stands}
 use Rattle.invariants.proofs.Good.{Good, emit-good}
 use Rattle.invariants.proofs.GoodReaction.{fire-good}
 use Rattle.invariants.proofs.Keeps.{Gives, emit-keeps, gives-bind, gives-holds, gives-map}
 use Rattle.laws.proofs.Lists.{Each, and-both, and-left, and-right, each-weaker, none-left, one-more, or-left}
+use Rattle.laws.proofs.Ranges.{has-in}
 use Rattle.laws.proofs.Rules.{Target-facts}
 use Rattle.laws.proofs.Scope.{scope-facts}
 use Rattle.laws.proofs.Sound.{Sound-chart}
@@ -50,7 +51,7 @@ module _ (c : Chart) (r : Sound-chart c) where
   unfolding descendants all-states
   descendant-has s y u l = has-kept y (λ d. has s (ancestors c d)) (from 0 (length (c .states)))
       ∙ and-both (has s (ancestors c y)) (has y (from 0 (length (c .states))))
-      (under-has c (r .ordered) s y u) (in-range y 0 (length (c .states)) (omega arith) (omega arith))
+      (under-has c (r .ordered) s y u) (has-in y 0 (length (c .states)) (omega arith) (omega arith))
 
   -- the source of a transition lies in its span
   source-in-span : (s : ℕ) (x : Target) → s < length (c .states) → Target-facts c s x → has s (span-of c s x) ≡ true

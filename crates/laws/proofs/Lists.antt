@@ -1,5 +1,5 @@
 -- Laws of the tests over lists: what a test of every element says of each, and what proves it. Assumes nothing.
-use mathlib.Core.Path.{_∙_, _≡_, refl, sym}
+use mathlib.Core.Path.{_∙_, _≡_, ap, refl, sym}
 use mathlib.Core.Logic.{_⊎_, inl, inr, ⊎-elim}
 use Prim.Native.Nat.{_+_, _<_, _≤_, suc, zero, ℕ}
 use native.Mathlib.Omega.{arith}
@@ -36,6 +36,17 @@ or-left a b e = rw e refl
 pub or-right : (a b : Bool) → b ≡ true → (a || b) ≡ true
 or-right true b e = refl
 or-right false b e = e
+
+pub or-off-left : (a b : Bool) → (a || b) ≡ false → a ≡ false
+or-off-left true b e = absurd (true≢false e)
+or-off-left false b e = refl
+
+pub or-off-right : (a b : Bool) → (a || b) ≡ false → b ≡ false
+or-off-right true b e = absurd (true≢false e)
+or-off-right false b e = e
+
+pub or-off : (a b : Bool) → a ≡ false → b ≡ false → (a || b) ≡ false
+or-off a b p q = rw (p, q)
 
 -- ---- every element of a list
 
@@ -192,3 +203,21 @@ pub each-range : (a n m : ℕ) → a + n ≤ m → Each (λ x. x < m) (from a n)
 unfolding from
 each-range a zero m h = none-left
 each-range a (suc n) m h = one-more {x = a} (omega arith) (each-range (suc a) n m (omega arith))
+
+-- what holds of the element at each place holds of each element
+pub each-of : {A : Type 0} (P : A → Type 0) (d : A) (xs : List A) → ((i : ℕ) → i < length xs → P (getD xs i d)) → Each P xs
+each-of P d [] h = none-left
+each-of P d (x ∷ xs) h = one-more (h 0 (omega arith)) (each-of P d xs (λ i l. h (suc i) (omega arith)))
+
+-- a narrower test keeps the same of what a wider one has kept
+pub keep-within : {A : Type 0} (p q : A → Bool) → ((x : A) → p x ≡ true → q x ≡ true) → (xs : List A) → keep p (keep q xs) ≡ keep p xs
+unfolding keep
+keep-within p q h [] = refl
+keep-within p q h (x ∷ xs) = go (p x) (q x) refl refl (keep-within p q h xs)
+  where
+    go : (a b : Bool) → p x ≡ a → q x ≡ b → keep p (keep q xs) ≡ keep p xs
+        → keep p (cond b (x ∷ keep q xs) (keep q xs)) ≡ cond a (x ∷ keep p xs) (keep p xs)
+    go true true d e ih = rw d (ap (λ l. x ∷ l) ih)
+    go true false d e ih = absurd (true≢false (sym (h x d) ∙ e))
+    go false true d e ih = rw d ih
+    go false false d e ih = ih

@@ -8,6 +8,7 @@ use mathlib.Core.List.{List, [], _++_, _∷_}
 use lib.ListN.{length, length-append}
 use lib.Dec.{eqb}
 use borrow.Author.Tests.{eq-eqb, ne-eqb}
+use Rattle.laws.proofs.Lists.{keep-within}
 use Rattle.laws.proofs.Descent.{Sound, picks}
 use Rattle.laws.proofs.Preorder.{sub-kept, sub-run}
 use Rattle.laws.proofs.Reach.{pass-states, reach, reached}
@@ -24,7 +25,7 @@ use Rattle.meaning.specs.declared.chart.Owner.the-variants.{DefaultOf as defaul
 use Rattle.meaning.specs.declared.plan.Instr.the-variants.{SkipEmpty as skip-empty}
 use Rattle.plan_laws.proofs.Lines.{enter-long, stored-lines, visits-lines, whole-state}
 use Rattle.plan_laws.proofs.Owned.{acts-many, defaults, entries}
-use Rattle.plan_laws.proofs.Totals.{keep-within, length-collected, length-from, total, total-apart, total-kept, total-mapped}
+use Rattle.plan_laws.proofs.Totals.{length-collected, length-from, total, total-apart, total-kept, total-mapped}
 use Rattle.plan_laws.proofs.Totals.{total-most, total-when, total-part, total-same, total-sum}
 
 module _ (c : Chart) (h : Sound-chart c) where

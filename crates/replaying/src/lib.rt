@@ -22,6 +22,7 @@ use queue::lent::QUEUE_NUMBERS;
 use queue::lent::append;
 use queue::lent::held;
 use queue::lent::lend;
+use sizes::ENTRY;
 use sizes::STATES;
 use sizes::VARIABLES;
 use widget::clear_from;
@@ -38,9 +39,7 @@ ghost use Rattle.plan_invariants.specs.Replay.{replay-examined as once};
 ghost use Rattle.promises.specs.Replay.{course as went, items-of, replay as defined};
 ghost use Rattle.replaying.specs.Course.{Told, Starts, Broken};
 
-// How many numbers an entry has, and an event with its argument.
-const ENTRY: usize = 3;
-
+// How many numbers an event with its argument has.
 const EVENT: usize = 2;
 
 // Stopped before the first event: the state is as it was, and the lent trace is 0.

@@ -2,7 +2,6 @@
 // each line. The widget and the line under way go by value, and a whole line hands the widget on: the bytes inside a line change the line
 // under way only. What is printed is written into a lent slice, and what the engine writes of a call into lent numbers, with room for 1,000
 // entries, the same for the whole session.
-use console::ENTRY;
 use console::HEAD;
 use console::LINE;
 use console::Scan;
@@ -10,6 +9,7 @@ use console::collect;
 use meaning::Line;
 use meaning::State;
 use meaning::answers::WRONG_LINE;
+use sizes::ENTRY;
 ghost use mathlib.Core.Path.{_≡_};
 ghost use lib.ListN.{length};
 ghost use Rattle.promises.specs.Promises.{Accepted};

@@ -14,6 +14,7 @@ use numbers::number;
 use numbers::wide;
 use queue::lent::QUEUE_NUMBERS;
 use queue::lent::append;
+use sizes::ENTRY;
 use sizes::STATES;
 use sizes::VARIABLES;
 ghost use mathlib.Core.Path.{_≡_};
@@ -27,9 +28,6 @@ ghost use Rattle.meaning.specs.Widget.{emit as emits, taken, told};
 ghost use Rattle.meaning.specs.Effects.{assign as assigns, act-on, mark-left, mark-entered};
 ghost use Rattle.widget.specs.View.{Lent, with-active, with-slots, with-vars, with-queue, with-trace, Noted, Within, Did};
 ghost use Rattle.widget.specs.Acts.{stored, adding, sending, Named, Below};
-
-// How many numbers an entry has.
-const ENTRY: usize = 3;
 
 // How a step went: 0 to go on, else the refusal met; and the trace's next free place.
 pub struct Went {

@@ -5,7 +5,8 @@ use borrow.Author.Needs.{needs}
 use Rattle.meaning.specs.Value.{chart-of, owner-by, act-by}
 use Rattle.chart_rows.proofs.Said.{said-of2, said-of3}
 use Rattle.chart_rows.proofs.Rows.{actions-most}
-use Rattle.rules.proofs.Fields.{owner-said, act-said, no-owner, by-act}
+use Rattle.chart_rows.proofs.Rows.{act-said, owner-said}
+use Rattle.rules.proofs.Fields.{no-owner, by-act}
 use Rattle.rules.proofs.records.action_fits.Statement.{statement}
 use Rattle.rules.proofs.records.action_fits.Tie as tie
 

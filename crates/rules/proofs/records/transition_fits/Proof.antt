@@ -6,7 +6,8 @@ use Rattle.numbers.specs.Reference.{ref}
 use Rattle.meaning.specs.Value.{chart-of, guard-by, target-by}
 use Rattle.chart_rows.proofs.Said.{said-of, said-of2, said-of3}
 use Rattle.chart_rows.proofs.Rows.{transitions-most}
-use Rattle.rules.proofs.Fields.{source-said, trigger-said, guard-said, target-said, no-source, no-trigger, no-guard, by-target}
+use Rattle.chart_rows.proofs.Rows.{guard-said, source-said, target-said, trigger-said}
+use Rattle.rules.proofs.Fields.{no-source, no-trigger, no-guard, by-target}
 use Rattle.rules.proofs.records.transition_fits.Statement.{statement}
 use Rattle.rules.proofs.records.transition_fits.Tie as tie
 
