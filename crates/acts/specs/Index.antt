@@ -8,7 +8,8 @@ use lib.IntN.{ℤ}
 use Rattle.sizes.specs.Sizes.{STATES, TRANSITIONS, ACTIONS}
 use Rattle.meaning.specs.Chart.{Chart, no-action}
 use Rattle.meaning.specs.declared.chart.Owner.{Owner}
-use Rattle.meaning.specs.declared.chart.Owner.the-variants.{EntryOf as entry-of, ExitOf as exit-of, DefaultOf as default-of, TransitionOf as transition-of}
+use Rattle.meaning.specs.declared.chart.Owner.the-variants.{EntryOf as entry-of, ExitOf as exit-of, DefaultOf as default-of}
+use Rattle.meaning.specs.declared.chart.Owner.the-variants.{TransitionOf as transition-of}
 use Rattle.meaning.specs.declared.chart.ActRow.{ActRow}
 use Rattle.meaning.specs.Effects.{same-owner}
 use Rattle.meaning.specs.Value.{chart-of}

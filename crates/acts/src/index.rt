@@ -76,7 +76,8 @@ pub fn first_row(chart: &[i32], index: &[usize; INDEX], owner: Owner) -> usize
 // The next row of the same owner after row i.
 pub fn next_row(chart: &[i32], index: &[usize; INDEX], i: usize) -> usize
     requires { ⌜ Ready (now chart) (now index) × (i < length (chart-of (now chart) .actions)) ⌝ }
-    ensures { λ r. ⌜ r ≡ row-from (chart-of (now (chart .entry))) (getD (chart-of (now (chart .entry)) .actions) i no-action .owner) (suc i) ⌝ }
+    ensures { λ r. ⌜ r ≡ row-from (chart-of (now (chart .entry)))
+        (getD (chart-of (now (chart .entry)) .actions) i no-action .owner) (suc i) ⌝ }
 {
     action_count(chart) - index[OWNERS + i]
 }

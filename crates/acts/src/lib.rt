@@ -52,7 +52,10 @@ pub fn perform_all(
     at: usize,
 ) -> Went
     requires { ⌜ Ready (now chart) (now index) × (at ≤ length (now trace)) × Fits owner ⌝ }
-    ensures { λ r. ⌜ Within (now (trace .entry)) r (now (trace .exit)) × ((k : Lent) → Did (perform-all (chart-of (now (chart .entry))) arg owner) (with-vars (now (vars .entry)) (with-queue (now (queue .entry)) (with-trace (now (trace .entry)) k))) at r (with-vars (now (vars .exit)) (with-queue (now (queue .exit)) (with-trace (now (trace .exit)) k)))) ⌝ }
+    ensures { λ r. ⌜ Within (now (trace .entry)) r (now (trace .exit))
+        × ((k : Lent) → Did (perform-all (chart-of (now (chart .entry))) arg owner)
+        (with-vars (now (vars .entry)) (with-queue (now (queue .entry)) (with-trace (now (trace .entry)) k))) at r
+        (with-vars (now (vars .exit)) (with-queue (now (queue .exit)) (with-trace (now (trace .exit)) k)))) ⌝ }
 {
     let n = action_count(chart);
     let mut i = first_row(chart, index, owner);
@@ -83,7 +86,10 @@ pub fn enter(
     at: usize,
 ) -> Went
     requires { ⌜ Ready (now chart) (now index) × (s < states) × (at ≤ length (now trace)) ⌝ }
-    ensures { λ r. ⌜ Within (now (trace .entry)) r (now (trace .exit)) × ((k : Lent) → Did (enters (chart-of (now (chart .entry))) arg s) (with-active (now (active .entry)) (with-vars (now (vars .entry)) (with-queue (now (queue .entry)) (with-trace (now (trace .entry)) k)))) at r (with-active (now (active .exit)) (with-vars (now (vars .exit)) (with-queue (now (queue .exit)) (with-trace (now (trace .exit)) k))))) ⌝ }
+    ensures { λ r. ⌜ Within (now (trace .entry)) r (now (trace .exit))
+        × ((k : Lent) → Did (enters (chart-of (now (chart .entry))) arg s) (with-active (now (active .entry))
+        (with-vars (now (vars .entry)) (with-queue (now (queue .entry)) (with-trace (now (trace .entry)) k)))) at r (with-active
+        (now (active .exit)) (with-vars (now (vars .exit)) (with-queue (now (queue .exit)) (with-trace (now (trace .exit)) k))))) ⌝ }
 {
     let marked = mark_entered(s, active, trace, at);
     if marked.number != 0 {
@@ -115,7 +121,9 @@ pub fn leave(
     at: usize,
 ) -> Went
     requires { ⌜ Ready (now chart) (now index) × (s < states) × (at ≤ length (now trace)) ⌝ }
-    ensures { λ r. ⌜ Did (leaves (chart-of (now (chart .entry))) arg s) (all-lent (now (active .entry)) (now (slots .entry)) (now (vars .entry)) (now (queue .entry)) (now (trace .entry))) at r (all-lent (now (active .exit)) (now (slots .exit)) (now (vars .exit)) (now (queue .exit)) (now (trace .exit))) ⌝ }
+    ensures { λ r. ⌜ Did (leaves (chart-of (now (chart .entry))) arg s)
+        (all-lent (now (active .entry)) (now (slots .entry)) (now (vars .entry)) (now (queue .entry)) (now (trace .entry))) at r
+        (all-lent (now (active .exit)) (now (slots .exit)) (now (vars .exit)) (now (queue .exit)) (now (trace .exit))) ⌝ }
 {
     let marked = mark_left(o_parent(chart, s), s, active, slots, trace, at);
     if marked.number != 0 {

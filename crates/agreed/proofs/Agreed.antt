@@ -1,6 +1,7 @@
--- Demand 3 down to the code: whatever results the contracts of the engine's calls over a chart and of its calls over a plan allow on the same
--- arguments, they are equal, and so is what they wrote where it was lent. The contracts are those of the source (`Learnt`), not copies:
--- compile's, by which the plan is the slice as compile left it; the chart call's; the plan call's. Assumes nothing.
+-- Demand 3 down to the code: whatever results the contracts of the engine's calls over a chart and of its calls over a plan allow
+-- on the same arguments, they are equal, and so is what they wrote where it was lent. The contracts are those of the source
+-- (`Learnt`), not copies: compile's, by which the plan is the slice as compile left it; the chart call's; the plan call's.
+-- Assumes nothing.
 use mathlib.Core.Path.{_≡_, refl, subst, sym}
 use Prim.Native.Nat.{ℕ}
 use mathlib.Core.List.{List}

@@ -9,7 +9,7 @@ use lib.ListN.{length}
 use lib.Dec.{eqb, leb}
 use Rattle.agreement.proofs.Heads.{Head-for, Heads-for, heads-kept, no-heads, one-head, plan-heads}
 use Rattle.agreement.proofs.Ranges.{ranges-meet}
-use Rattle.invariants.proofs.Choosing.{has-joined}
+use Rattle.laws.proofs.Ranges.{has-joined}
 use Rattle.laws.proofs.Sound.{Sound-chart}
 use Rattle.laws.proofs.Tree.{keep-append}
 use Rattle.meaning.specs.Chart.{Chart}

@@ -46,9 +46,11 @@ module _ (f : Visit → List Instr) (c : Chart) (way : ℕ → Way) (next : Way)
   unfolding due concat-map
   due-take i l e =
       ap (concat-map f) (range-take child (is-child c s) i end l e)
-      ∙ ap (λ xs. f (visit-as (defaulting (kind-of c s) next) s i) ++ xs) (concat-map-append f (below c way (left - 1) i) (concat-map child (keep (is-child c s) (from (i + 1) (end - (i + 1))))))
+      ∙ ap (λ xs. f (visit-as (defaulting (kind-of c s) next) s i) ++ xs)
+      (concat-map-append f (below c way (left - 1) i) (concat-map child (keep (is-child c s) (from (i + 1) (end - (i + 1))))))
 
-pub record Going (f : Visit → List Instr) (c : Chart) (way : ℕ → Way) (next : Way) (s left first end : ℕ) (l : List ℤ) (at i : ℕ) (l₁ : List ℤ) (p : ℕ) : Type 0 where
+pub record Going (f : Visit → List Instr)
+    (c : Chart) (way : ℕ → Way) (next : Way) (s left first end : ℕ) (l : List ℤ) (at i : ℕ) (l₁ : List ℤ) (p : ℕ) : Type 0 where
   pub since : first ≤ i
   pub owes : emits (due f c way next s left end i) (pen l₁ p) ≡ emits (concat-map f (below c way left s)) (pen l at)
 
@@ -66,29 +68,38 @@ module _ (f : Visit → List Instr) (c : Chart) (way : ℕ → Way) (next : Way)
 
     module _ (n : i < end) where
       pub going-skip : is-child c s i ≡ false → Going f c way next s left first end l at (i + 1) l₁ p
-      going-skip e = record { since = omega (arith, h .since); owes = ap (λ xs. emits xs (pen l₁ p)) (sym (due-skip f c way next s left end i n e)) ∙ h .owes }
+      going-skip e = record {
+        since = omega (arith, h .since);
+        owes = ap (λ xs. emits xs (pen l₁ p)) (sym (due-skip f c way next s left end i n e)) ∙ h .owes;
+      }
 
       module _ (e : is-child c s i ≡ true) where
-        visits : emits (f (visit-as (defaulting (kind-of c s) next) s i) ++ (concat-map f (below c way (left - 1) i) ++ due f c way next s left end (i + 1))) (pen l₁ p)
+        visits : emits (f (visit-as (defaulting (kind-of c s) next) s i)
+            ++ (concat-map f (below c way (left - 1) i) ++ due f c way next s left end (i + 1))) (pen l₁ p)
             ≡ emits (concat-map f (below c way left s)) (pen l at)
         visits = ap (λ xs. emits xs (pen l₁ p)) (sym (due-take f c way next s left end i n e)) ∙ h .owes
 
         pub going-room : Room (concat-map f (below c way left s)) at → Room (f (visit-as (defaulting (kind-of c s) next) s i)) p
-        going-room = owes-room (f (visit-as (defaulting (kind-of c s) next) s i)) (concat-map f (below c way (left - 1) i) ++ due f c way next s left end (i + 1)) (concat-map f (below c way left s)) l l₁ at p visits
+        going-room = owes-room (f (visit-as (defaulting (kind-of c s) next) s i)) (concat-map f (below c way (left - 1) i)
+            ++ due f c way next s left end (i + 1)) (concat-map f (below c way left s)) l l₁ at p visits
 
         module _ {l₂ : List ℤ} {q : ℕ} (v : pen l₂ q ≡ emits (f (visit-as (defaulting (kind-of c s) next) s i)) (pen l₁ p)) where
-          deeper : emits (concat-map f (below c way (left - 1) i) ++ due f c way next s left end (i + 1)) (pen l₂ q) ≡ emits (concat-map f (below c way left s)) (pen l at)
+          deeper : emits (concat-map f (below c way (left - 1) i) ++ due f c way next s left end (i + 1)) (pen l₂ q)
+              ≡ emits (concat-map f (below c way left s)) (pen l at)
           deeper = owes-on _ _ (pen l₁ p) visits v
 
           pub going-room-below : Room (concat-map f (below c way left s)) at → Room (concat-map f (below c way (left - 1) i)) q
-          going-room-below = owes-room (concat-map f (below c way (left - 1) i)) (due f c way next s left end (i + 1)) (concat-map f (below c way left s)) l l₂ at q deeper
+          going-room-below = owes-room (concat-map f (below c way (left - 1) i))
+              (due f c way next s left end (i + 1)) (concat-map f (below c way left s)) l l₂ at q deeper
 
-          pub going-on : {l₃ : List ℤ} {r : ℕ} → pen l₃ r ≡ emits (concat-map f (below c way (left - 1) i)) (pen l₂ q) → Going f c way next s left first end l at (i + 1) l₃ r
+          pub going-on : {l₃ : List ℤ} {r : ℕ} → pen l₃ r ≡ emits (concat-map f (below c way (left - 1) i)) (pen l₂ q)
+              → Going f c way next s left first end l at (i + 1) l₃ r
           going-on w = record { since = omega (arith, h .since); owes = owes-on _ _ (pen l₂ q) deeper w }
 
 -- ---- the numbers below a state, rising and falling
 
-below-as : (c : Chart) → Sound-chart c → (s : ℕ) → s < length (c .states) → (end : ℕ) → end ≡ suc s + length (descendants c s) → descendants c s ≡ from (suc s) (end - suc s)
+below-as : (c : Chart) → Sound-chart c → (s : ℕ)
+    → s < length (c .states) → (end : ℕ) → end ≡ suc s + length (descendants c s) → descendants c s ≡ from (suc s) (end - suc s)
 below-as c h s l end e = let n : length (descendants c s) ≡ end - suc s = omega arith in descendants-range c h s l ∙ ap (from (suc s)) n
 
 module _ (f : ℕ → List Instr) (l : List ℤ) (at : ℕ) (all : List Instr) where
@@ -101,10 +112,12 @@ module _ (f : ℕ → List Instr) (l : List ℤ) (at : ℕ) (all : List Instr) w
     pub past : s < d
     pub owes : emits (concat-map f (reverse (from (suc s) (d - suc s)))) (pen l₁ p) ≡ emits all (pen l at)
 
-module _ {f : ℕ → List Instr} {l : List ℤ} {at : ℕ} {all : List Instr} {end i : ℕ} {l₁ : List ℤ} {p : ℕ} (h : Rising f l at all end i l₁ p) where
+module _ {f : ℕ → List Instr} {l : List ℤ}
+    {at : ℕ} {all : List Instr} {end i : ℕ} {l₁ : List ℤ} {p : ℕ} (h : Rising f l at all end i l₁ p) where
   pub rising-end : end ≤ i → pen l₁ p ≡ emits all (pen l at)
   unfolding concat-map from
-  rising-end n = let z : end - i ≡ 0 = omega arith in owes-none (pen l₁ p) (ap (λ k. emits (concat-map f (from i k)) (pen l₁ p)) (sym z) ∙ h .owes)
+  rising-end n = let z : end - i ≡ 0 = omega arith in
+      owes-none (pen l₁ p) (ap (λ k. emits (concat-map f (from i k)) (pen l₁ p)) (sym z) ∙ h .owes)
 
   module _ (n : i < end) where
     rises : emits (f i ++ concat-map f (from (i + 1) (end - (i + 1)))) (pen l₁ p) ≡ emits all (pen l at)
@@ -117,10 +130,12 @@ module _ {f : ℕ → List Instr} {l : List ℤ} {at : ℕ} {all : List Instr} {
     pub rising-on : {l₂ : List ℤ} {q : ℕ} → pen l₂ q ≡ emits (f i) (pen l₁ p) → Rising f l at all end (i + 1) l₂ q
     rising-on w = record { owes = owes-on _ _ (pen l₁ p) rises w }
 
-module _ {f : ℕ → List Instr} {l : List ℤ} {at : ℕ} {all : List Instr} {s d : ℕ} {l₁ : List ℤ} {p : ℕ} (h : Falling f l at all s d l₁ p) where
+module _ {f : ℕ → List Instr} {l : List ℤ}
+    {at : ℕ} {all : List Instr} {s d : ℕ} {l₁ : List ℤ} {p : ℕ} (h : Falling f l at all s d l₁ p) where
   pub falling-end : d ≤ suc s → pen l₁ p ≡ emits all (pen l at)
   unfolding concat-map from
-  falling-end n = let z : d - suc s ≡ 0 = omega arith in owes-none (pen l₁ p) (ap (λ k. emits (concat-map f (reverse (from (suc s) k))) (pen l₁ p)) (sym z) ∙ h .owes)
+  falling-end n = let z : d - suc s ≡ 0 = omega arith in
+      owes-none (pen l₁ p) (ap (λ k. emits (concat-map f (reverse (from (suc s) k))) (pen l₁ p)) (sym z) ∙ h .owes)
 
   module _ (n : suc s < d) where
     falls : emits (f (d - 1) ++ concat-map f (reverse (from (suc s) ((d - 1) - suc s)))) (pen l₁ p) ≡ emits all (pen l at)
@@ -133,14 +148,21 @@ module _ {f : ℕ → List Instr} {l : List ℤ} {at : ℕ} {all : List Instr} {
     pub falling-on : {l₂ : List ℤ} {q : ℕ} → pen l₂ q ≡ emits (f (d - 1)) (pen l₁ p) → Falling f l at all s (d - 1) l₂ q
     falling-on w = record { past = omega arith; owes = owes-on _ _ (pen l₁ p) falls w }
 
-module _ (c : Chart) (h : Sound-chart c) (s : ℕ) (inside : s < length (c .states)) (f : ℕ → List Instr) (l : List ℤ) (at end : ℕ) (e : end ≡ suc s + length (descendants c s)) where
+module _ (c : Chart) (h : Sound-chart c) (s : ℕ) (inside : s < length (c .states))
+    (f : ℕ → List Instr) (l : List ℤ) (at end : ℕ) (e : end ≡ suc s + length (descendants c s)) where
   pub rising-begin : Rising f l at (concat-map f (descendants c s)) end (s + 1) l at
   rising-begin =
       let z : s + 1 ≡ suc s = omega arith in
-      record { owes = ap (λ k. emits (concat-map f (from k (end - k))) (pen l at)) z ∙ ap (λ xs. emits (concat-map f xs) (pen l at)) (sym (below-as c h s inside end e)) }
+      record {
+        owes = ap (λ k. emits (concat-map f (from k (end - k))) (pen l at)) z
+            ∙ ap (λ xs. emits (concat-map f xs) (pen l at)) (sym (below-as c h s inside end e));
+      }
 
   pub falling-begin : Falling f l at (concat-map f (reverse (descendants c s))) s end l at
-  falling-begin = record { past = omega arith; owes = ap (λ xs. emits (concat-map f (reverse xs)) (pen l at)) (sym (below-as c h s inside end e)) }
+  falling-begin = record {
+    past = omega arith;
+    owes = ap (λ xs. emits (concat-map f (reverse xs)) (pen l at)) (sym (below-as c h s inside end e));
+  }
 
   pub end-inside : end ≤ length (c .states)
   end-inside = omega (arith, end-within c (h .ordered) s inside)

@@ -20,7 +20,8 @@ use Rattle.meaning.specs.declared.plan.Instr.the-variants.{SkipEmpty as skip-em
 use Rattle.meaning.specs.Lists.{concat-map}
 use Rattle.meaning.specs.Tree.{kind-of, trans-row, descendants, scope}
 use Rattle.meaning.specs.Entry.{Visit, state-of, below, all-below, by-defaults, Way}
-use Rattle.meaning.specs.Compile.{code-acts, enter-code, visit-code, default-arm, stored-arm, arms-of, arms, towards-code, exits-code, block-to, block, start-block}
+use Rattle.meaning.specs.Compile.{code-acts, enter-code, visit-code, default-arm, stored-arm, arms-of, arms, towards-code}
+use Rattle.meaning.specs.Compile.{exits-code, block-to, block, start-block}
 use Rattle.meaning.specs.Value.{chart-of}
 use Rattle.tree_walks.specs.Walks.{Ruled}
 use Rattle.tree_walks.proofs.Passing.{sound}
@@ -76,17 +77,23 @@ module _ (c : Chart) (goal : Goal) (p s : ℕ) (w : Way) (e : w ≡ goal-way c g
 
   pub arrival-room : (at : ℕ) → Room (goal-code c goal (visit-as (defaulting (kind-of c p) (goal-way c goal p)) p s)) at
       → Room (visit-code c (visit-as (defaulting (kind-of c p) w) p s)) at
-  arrival-room at r = omega (arith, ap (λ v. length (visit-code c v)) the-visit, begins goal (visit-as (defaulting (kind-of c p) (goal-way c goal p)) p s))
+  arrival-room at r = omega (
+    arith,
+    ap (λ v. length (visit-code c v)) the-visit,
+    begins goal (visit-as (defaulting (kind-of c p) (goal-way c goal p)) p s),
+  )
 
   module _ (q : Pen) {q₁ : Pen} (f : q₁ ≡ emits (visit-code c (visit-as (defaulting (kind-of c p) w) p s)) q) where
     entered : q₁ ≡ emits (visit-code c (visit-as (defaulting (kind-of c p) (goal-way c goal p)) p s)) q
     entered = f ∙ ap (λ v. emits (visit-code c v) q) the-visit
 
-    pub arrival-target : (t : ℕ) → goal ≡ aim t → q₁ ≡ emits (goal-code c goal (visit-as (defaulting (kind-of c p) (goal-way c goal p)) p s)) q
+    pub arrival-target : (t : ℕ) → goal ≡ aim t
+        → q₁ ≡ emits (goal-code c goal (visit-as (defaulting (kind-of c p) (goal-way c goal p)) p s)) q
     arrival-target t g = entered ∙ ap (λ x. emits (goal-code c x (visit-as (defaulting (kind-of c p) (goal-way c goal p)) p s)) q) (sym g)
 
     module _ (b : ℕ) (g : goal ≡ owner b) where
-      towards-is : (v : Visit) (x : Bool) → eqb (state-of v) b ≡ x → towards-code c b v ≡ visit-code c v ++ elim x [ true ↦ arms c b | false ↦ [] ]
+      towards-is : (v : Visit) (x : Bool) → eqb (state-of v) b ≡ x
+          → towards-code c b v ≡ visit-code c v ++ elim x [ true ↦ arms c b | false ↦ [] ]
       unfolding towards-code
       towards-is v x h = ap (λ y. visit-code c v ++ elim y [ true ↦ arms c b | false ↦ [] ]) h
 
@@ -95,7 +102,8 @@ module _ (c : Chart) (goal : Goal) (p s : ℕ) (w : Way) (e : w ≡ goal-way c g
           ≡ visit-code c (visit-as (defaulting (kind-of c p) (goal-way c goal p)) p s) ++ elim x [ true ↦ arms c b | false ↦ [] ]
       here x h =
           ap (λ y. goal-code c y (visit-as (defaulting (kind-of c p) (goal-way c goal p)) p s)) g
-          ∙ towards-is (visit-as (defaulting (kind-of c p) (goal-way c goal p)) p s) x (ap (λ y. eqb y b) (state-entered (defaulting (kind-of c p) (goal-way c goal p)) p s) ∙ h)
+          ∙ towards-is (visit-as (defaulting (kind-of c p) (goal-way c goal p)) p s) x
+          (ap (λ y. eqb y b) (state-entered (defaulting (kind-of c p) (goal-way c goal p)) p s) ∙ h)
 
       pub arrival-past : (s ≡ b → ⊥) → q₁ ≡ emits (goal-code c goal (visit-as (defaulting (kind-of c p) (goal-way c goal p)) p s)) q
       arrival-past n = put-as _ _ q (here false (ne-eqb s b n) ∙ append-nil _) entered
@@ -103,35 +111,48 @@ module _ (c : Chart) (goal : Goal) (p s : ℕ) (w : Way) (e : w ≡ goal-way c g
       pub arrival-long : s ≡ b → length (goal-code c goal (visit-as (defaulting (kind-of c p) (goal-way c goal p)) p s))
           ≡ length (visit-code c (visit-as (defaulting (kind-of c p) w) p s)) + length (arms c b)
       arrival-long n =
-          ap length (here true (eq-eqb s b n)) ∙ length-append (visit-code c (visit-as (defaulting (kind-of c p) (goal-way c goal p)) p s)) (arms c b)
+          ap length (here true (eq-eqb s b n))
+          ∙ length-append (visit-code c (visit-as (defaulting (kind-of c p) (goal-way c goal p)) p s)) (arms c b)
           ∙ ap (λ v. length (visit-code c v) + length (arms c b)) (sym the-visit)
 
-      pub arrival-owner : s ≡ b → {q₂ : Pen} → q₂ ≡ emits (arms c b) q₁ → q₂ ≡ emits (goal-code c goal (visit-as (defaulting (kind-of c p) (goal-way c goal p)) p s)) q
+      pub arrival-owner : s ≡ b → {q₂ : Pen} → q₂ ≡ emits (arms c b) q₁
+          → q₂ ≡ emits (goal-code c goal (visit-as (defaulting (kind-of c p) (goal-way c goal p)) p s)) q
       arrival-owner n h = put-as _ _ q (here true (eq-eqb s b n)) (put-both _ _ q entered h)
 
 -- ---- a move, and a block
 
 module _ (c : Chart) (t : ℕ) (goal : Goal) (top n : ℕ) (e : n ≡ length (c .states)) where
   pub move-as : move-code c t goal top
-      ≡ exits-code c (descendants c top) ++ (code-acts c (transition-of t) ++ concat-map (goal-code c goal) (below c (goal-way c goal) n top))
+      ≡ exits-code c (descendants c top)
+      ++ (code-acts c (transition-of t) ++ concat-map (goal-code c goal) (below c (goal-way c goal) n top))
   unfolding move-code all-below
-  move-as = ap (λ k. exits-code c (descendants c top) ++ (code-acts c (transition-of t) ++ concat-map (goal-code c goal) (below c (goal-way c goal) k top))) (sym e)
+  move-as = ap (λ k. exits-code c (descendants c top)
+      ++ (code-acts c (transition-of t) ++ concat-map (goal-code c goal) (below c (goal-way c goal) k top))) (sym e)
 
   pub move-long : length (move-code c t goal top)
-      ≡ length (exits-code c (descendants c top)) + (length (code-acts c (transition-of t)) + length (concat-map (goal-code c goal) (below c (goal-way c goal) n top)))
+      ≡ length (exits-code c (descendants c top))
+      + (length (code-acts c (transition-of t)) + length (concat-map (goal-code c goal) (below c (goal-way c goal) n top)))
   move-long =
-      ap length move-as ∙ length-append (exits-code c (descendants c top)) (code-acts c (transition-of t) ++ concat-map (goal-code c goal) (below c (goal-way c goal) n top))
-      ∙ ap (λ k. length (exits-code c (descendants c top)) + k) (length-append (code-acts c (transition-of t)) (concat-map (goal-code c goal) (below c (goal-way c goal) n top)))
+      ap length move-as ∙ length-append (exits-code c (descendants c top))
+      (code-acts c (transition-of t) ++ concat-map (goal-code c goal) (below c (goal-way c goal) n top))
+      ∙ ap (λ k. length (exits-code c (descendants c top)) + k)
+      (length-append (code-acts c (transition-of t)) (concat-map (goal-code c goal) (below c (goal-way c goal) n top)))
 
-module _ (v : List ℤ) (r : Ruled v) (t : ℕ) (l : t < length (chart-of v .transitions)) (row : TransRow) (e : row ≡ trans-row (chart-of v) t) where
+module _ (v : List ℤ) (r : Ruled v) (t : ℕ) (l : t < length (chart-of v .transitions))
+    (row : TransRow) (e : row ≡ trans-row (chart-of v) t) where
   facts : (x : Target) → row .target ≡ x → Target-facts (chart-of v) (row .source) x
-  facts x q = subst (Target-facts (chart-of v) (row .source)) q (subst (λ y. Target-facts (chart-of v) (y .source) (y .target)) (sym e) (sound v r .transitions t l .target))
+  facts x q = subst (Target-facts (chart-of v) (row .source)) q
+      (subst (λ y. Target-facts (chart-of v) (y .source) (y .target)) (sym e) (sound v r .transitions t l .target))
 
-  pub to-inside : (d : ℕ) → row .target ≡ to d → (top : ℕ) → top ≡ scope (chart-of v) (row .source) d → (d < length (chart-of v .states)) × (top < length (chart-of v .states))
-  to-inside d q top f = let x = facts (to d) q in (x .0, omega (arith, scope-facts (chart-of v) (sound v r) (row .source) d (x .2) (x .1) .inside))
+  pub to-inside : (d : ℕ) → row .target ≡ to d → (top : ℕ)
+      → top ≡ scope (chart-of v) (row .source) d → (d < length (chart-of v .states)) × (top < length (chart-of v .states))
+  to-inside d q top f = let x = facts (to d) q in
+      (x .0, omega (arith, scope-facts (chart-of v) (sound v r) (row .source) d (x .2) (x .1) .inside))
 
-  pub history-inside : (b : ℕ) → row .target ≡ history b → (top : ℕ) → top ≡ scope (chart-of v) (row .source) b → (b < length (chart-of v .states)) × (top < length (chart-of v .states))
-  history-inside b q top f = let x = facts (history b) q in (x .0, omega (arith, scope-facts (chart-of v) (sound v r) (row .source) b (x .3) (x .1) .inside))
+  pub history-inside : (b : ℕ) → row .target ≡ history b → (top : ℕ)
+      → top ≡ scope (chart-of v) (row .source) b → (b < length (chart-of v .states)) × (top < length (chart-of v .states))
+  history-inside b q top f = let x = facts (history b) q in
+      (x .0, omega (arith, scope-facts (chart-of v) (sound v r) (row .source) b (x .3) (x .1) .inside))
 
 module _ (c : Chart) (t : ℕ) (row : TransRow) (e : row ≡ trans-row c t) where
   block-of : block c t ≡ block-to c t (row .source) (row .target)
@@ -142,7 +163,8 @@ module _ (c : Chart) (t : ℕ) (row : TransRow) (e : row ≡ trans-row c t) wher
   unfolding block-to move-code
   block-at-target d q top f = block-of ∙ ap (block-to c t (row .source)) q ∙ ap (move-code c t (aim d)) (sym f)
 
-  pub block-at-history : (b : ℕ) → row .target ≡ history b → (top : ℕ) → top ≡ scope c (row .source) b → block c t ≡ move-code c t (owner b) top
+  pub block-at-history : (b : ℕ) → row .target ≡ history b
+      → (top : ℕ) → top ≡ scope c (row .source) b → block c t ≡ move-code c t (owner b) top
   unfolding block-to move-code
   block-at-history b q top f = block-of ∙ ap (block-to c t (row .source)) q ∙ ap (move-code c t (owner b)) (sym f)
 

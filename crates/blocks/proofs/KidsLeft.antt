@@ -24,7 +24,8 @@ kids-left c way s (suc f) first end n g =
       within = g .within;
       more = λ l. omega arith;
       goes = λ w q. ap (goes-on c (below c w f) s (kind-of c s)) q ∙ g .level (below c w f)
-          ∙ ap (λ k. concat-map (λ d. visit-as (defaulting (kind-of c s) way) s d ∷ below c w k d) (keep (is-child c s) (from first (end - first)))) e;
+          ∙ ap (λ k. concat-map (λ d. visit-as (defaulting (kind-of c s) way) s d ∷ below c w k d)
+          (keep (is-child c s) (from first (end - first)))) e;
     }
 
 -- with none left nothing is entered

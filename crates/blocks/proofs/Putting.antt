@@ -29,14 +29,16 @@ use Rattle.emitter.proofs.Laws.{put-first, put-both}
 -- ---- leaving
 
 pub exit-put : (c : Chart) (s k : ℕ) (up : Place) (p : Pen) {p₁ p₂ p₃ : Pen} → k ≡ length (code-acts c (exit-of s)) → up ≡ o-parent c s
-    → p₁ ≡ emits (skip-out s (k + 1) ∷ []) p → p₂ ≡ emits (go-out s up ∷ []) p₁ → p₃ ≡ emits (code-acts c (exit-of s)) p₂ → p₃ ≡ emits (exit-code c s) p
+    → p₁ ≡ emits (skip-out s (k + 1) ∷ []) p
+    → p₂ ≡ emits (go-out s up ∷ []) p₁ → p₃ ≡ emits (code-acts c (exit-of s)) p₂ → p₃ ≡ emits (exit-code c s) p
 unfolding exit-code
 exit-put c s k up p {p₁} {p₂} e u f g h =
     let n : k + 1 ≡ suc (length (code-acts c (exit-of s))) = omega arith in
     put-first _ _ p (f ∙ ap (λ x. emits (skip-out s x ∷ []) p) n) (put-first _ _ p₁ (g ∙ ap (λ x. emits (go-out s x ∷ []) p₁) u) h)
 
 -- the parent in OUT is a 32-bit number
-pub parent-small : (v : List ℤ) → Ruled v → (s : ℕ) → s < length (chart-of v .states) → (up : Place) → up ≡ o-parent (chart-of v) s → Small-place up
+pub parent-small : (v : List ℤ) → Ruled v
+    → (s : ℕ) → s < length (chart-of v .states) → (up : Place) → up ≡ o-parent (chart-of v) s → Small-place up
 unfolding o-parent
 parent-small v r zero l up e = subst Small-place (sym e) tt
 parent-small v r (suc n) l up e = subst Small-place (sym e) (go (is-o (kind-of (chart-of v) (parent-of (chart-of v) (suc n)))))
@@ -70,13 +72,15 @@ held-o c kind-o p d n = refl
 held-o c kind-a p d n = absurd (false≢true n)
 held-o c kind-b p d n = absurd (false≢true n)
 
-module _ (c : Chart) (d p k : ℕ) (kind : Kind) (b : Bool) (ep : p ≡ parent-of c d) (ek : kind ≡ kind-of c p) (eb : b ≡ is-o kind) (en : k ≡ length (code-acts c (entry-of d))) where
+module _ (c : Chart) (d p k : ℕ) (kind : Kind) (b : Bool) (ep : p ≡ parent-of c d)
+    (ek : kind ≡ kind-of c p) (eb : b ≡ is-o kind) (en : k ≡ length (code-acts c (entry-of d))) where
   -- of a component
   pub stored-other : not b ≡ true → stored-code c d ≡ skip-out p (k + 1) ∷ enter-code c d
   unfolding stored-code past-if-out enter-code
   stored-other n =
       let h : held-code c (kind-of c (parent-of c d)) (parent-of c d) d ≡ enter-code c d
-      = held-other c (kind-of c (parent-of c d)) (parent-of c d) d (ap (λ x. is-o (kind-of c x)) (sym ep) ∙ ap is-o (sym ek) ∙ sym eb ∙ not-true b n) in
+      = held-other c (kind-of c (parent-of c d))
+      (parent-of c d) d (ap (λ x. is-o (kind-of c x)) (sym ep) ∙ ap is-o (sym ek) ∙ sym eb ∙ not-true b n) in
       let m : suc (length (code-acts c (entry-of d))) ≡ k + 1 = omega arith in
       ap (past-if-out (parent-of c d)) h ∙ ap (λ q. skip-out q (suc (length (code-acts c (entry-of d)))) ∷ enter-code c d) (sym ep)
       ∙ ap (λ j. skip-out p j ∷ enter-code c d) m
@@ -85,12 +89,15 @@ module _ (c : Chart) (d p k : ℕ) (kind : Kind) (b : Bool) (ep : p ≡ parent-o
   pub stored-o : not b ≡ false → stored-code c d ≡ skip-out p (k + 2) ∷ skip-not p d (k + 1) ∷ enter-code c d
   unfolding stored-code past-if-out enter-code
   stored-o n =
-      let h : held-code c (kind-of c (parent-of c d)) (parent-of c d) d ≡ skip-not (parent-of c d) d (length (enter-code c d)) ∷ enter-code c d
-      = held-o c (kind-of c (parent-of c d)) (parent-of c d) d (ap (λ x. is-o (kind-of c x)) (sym ep) ∙ ap is-o (sym ek) ∙ sym eb ∙ not-false b n) in
+      let h : held-code c (kind-of c (parent-of c d)) (parent-of c d) d
+      ≡ skip-not (parent-of c d) d (length (enter-code c d)) ∷ enter-code c d
+      = held-o c (kind-of c (parent-of c d)) (parent-of c d) d
+      (ap (λ x. is-o (kind-of c x)) (sym ep) ∙ ap is-o (sym ek) ∙ sym eb ∙ not-false b n) in
       let m : suc (length (code-acts c (entry-of d))) ≡ k + 1 = omega arith in
       let m₂ : suc (suc (length (code-acts c (entry-of d)))) ≡ k + 2 = omega arith in
       ap (past-if-out (parent-of c d)) h
-      ∙ ap (λ q. skip-out q (suc (suc (length (code-acts c (entry-of d))))) ∷ skip-not q d (suc (length (code-acts c (entry-of d)))) ∷ enter-code c d) (sym ep)
+      ∙ ap (λ q. skip-out q (suc (suc (length (code-acts c (entry-of d)))))
+      ∷ skip-not q d (suc (length (code-acts c (entry-of d)))) ∷ enter-code c d) (sym ep)
       ∙ ap (λ j. skip-out p j ∷ skip-not p d (suc (length (code-acts c (entry-of d)))) ∷ enter-code c d) m₂
       ∙ ap (λ j. skip-out p (k + 2) ∷ skip-not p d j ∷ enter-code c d) m
 

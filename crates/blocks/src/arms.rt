@@ -30,8 +30,10 @@ pub fn put_defaults(
     plan: &mut [i32],
     at: usize,
 ) -> usize
-    requires { ⌜ Ready (now chart) (now index) × (s < length (chart-of (now chart) .states)) × Room (concat-map (visit-code (chart-of (now chart))) (below (chart-of (now chart)) by-defaults left s)) at ⌝ }
-    ensures { λ r. ⌜ pen (now (plan .exit)) r ≡ emits (concat-map (visit-code (chart-of (now (chart .entry)))) (below (chart-of (now (chart .entry))) by-defaults left s)) (pen (now (plan .entry)) at) ⌝ }
+    requires { ⌜ Ready (now chart) (now index) × (s < length (chart-of (now chart) .states))
+        × Room (concat-map (visit-code (chart-of (now chart))) (below (chart-of (now chart)) by-defaults left s)) at ⌝ }
+    ensures { λ r. ⌜ pen (now (plan .exit)) r ≡ emits (concat-map (visit-code (chart-of (now (chart .entry))))
+        (below (chart-of (now (chart .entry))) by-defaults left s)) (pen (now (plan .entry)) at) ⌝ }
 {
     let next = Next::Defaults;
     let kids = kids_within(chart, s, next, left);
@@ -48,7 +50,8 @@ pub fn put_defaults(
 
 // How many instructions the default arm of b has.
 fn default_length(chart: &[i32], index: &[usize; INDEX], b: usize) -> usize
-    requires { ⌜ Ready (now chart) (now index) × (b < length (chart-of (now chart) .states)) × Room (default-arm (chart-of (now chart)) b) 0 ⌝ }
+    requires { ⌜ Ready (now chart) (now index)
+        × (b < length (chart-of (now chart) .states)) × Room (default-arm (chart-of (now chart)) b) 0 ⌝ }
     ensures { λ r. ⌜ r ≡ length (default-arm (chart-of (now (chart .entry))) b) ⌝ }
 {
     let mut none = [0i32; 1];
@@ -64,7 +67,8 @@ fn put_stored_arm(
     plan: &mut [i32],
     at: usize,
 ) -> usize
-    requires { ⌜ Ready (now chart) (now index) × (b < length (chart-of (now chart) .states)) × Room (stored-arm (chart-of (now chart)) b) at ⌝ }
+    requires { ⌜ Ready (now chart) (now index)
+        × (b < length (chart-of (now chart) .states)) × Room (stored-arm (chart-of (now chart)) b) at ⌝ }
     ensures { λ r. ⌜ pen (now (plan .exit)) r ≡ emits (stored-arm (chart-of (now (chart .entry))) b) (pen (now (plan .entry)) at) ⌝ }
 {
     let end = end_below(chart, b);
@@ -79,7 +83,8 @@ fn put_stored_arm(
 
 // How many instructions the stored arm of b has.
 fn stored_length(chart: &[i32], index: &[usize; INDEX], b: usize) -> usize
-    requires { ⌜ Ready (now chart) (now index) × (b < length (chart-of (now chart) .states)) × Room (stored-arm (chart-of (now chart)) b) 0 ⌝ }
+    requires { ⌜ Ready (now chart) (now index)
+        × (b < length (chart-of (now chart) .states)) × Room (stored-arm (chart-of (now chart)) b) 0 ⌝ }
     ensures { λ r. ⌜ r ≡ length (stored-arm (chart-of (now (chart .entry))) b) ⌝ }
 {
     let mut none = [0i32; 1];

@@ -37,8 +37,10 @@ ghost use Rattle.blocks.specs.Parts.{goal-code, move-code};
 
 // "for each state of the span, falling": those below s.
 fn put_exits(chart: &[i32], index: &[usize; INDEX], s: usize, plan: &mut [i32], at: usize) -> usize
-    requires { ⌜ Ready (now chart) (now index) × (s < length (chart-of (now chart) .states)) × Room (exits-code (chart-of (now chart)) (descendants (chart-of (now chart)) s)) at ⌝ }
-    ensures { λ r. ⌜ pen (now (plan .exit)) r ≡ emits (exits-code (chart-of (now (chart .entry))) (descendants (chart-of (now (chart .entry))) s)) (pen (now (plan .entry)) at) ⌝ }
+    requires { ⌜ Ready (now chart) (now index) × (s < length (chart-of (now chart) .states))
+        × Room (exits-code (chart-of (now chart)) (descendants (chart-of (now chart)) s)) at ⌝ }
+    ensures { λ r. ⌜ pen (now (plan .exit)) r ≡ emits (exits-code (chart-of (now (chart .entry)))
+        (descendants (chart-of (now (chart .entry))) s)) (pen (now (plan .entry)) at) ⌝ }
 {
     let mut p = at;
     let mut d = end_below(chart, s);
@@ -59,8 +61,12 @@ fn put_arrival(
     plan: &mut [i32],
     at: usize,
 ) -> usize
-    requires { ⌜ Ready (now chart) (now index) × (p < length (chart-of (now chart) .states)) × (s < length (chart-of (now chart) .states)) × Room (goal-code (chart-of (now chart)) goal (visit-as (defaulting (kind-in (chart-of (now chart)) p) (goal-way (chart-of (now chart)) goal p)) p s)) at ⌝ }
-    ensures { λ r. ⌜ pen (now (plan .exit)) r ≡ emits (goal-code (chart-of (now (chart .entry))) goal (visit-as (defaulting (kind-in (chart-of (now (chart .entry))) p) (goal-way (chart-of (now (chart .entry))) goal p)) p s)) (pen (now (plan .entry)) at) ⌝ }
+    requires { ⌜ Ready (now chart) (now index) × (p < length (chart-of (now chart) .states))
+        × (s < length (chart-of (now chart) .states)) × Room (goal-code (chart-of (now chart))
+        goal (visit-as (defaulting (kind-in (chart-of (now chart)) p) (goal-way (chart-of (now chart)) goal p)) p s)) at ⌝ }
+    ensures { λ r. ⌜ pen (now (plan .exit)) r ≡ emits (goal-code (chart-of (now (chart .entry))) goal
+        (visit-as (defaulting (kind-in (chart-of (now (chart .entry))) p) (goal-way (chart-of (now (chart .entry))) goal p)) p s))
+        (pen (now (plan .entry)) at) ⌝ }
 {
     let next = next_of(chart, goal, p);
     let q = put_visit(chart, index, next, p, s, plan, at);
@@ -83,8 +89,11 @@ fn put_towards(
     plan: &mut [i32],
     at: usize,
 ) -> usize
-    requires { ⌜ Ready (now chart) (now index) × Inside (chart-of (now chart)) goal × (s < length (chart-of (now chart) .states)) × Room (concat-map (goal-code (chart-of (now chart)) goal) (below (chart-of (now chart)) (goal-way (chart-of (now chart)) goal) left s)) at ⌝ }
-    ensures { λ r. ⌜ pen (now (plan .exit)) r ≡ emits (concat-map (goal-code (chart-of (now (chart .entry))) goal) (below (chart-of (now (chart .entry))) (goal-way (chart-of (now (chart .entry))) goal) left s)) (pen (now (plan .entry)) at) ⌝ }
+    requires { ⌜ Ready (now chart) (now index) × Inside (chart-of (now chart)) goal
+        × (s < length (chart-of (now chart) .states)) × Room (concat-map (goal-code (chart-of (now chart)) goal)
+        (below (chart-of (now chart)) (goal-way (chart-of (now chart)) goal) left s)) at ⌝ }
+    ensures { λ r. ⌜ pen (now (plan .exit)) r ≡ emits (concat-map (goal-code (chart-of (now (chart .entry))) goal) (below
+        (chart-of (now (chart .entry))) (goal-way (chart-of (now (chart .entry))) goal) left s)) (pen (now (plan .entry)) at) ⌝ }
 {
     let kids = kids_within(chart, s, next_of(chart, goal, s), left);
     let mut p = at;
@@ -108,8 +117,10 @@ fn put_move(
     plan: &mut [i32],
     at: usize,
 ) -> usize
-    requires { ⌜ Ready (now chart) (now index) × (t < length (chart-of (now chart) .transitions)) × Inside (chart-of (now chart)) goal × (top < length (chart-of (now chart) .states)) × Room (move-code (chart-of (now chart)) t goal top) at ⌝ }
-    ensures { λ r. ⌜ pen (now (plan .exit)) r ≡ emits (move-code (chart-of (now (chart .entry))) t goal top) (pen (now (plan .entry)) at) ⌝ }
+    requires { ⌜ Ready (now chart) (now index) × (t < length (chart-of (now chart) .transitions)) × Inside (chart-of (now chart))
+        goal × (top < length (chart-of (now chart) .states)) × Room (move-code (chart-of (now chart)) t goal top) at ⌝ }
+    ensures { λ r. ⌜ pen (now (plan .exit)) r
+        ≡ emits (move-code (chart-of (now (chart .entry))) t goal top) (pen (now (plan .entry)) at) ⌝ }
 {
     let left = state_count(chart);
     let p = put_exits(chart, index, top, plan, at);
@@ -125,7 +136,8 @@ pub fn put_block(
     plan: &mut [i32],
     at: usize,
 ) -> usize
-    requires { ⌜ Ready (now chart) (now index) × (t < length (chart-of (now chart) .transitions)) × Room (block (chart-of (now chart)) t) at ⌝ }
+    requires { ⌜ Ready (now chart) (now index)
+        × (t < length (chart-of (now chart) .transitions)) × Room (block (chart-of (now chart)) t) at ⌝ }
     ensures { λ r. ⌜ pen (now (plan .exit)) r ≡ emits (block (chart-of (now (chart .entry))) t) (pen (now (plan .entry)) at) ⌝ }
 {
     let row = trans_row(chart, t);
@@ -145,7 +157,8 @@ pub fn put_block(
 
 // How many instructions the block of a transition has.
 pub fn block_length(chart: &[i32], index: &[usize; INDEX], t: usize) -> usize
-    requires { ⌜ Ready (now chart) (now index) × (t < length (chart-of (now chart) .transitions)) × Room (block (chart-of (now chart)) t) 0 ⌝ }
+    requires { ⌜ Ready (now chart) (now index)
+        × (t < length (chart-of (now chart) .transitions)) × Room (block (chart-of (now chart)) t) 0 ⌝ }
     ensures { λ r. ⌜ r ≡ length (block (chart-of (now (chart .entry))) t) ⌝ }
 {
     let mut none = [0i32; 1];

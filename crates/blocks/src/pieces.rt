@@ -30,7 +30,8 @@ pub fn put_exit(
     plan: &mut [i32],
     at: usize,
 ) -> usize
-    requires { ⌜ Ready (now chart) (now index) × (s < length (chart-of (now chart) .states)) × Room (exit-code (chart-of (now chart)) s) at ⌝ }
+    requires { ⌜ Ready (now chart) (now index)
+        × (s < length (chart-of (now chart) .states)) × Room (exit-code (chart-of (now chart)) s) at ⌝ }
     ensures { λ r. ⌜ pen (now (plan .exit)) r ≡ emits (exit-code (chart-of (now (chart .entry))) s) (pen (now (plan .entry)) at) ⌝ }
 {
     let k = act_count(chart, index, Owner::ExitOf(s));
@@ -48,7 +49,8 @@ pub fn put_enter(
     plan: &mut [i32],
     at: usize,
 ) -> usize
-    requires { ⌜ Ready (now chart) (now index) × (s < length (chart-of (now chart) .states)) × Room (enter-code (chart-of (now chart)) s) at ⌝ }
+    requires { ⌜ Ready (now chart) (now index)
+        × (s < length (chart-of (now chart) .states)) × Room (enter-code (chart-of (now chart)) s) at ⌝ }
     ensures { λ r. ⌜ pen (now (plan .exit)) r ≡ emits (enter-code (chart-of (now (chart .entry))) s) (pen (now (plan .entry)) at) ⌝ }
 {
     let p = put_instr(plan, at, Instr::In(s));
@@ -65,8 +67,11 @@ pub fn put_visit(
     plan: &mut [i32],
     at: usize,
 ) -> usize
-    requires { ⌜ Ready (now chart) (now index) × (p < length (chart-of (now chart) .states)) × (s < length (chart-of (now chart) .states)) × Room (visit-code (chart-of (now chart)) (visit-as (defaulting (kind-in (chart-of (now chart)) p) (way-by next)) p s)) at ⌝ }
-    ensures { λ r. ⌜ pen (now (plan .exit)) r ≡ emits (visit-code (chart-of (now (chart .entry))) (visit-as (defaulting (kind-in (chart-of (now (chart .entry))) p) (way-by next)) p s)) (pen (now (plan .entry)) at) ⌝ }
+    requires { ⌜ Ready (now chart) (now index)
+        × (p < length (chart-of (now chart) .states)) × (s < length (chart-of (now chart) .states)) ×
+        Room (visit-code (chart-of (now chart)) (visit-as (defaulting (kind-in (chart-of (now chart)) p) (way-by next)) p s)) at ⌝ }
+    ensures { λ r. ⌜ pen (now (plan .exit)) r ≡ emits (visit-code (chart-of (now (chart .entry)))
+        (visit-as (defaulting (kind-in (chart-of (now (chart .entry))) p) (way-by next)) p s)) (pen (now (plan .entry)) at) ⌝ }
 {
     if !by_default(chart, p, next) {
         return put_enter(chart, index, s, plan, at);
@@ -83,7 +88,8 @@ pub fn put_stored(
     plan: &mut [i32],
     at: usize,
 ) -> usize
-    requires { ⌜ Ready (now chart) (now index) × (0 < d) × (d < length (chart-of (now chart) .states)) × Room (stored-code (chart-of (now chart)) d) at ⌝ }
+    requires { ⌜ Ready (now chart) (now index)
+        × (0 < d) × (d < length (chart-of (now chart) .states)) × Room (stored-code (chart-of (now chart)) d) at ⌝ }
     ensures { λ r. ⌜ pen (now (plan .exit)) r ≡ emits (stored-code (chart-of (now (chart .entry))) d) (pen (now (plan .entry)) at) ⌝ }
 {
     let p = parent_of(chart, d);

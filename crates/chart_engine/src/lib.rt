@@ -1,6 +1,7 @@
-// The part of the engine's door that is over charts: the check, chart text, the calls on a widget. The engine hands these functions on, so that a host
-// sees one door; they are a crate of their own so that an edit here proves again only what charts stand on. A chart is a value in lent numbers,
-// and no function here asks anything of what it is lent; checked has the calls for a chart that was checked once.
+// The part of the engine's door that is over charts: the check, chart text, the calls on a widget. The engine hands these
+// functions on, so that a host sees one door; they are a crate of their own so that an edit here proves again only what charts
+// stand on. A chart is a value in lent numbers, and no function here asks anything of what it is lent; checked has the calls for
+// a chart that was checked once.
 pub mod checked;
 
 use checked::discard_checked;

@@ -233,3 +233,52 @@ module _ (v : List ℤ) (b : ℕ) where
         num-at ACT-ROW b v 3 (omega arith),
         num-at ACT-ROW b v 4 (omega arith),
       )
+
+-- each field of a transition and of an action, where it stands
+module _ (v : List ℤ) (i : ℕ) (l : i < length (chart-of v .transitions)) where
+  abbrev row-begins : ℕ
+  row-begins = TRANSITIONS-AT + i * TRANS-ROW
+
+  pub source-said : ref (getD v row-begins (pos 0)) ≡ trans-row (chart-of v) i .source
+  unfolding trans-by
+  source-said = sym (ap (λ r. r .source) (trans-at v i l) ∙ rw (num-first TRANS-ROW row-begins v (omega arith)))
+
+  pub trigger-said : ref (getD v (row-begins + 1) (pos 0)) ≡ trans-row (chart-of v) i .trigger
+  unfolding trans-by
+  trigger-said = sym (ap (λ r. r .trigger) (trans-at v i l) ∙ rw (num-at TRANS-ROW row-begins v 1 (omega arith)))
+
+  pub guard-said : guard-by (getD v (row-begins + 2) (pos 0)) (getD v (row-begins + 3) (pos 0)) (getD v (row-begins + 4) (pos 0))
+      ≡ trans-row (chart-of v) i .guard
+  unfolding trans-by
+  guard-said = sym (ap (λ r. r .guard) (trans-at v i l) ∙ rw (
+    num-at TRANS-ROW row-begins v 2 (omega arith),
+    num-at TRANS-ROW row-begins v 3 (omega arith),
+    num-at TRANS-ROW row-begins v 4 (omega arith),
+  ))
+
+  pub target-said : target-by (getD v (row-begins + 5) (pos 0)) (getD v (row-begins + 6) (pos 0)) ≡ trans-row (chart-of v) i .target
+  unfolding trans-by
+  target-said = sym (ap (λ r. r .target) (trans-at v i l) ∙ rw (
+    num-at TRANS-ROW row-begins v 5 (omega arith),
+    num-at TRANS-ROW row-begins v 6 (omega arith),
+  ))
+
+module _ (v : List ℤ) (i : ℕ) (l : i < length (chart-of v .actions)) where
+  abbrev act-begins : ℕ
+  act-begins = ACTIONS-AT + i * ACT-ROW
+
+  pub owner-said : owner-by (getD v act-begins (pos 0)) (getD v (act-begins + 1) (pos 0)) ≡ getD (chart-of v .actions) i no-action .owner
+  unfolding action-by
+  owner-said = sym (ap (λ r. r .owner) (action-at v i l) ∙ rw (
+    num-first ACT-ROW act-begins v (omega arith),
+    num-at ACT-ROW act-begins v 1 (omega arith),
+  ))
+
+  pub act-said : act-by (getD v (act-begins + 2) (pos 0)) (getD v (act-begins + 3) (pos 0)) (getD v (act-begins + 4) (pos 0))
+      ≡ getD (chart-of v .actions) i no-action .act
+  unfolding action-by
+  act-said = sym (ap (λ r. r .act) (action-at v i l) ∙ rw (
+    num-at ACT-ROW act-begins v 2 (omega arith),
+    num-at ACT-ROW act-begins v 3 (omega arith),
+    num-at ACT-ROW act-begins v 4 (omega arith),
+  ))

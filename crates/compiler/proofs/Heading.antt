@@ -51,7 +51,8 @@ unfolding last-of from
 last-from a zero = omega arith
 last-from a (suc n) = omega (arith, last-from (suc a) n)
 
-module _ (v : List ℤ) (r : Ruled v) (t : ℕ) (l : t < length (chart-of v .transitions)) (row : TransRow) (e : row ≡ trans-row (chart-of v) t) where
+module _ (v : List ℤ) (r : Ruled v) (t : ℕ) (l : t < length (chart-of v .transitions))
+    (row : TransRow) (e : row ≡ trans-row (chart-of v) t) where
   pub row-facts : Transition-facts (chart-of v) row
   row-facts = subst (Transition-facts (chart-of v)) (sym e) (sound v r .transitions t l)
 
@@ -83,8 +84,10 @@ module _ (v : List ℤ) (r : Ruled v) (t : ℕ) (l : t < length (chart-of v .tra
     span-small = omega (arith, span-ends (chart-of v) (row .source) (row-facts .source) (row .target) x w, states-most v)
 
 -- a head, from its three parts
-pub head-put : (c : Chart) (t start len : ℕ) (row : TransRow) → row ≡ trans-row c t → (first last : ℕ) → first ≡ first-of (span c t) → last ≡ last-of (span c t)
-    → (p : Pen) {p₁ p₂ p₃ : Pen} → p₁ ≡ puts (pos t ∷ pos (row .source) ∷ pos (row .trigger) ∷ []) p → p₂ ≡ puts (guard-numbers (row .guard)) p₁
+pub head-put : (c : Chart) (t start len : ℕ) (row : TransRow)
+    → row ≡ trans-row c t → (first last : ℕ) → first ≡ first-of (span c t) → last ≡ last-of (span c t)
+    → (p : Pen) {p₁ p₂ p₃ : Pen} → p₁ ≡ puts (pos t ∷ pos (row .source) ∷ pos (row .trigger) ∷ []) p
+    → p₂ ≡ puts (guard-numbers (row .guard)) p₁
     → p₃ ≡ puts (pos first ∷ pos last ∷ pos start ∷ pos len ∷ []) p₂ → p₃ ≡ puts (head-numbers (head-of c start len t)) p
 unfolding head-numbers head-of
 head-put c t start len row e first last ef el p {p₁} {p₂} f g h =
@@ -93,8 +96,10 @@ head-put c t start len row e first last ef el p {p₁} {p₂} f g h =
     ∙ sym (puts-append (guard-numbers (row .guard)) (four first last) (puts (pos t ∷ pos (row .source) ∷ pos (row .trigger) ∷ []) p))
     ∙ sym (puts-append (pos t ∷ pos (row .source) ∷ pos (row .trigger) ∷ []) (guard-numbers (row .guard) ++ four first last) p)
     ∙ ap (λ x. puts (pos t ∷ pos (x .source) ∷ pos (x .trigger) ∷ (guard-numbers (x .guard) ++ four first last)) p) e
-    ∙ ap (λ a. puts (pos t ∷ pos (trans-row c t .source) ∷ pos (trans-row c t .trigger) ∷ (guard-numbers (trans-row c t .guard) ++ four a last)) p) ef
-    ∙ ap (λ b. puts (pos t ∷ pos (trans-row c t .source) ∷ pos (trans-row c t .trigger) ∷ (guard-numbers (trans-row c t .guard) ++ four (first-of (span c t)) b)) p) el
+    ∙ ap (λ a. puts (pos t ∷ pos (trans-row c t .source)
+    ∷ pos (trans-row c t .trigger) ∷ (guard-numbers (trans-row c t .guard) ++ four a last)) p) ef
+    ∙ ap (λ b. puts (pos t ∷ pos (trans-row c t .source)
+    ∷ pos (trans-row c t .trigger) ∷ (guard-numbers (trans-row c t .guard) ++ four (first-of (span c t)) b)) p) el
 
 pub guard-three : (g : Guard) → length (guard-numbers g) ≡ 3
 unfolding guard-numbers
@@ -104,7 +109,11 @@ guard-three (compares n s x) = refl
 pub head-ten : (h : Head) → length (head-numbers h) ≡ 10
 unfolding head-numbers
 head-ten h =
-    omega (arith, guard-three (h .guard), length-append (guard-numbers (h .guard)) (pos (h .first) ∷ pos (h .last) ∷ pos (h .start) ∷ pos (h .length) ∷ []))
+    omega (
+      arith,
+      guard-three (h .guard),
+      length-append (guard-numbers (h .guard)) (pos (h .first) ∷ pos (h .last) ∷ pos (h .start) ∷ pos (h .length) ∷ []),
+    )
 
 -- ---- numbers still to be put
 
@@ -135,24 +144,29 @@ module _ {c : Chart} {order : List ℕ} {count : ℕ} (o : In-order c order coun
   order-end : (j : ℕ) → count ≤ j → drop j (head-order c) ≡ []
   order-end j l = drop-of-length-le (head-order c) {i = j} (omega (arith, order-long))
 
-pub order-inside : (v : List ℤ) → Ruled v → {order : List ℕ} {count : ℕ} → In-order (chart-of v) order count → (j : ℕ) → j < count → getD order j 0 < length (chart-of v .transitions)
+pub order-inside : (v : List ℤ) → Ruled v → {order : List ℕ} {count : ℕ}
+    → In-order (chart-of v) order count → (j : ℕ) → j < count → getD order j 0 < length (chart-of v .transitions)
 order-inside v r {order} {count} o j l =
-    subst (λ t. t < length (chart-of v .transitions)) (sym (order-at o j l)) (each-at _ (head-order (chart-of v)) (order-each v r) j (omega (arith, order-long o)) 0)
+    subst (λ t. t < length (chart-of v .transitions))
+    (sym (order-at o j l)) (each-at _ (head-order (chart-of v)) (order-each v r) j (omega (arith, order-long o)) 0)
 
 -- ---- the heads
 
 pub record Heading (c : Chart) (start : ℕ) (l : List ℤ) (at j : ℕ) (l₁ : List ℤ) (p here : ℕ) : Type 0 where
   pub sofar : here + length (concat-map (block c) (drop j (head-order c))) ≡ start + length (concat-map (block c) (head-order c))
   pub placed : p ≡ at + 10 * j
-  pub owes : puts (concat-map head-numbers (heads-from c here (drop j (head-order c)))) (pen l₁ p) ≡ puts (concat-map head-numbers (heads-from c start (head-order c))) (pen l at)
+  pub owes : puts (concat-map head-numbers (heads-from c here (drop j (head-order c)))) (pen l₁ p)
+      ≡ puts (concat-map head-numbers (heads-from c start (head-order c))) (pen l at)
 
 pub heading-begin : (c : Chart) (start : ℕ) (l : List ℤ) (at : ℕ) → Heading c start l at 0 l at start
 heading-begin c start l at = record { sofar = refl; placed = omega arith; owes = refl }
 
-module _ {c : Chart} {order : List ℕ} {count start : ℕ} {l : List ℤ} {at j : ℕ} {l₁ : List ℤ} {p here : ℕ} (o : In-order c order count) (h : Heading c start l at j l₁ p here) where
+module _ {c : Chart} {order : List ℕ} {count start : ℕ} {l : List ℤ}
+    {at j : ℕ} {l₁ : List ℤ} {p here : ℕ} (o : In-order c order count) (h : Heading c start l at j l₁ p here) where
   pub heading-end : count ≤ j → pen l₁ p ≡ puts (concat-map head-numbers (heads-from c start (head-order c))) (pen l at)
   unfolding heads-from concat-map
-  heading-end n = sym (ap (λ ts. puts (concat-map head-numbers (heads-from c here ts)) (pen l₁ p)) (order-end o j n) ∙ puts-none (pen l₁ p)) ∙ h .owes
+  heading-end n = sym (ap (λ ts. puts (concat-map head-numbers (heads-from c here ts)) (pen l₁ p)) (order-end o j n)
+      ∙ puts-none (pen l₁ p)) ∙ h .owes
 
   module _ (n : j < count) where
     pub heading-few : here + length (block c (getD order j 0)) ≤ start + length (concat-map (block c) (head-order c))
@@ -165,13 +179,17 @@ module _ {c : Chart} {order : List ℕ} {count start : ℕ} {l : List ℤ} {at j
           length-append (block c (getD order j 0)) (concat-map (block c) (drop (j + 1) (head-order c))),
         )
 
-    pub heading-on : (k : ℕ) → k ≡ length (block c (getD order j 0)) → {l₂ : List ℤ} {q : ℕ} → pen l₂ q ≡ puts (head-numbers (head-of c here k (getD order j 0))) (pen l₁ p) → Heading c start l at (j + 1) l₂ q (here + k)
+    pub heading-on : (k : ℕ) → k ≡ length (block c (getD order j 0))
+        → {l₂ : List ℤ} {q : ℕ} → pen l₂ q ≡ puts (head-numbers (head-of c here k (getD order j 0))) (pen l₁ p)
+        → Heading c start l at (j + 1) l₂ q (here + k)
     unfolding heads-from concat-map
     heading-on k e {l₂} {q} w =
         let t = getD order j 0 in
-        let due : puts (head-numbers (head-of c here k t) ++ concat-map head-numbers (heads-from c (here + k) (drop (j + 1) (head-order c)))) (pen l₁ p)
+        let due : puts (head-numbers (head-of c here k t)
+        ++ concat-map head-numbers (heads-from c (here + k) (drop (j + 1) (head-order c)))) (pen l₁ p)
         ≡ puts (concat-map head-numbers (heads-from c start (head-order c))) (pen l at)
-        = ap (λ x. puts (head-numbers (head-of c here x t) ++ concat-map head-numbers (heads-from c (here + x) (drop (j + 1) (head-order c)))) (pen l₁ p)) e
+        = ap (λ x. puts (head-numbers (head-of c here x t)
+        ++ concat-map head-numbers (heads-from c (here + x) (drop (j + 1) (head-order c)))) (pen l₁ p)) e
         ∙ ap (λ ts. puts (concat-map head-numbers (heads-from c here ts)) (pen l₁ p)) (sym (order-drop o j n)) ∙ h .owes in
         record {
           sofar = omega (
@@ -181,7 +199,8 @@ module _ {c : Chart} {order : List ℕ} {count start : ℕ} {l : List ℤ} {at j
             length-append (block c (getD order j 0)) (concat-map (block c) (drop (j + 1) (head-order c))),
           );
           placed = omega (arith, h .placed, puts-at (head-numbers (head-of c here k t)) l₁ p w, head-ten (head-of c here k t));
-          owes = puts-on (head-numbers (head-of c here k t)) (concat-map head-numbers (heads-from c (here + k) (drop (j + 1) (head-order c)))) (pen l₁ p) due w;
+          owes = puts-on (head-numbers (head-of c here k t))
+              (concat-map head-numbers (heads-from c (here + k) (drop (j + 1) (head-order c)))) (pen l₁ p) due w;
         }
 
 -- ---- the blocks
@@ -189,18 +208,21 @@ module _ {c : Chart} {order : List ℕ} {count start : ℕ} {l : List ℤ} {at j
 pub record Blocking (c : Chart) (l : List ℤ) (at j : ℕ) (l₁ : List ℤ) (p : ℕ) : Type 0 where
   pub owes : emits (concat-map (block c) (drop j (head-order c))) (pen l₁ p) ≡ emits (concat-map (block c) (head-order c)) (pen l at)
 
-module _ {c : Chart} {order : List ℕ} {count : ℕ} {l : List ℤ} {at j : ℕ} {l₁ : List ℤ} {p : ℕ} (o : In-order c order count) (h : Blocking c l at j l₁ p) where
+module _ {c : Chart} {order : List ℕ} {count : ℕ} {l : List ℤ}
+    {at j : ℕ} {l₁ : List ℤ} {p : ℕ} (o : In-order c order count) (h : Blocking c l at j l₁ p) where
   pub blocking-end : count ≤ j → pen l₁ p ≡ emits (concat-map (block c) (head-order c)) (pen l at)
   unfolding concat-map
   blocking-end n = owes-none (pen l₁ p) (ap (λ ts. emits (concat-map (block c) ts) (pen l₁ p)) (sym (order-end o j n)) ∙ h .owes)
 
   module _ (n : j < count) where
-    blocks-due : emits (block c (getD order j 0) ++ concat-map (block c) (drop (j + 1) (head-order c))) (pen l₁ p) ≡ emits (concat-map (block c) (head-order c)) (pen l at)
+    blocks-due : emits (block c (getD order j 0) ++ concat-map (block c) (drop (j + 1) (head-order c))) (pen l₁ p)
+        ≡ emits (concat-map (block c) (head-order c)) (pen l at)
     unfolding concat-map
     blocks-due = ap (λ ts. emits (concat-map (block c) ts) (pen l₁ p)) (sym (order-drop o j n)) ∙ h .owes
 
     pub blocking-room : Room (concat-map (block c) (head-order c)) at → Room (block c (getD order j 0)) p
-    blocking-room = owes-room (block c (getD order j 0)) (concat-map (block c) (drop (j + 1) (head-order c))) (concat-map (block c) (head-order c)) l l₁ at p blocks-due
+    blocking-room = owes-room (block c (getD order j 0))
+        (concat-map (block c) (drop (j + 1) (head-order c))) (concat-map (block c) (head-order c)) l l₁ at p blocks-due
 
     pub blocking-on : {l₂ : List ℤ} {q : ℕ} → pen l₂ q ≡ emits (block c (getD order j 0)) (pen l₁ p) → Blocking c l at (j + 1) l₂ q
     blocking-on w = record { owes = owes-on _ _ (pen l₁ p) blocks-due w }
@@ -217,9 +239,11 @@ ranging-begin vars l at = record { placed = omega arith; owes = refl }
 module _ {vars : List VarRow} {l : List ℤ} {at i : ℕ} {l₁ : List ℤ} {p : ℕ} (h : Ranging vars l at i l₁ p) where
   pub ranging-end : length vars ≤ i → pen l₁ p ≡ puts (concat-map var-numbers vars) (pen l at)
   unfolding concat-map
-  ranging-end n = sym (ap (λ rs. puts (concat-map var-numbers rs) (pen l₁ p)) (drop-of-length-le vars {i = i} n) ∙ puts-none (pen l₁ p)) ∙ h .owes
+  ranging-end n = sym (ap (λ rs. puts (concat-map var-numbers rs) (pen l₁ p)) (drop-of-length-le vars {i = i} n)
+      ∙ puts-none (pen l₁ p)) ∙ h .owes
 
-  pub ranging-on : i < length vars → (row : VarRow) → row ≡ var-row vars i → {l₂ : List ℤ} {q : ℕ} → pen l₂ q ≡ puts (row .low ∷ row .high ∷ row .first ∷ []) (pen l₁ p) → Ranging vars l at (i + 1) l₂ q
+  pub ranging-on : i < length vars → (row : VarRow) → row ≡ var-row vars i → {l₂ : List ℤ} {q : ℕ}
+      → pen l₂ q ≡ puts (row .low ∷ row .high ∷ row .first ∷ []) (pen l₁ p) → Ranging vars l at (i + 1) l₂ q
   unfolding concat-map var-numbers var-row
   ranging-on n row e {l₂} {q} w =
       let here : drop i vars ≡ row ∷ drop (i + 1) vars

@@ -41,7 +41,13 @@ heads-count c at (t ∷ ts) = ap suc (heads-count c (at + length (block c t)) ts
 ten-each : (c : Chart) (at : ℕ) (ts : List ℕ) → length (concat-map head-numbers (heads-from c at ts)) ≡ 10 * length ts
 unfolding heads-from concat-map
 ten-each c at [] = refl
-ten-each c at (t ∷ ts) = omega (arith, length-append (head-numbers (head-of c at (length (block c t)) t)) (concat-map head-numbers (heads-from c (at + length (block c t)) ts)), head-ten (head-of c at (length (block c t)) t), ten-each c (at + length (block c t)) ts)
+ten-each c at (t ∷ ts) = omega (
+  arith,
+  length-append
+      (head-numbers (head-of c at (length (block c t)) t)) (concat-map head-numbers (heads-from c (at + length (block c t)) ts)),
+  head-ten (head-of c at (length (block c t)) t),
+  ten-each c (at + length (block c t)) ts,
+)
 
 three-each : (vars : List VarRow) → length (concat-map var-numbers vars) ≡ 3 * length vars
 unfolding concat-map var-numbers
@@ -80,36 +86,48 @@ module _ (c : Chart) where
         numbers-count (code-of c),
       )
 
-  pub whole-put : (start : ℕ) → start ≡ length (start-block c) → (p : Pen) {p₀ p₁ p₂ p₃ : Pen} → p₀ ≡ puts (six (plan-of c)) p → p₁ ≡ puts (concat-map var-numbers (c .vars)) p₀
+  pub whole-put : (start : ℕ) → start ≡ length (start-block c)
+      → (p : Pen) {p₀ p₁ p₂ p₃ : Pen} → p₀ ≡ puts (six (plan-of c)) p → p₁ ≡ puts (concat-map var-numbers (c .vars)) p₀
       → p₂ ≡ puts (concat-map head-numbers (heads-from c start (head-order c))) p₁ → p₃ ≡ emits (code-of c) p₂ → p₃ ≡ puts (compile c) p
   unfolding emits
   whole-put start e p {p₀} {p₁} f g h j =
-      j ∙ ap (puts code-part) (h ∙ ap (λ n. puts (concat-map head-numbers (heads-from c n (head-order c))) p₁) e ∙ ap (puts heads-part) (g ∙ ap (puts vars-part) f))
+      j ∙ ap (puts code-part) (h ∙ ap (λ n. puts (concat-map head-numbers (heads-from c n (head-order c))) p₁) e
+      ∙ ap (puts heads-part) (g ∙ ap (puts vars-part) f))
       ∙ sym (puts-append heads-part code-part (puts vars-part (puts (six (plan-of c)) p)))
       ∙ sym (puts-append vars-part (heads-part ++ code-part) (puts (six (plan-of c)) p))
       ∙ sym (puts-append (six (plan-of c)) (vars-part ++ (heads-part ++ code-part)) p) ∙ ap (λ l. puts l p) (sym parts)
 
   -- the six numbers, three and three
-  pub six-put : (states vars events heads code start : ℕ) → states ≡ length (c .states) → vars ≡ length (c .vars) → events ≡ c .events → heads ≡ length (head-order c) → code ≡ length (code-of c) → start ≡ length (start-block c)
-      → (p : Pen) {p₁ p₂ : Pen} → p₁ ≡ puts (pos states ∷ pos vars ∷ pos events ∷ []) p → p₂ ≡ puts (pos heads ∷ pos code ∷ pos start ∷ []) p₁ → p₂ ≡ puts (six (plan-of c)) p
+  pub six-put : (states vars events heads code start : ℕ) → states ≡ length (c .states) → vars ≡ length (c .vars)
+      → events ≡ c .events → heads ≡ length (head-order c) → code ≡ length (code-of c) → start ≡ length (start-block c)
+      → (p : Pen) {p₁ p₂ : Pen} → p₁ ≡ puts (pos states ∷ pos vars ∷ pos events ∷ []) p
+      → p₂ ≡ puts (pos heads ∷ pos code ∷ pos start ∷ []) p₁ → p₂ ≡ puts (six (plan-of c)) p
   unfolding six plan-of
   six-put states vars events heads code start a b d e f g p h j =
-      j ∙ ap (puts (pos heads ∷ pos code ∷ pos start ∷ [])) h ∙ sym (puts-append (pos states ∷ pos vars ∷ pos events ∷ []) (pos heads ∷ pos code ∷ pos start ∷ []) p)
+      j ∙ ap (puts (pos heads ∷ pos code ∷ pos start ∷ [])) h
+      ∙ sym (puts-append (pos states ∷ pos vars ∷ pos events ∷ []) (pos heads ∷ pos code ∷ pos start ∷ []) p)
       ∙ ap (λ x. puts (pos x ∷ pos vars ∷ pos events ∷ pos heads ∷ pos code ∷ pos start ∷ []) p) a
       ∙ ap (λ x. puts (pos (length (c .states)) ∷ pos x ∷ pos events ∷ pos heads ∷ pos code ∷ pos start ∷ []) p) b
       ∙ ap (λ x. puts (pos (length (c .states)) ∷ pos (length (c .vars)) ∷ pos x ∷ pos heads ∷ pos code ∷ pos start ∷ []) p) d
-      ∙ ap (λ x. puts (pos (length (c .states)) ∷ pos (length (c .vars)) ∷ pos (c .events) ∷ pos x ∷ pos code ∷ pos start ∷ []) p) (e ∙ sym (heads-count c (length (start-block c)) (head-order c)))
-      ∙ ap (λ x. puts (pos (length (c .states)) ∷ pos (length (c .vars)) ∷ pos (c .events) ∷ pos (length (heads-from c (length (start-block c)) (head-order c))) ∷ pos x ∷ pos start ∷ []) p) f
-      ∙ ap (λ x. puts (pos (length (c .states)) ∷ pos (length (c .vars)) ∷ pos (c .events) ∷ pos (length (heads-from c (length (start-block c)) (head-order c))) ∷ pos (length (code-of c)) ∷ pos x ∷ []) p) g
+      ∙ ap (λ x. puts (pos (length (c .states)) ∷ pos (length (c .vars)) ∷ pos (c .events) ∷ pos x ∷ pos code ∷ pos start ∷ []) p)
+      (e ∙ sym (heads-count c (length (start-block c)) (head-order c)))
+      ∙ ap (λ x. puts (pos (length (c .states)) ∷ pos (length (c .vars))
+      ∷ pos (c .events) ∷ pos (length (heads-from c (length (start-block c)) (head-order c))) ∷ pos x ∷ pos start ∷ []) p) f
+      ∙ ap (λ x. puts (pos (length (c .states)) ∷ pos (length (c .vars)) ∷ pos (c .events)
+      ∷ pos (length (heads-from c (length (start-block c)) (head-order c))) ∷ pos (length (code-of c)) ∷ pos x ∷ []) p) g
 
 pub six-at : (c : Chart) (l : List ℤ) {l₁ : List ℤ} {r : ℕ} → pen l₁ r ≡ puts (six (plan-of c)) (pen l 0) → r ≡ 6
 six-at c l e = omega (arith, puts-at (six (plan-of c)) l 0 e, six-six c)
 
-pub vars-at : (c : Chart) (l : List ℤ) (at : ℕ) {l₁ : List ℤ} {r : ℕ} → pen l₁ r ≡ puts (concat-map var-numbers (c .vars)) (pen l at) → r ≡ at + 3 * length (c .vars)
+pub vars-at : (c : Chart) (l : List ℤ) (at : ℕ) {l₁ : List ℤ} {r : ℕ}
+    → pen l₁ r ≡ puts (concat-map var-numbers (c .vars)) (pen l at) → r ≡ at + 3 * length (c .vars)
 vars-at c l at e = omega (arith, puts-at (concat-map var-numbers (c .vars)) l at e, three-each (c .vars))
 
-pub heads-at : (c : Chart) (start : ℕ) (l : List ℤ) (at : ℕ) {l₁ : List ℤ} {r : ℕ} → pen l₁ r ≡ puts (concat-map head-numbers (heads-from c start (head-order c))) (pen l at) → r ≡ at + 10 * length (head-order c)
-heads-at c start l at e = omega (arith, puts-at (concat-map head-numbers (heads-from c start (head-order c))) l at e, ten-each c start (head-order c))
+pub heads-at : (c : Chart) (start : ℕ) (l : List ℤ) (at : ℕ) {l₁ : List ℤ} {r : ℕ}
+    → pen l₁ r ≡ puts (concat-map head-numbers (heads-from c start (head-order c))) (pen l at)
+    → r ≡ at + 10 * length (head-order c)
+heads-at c start l at e =
+    omega (arith, puts-at (concat-map head-numbers (heads-from c start (head-order c))) l at e, ten-each c start (head-order c))
 
 -- ---- what the caller sees
 
@@ -119,7 +137,8 @@ module _ (v : List ℤ) (l : List ℤ) where
   passed-as r = ap (λ o. elim o [ none ↦ compiled-into (length l) (compile (chart-of v)) | some k ↦ refused 3 k ]) r
 
   -- what was put at the start, and 0 behind it
-  laid : (ns after : List ℤ) (end : ℕ) → pen after end ≡ puts ns (pen l 0) → length ns ≤ length l → take end after ++ replicate (length after - end) (pos 0) ≡ padded (length l) (pos 0) ns
+  laid : (ns after : List ℤ) (end : ℕ) → pen after end ≡ puts ns (pen l 0)
+      → length ns ≤ length l → take end after ++ replicate (length after - end) (pos 0) ≡ padded (length l) (pos 0) ns
   unfolding puts padded
   laid ns after end e n =
       let a : after ≡ sets l 0 ns = ap (λ p. p .buf) e in
@@ -135,8 +154,10 @@ module _ (v : List ℤ) (l : List ℤ) where
   unfolding puts
   whole-fits ns after end e n = omega (arith, ap (λ p. p .at) e, ap (λ p. length (p .buf)) e, length-sets l 0 ns)
 
-  pub compiles-whole : Ruled v → length (compile (chart-of v)) ≤ length l → (after last : List ℤ) (end : ℕ) → pen after end ≡ puts (compile (chart-of v)) (pen l 0)
-      → last ≡ take end after ++ replicate (length after - end) (pos 0) → Compiles v l (record { answer = record { number = 0; place = 0 }; length = end }) last
+  pub compiles-whole : Ruled v → length (compile (chart-of v)) ≤ length l
+      → (after last : List ℤ) (end : ℕ) → pen after end ≡ puts (compile (chart-of v)) (pen l 0)
+      → last ≡ take end after ++ replicate (length after - end) (pos 0)
+      → Compiles v l (record { answer = record { number = 0; place = 0 }; length = end }) last
   unfolding compiled plan-lent compiled-into
   compiles-whole r n after last end e f =
       let z : end ≡ length (compile (chart-of v)) = puts-at (compile (chart-of v)) l 0 e ∙ (omega arith) in
@@ -153,7 +174,8 @@ module _ (v : List ℤ) (l : List ℤ) where
   unfolding plan-lent
   nothing n p = refl
 
-  pub compiles-over : Ruled v → length l < length (compile (chart-of v)) → (last : List ℤ) → last ≡ take 0 l ++ replicate (length l - 0) (pos 0)
+  pub compiles-over : Ruled v → length l < length (compile (chart-of v))
+      → (last : List ℤ) → last ≡ take 0 l ++ replicate (length l - 0) (pos 0)
       → Compiles v l (record { answer = record { number = 4; place = 0 }; length = 0 }) last
   unfolding compiled compiled-into
   compiles-over r n last f =

@@ -54,8 +54,10 @@ fn put_head(
     plan: &mut [i32],
     at: usize,
 ) -> usize
-    requires { ⌜ Ruled (now chart) × (t < count-of (chart-of (now chart) .transitions)) × (start < NOWHERE) × (length < NOWHERE) × (at + 10 < NOWHERE) ⌝ }
-    ensures { λ r. ⌜ pen (now (plan .exit)) r ≡ puts (head-numbers (head-of (chart-of (now (chart .entry))) start length t)) (pen (now (plan .entry)) at) ⌝ }
+    requires { ⌜ Ruled (now chart) × (t < count-of (chart-of (now chart) .transitions))
+        × (start < NOWHERE) × (length < NOWHERE) × (at + 10 < NOWHERE) ⌝ }
+    ensures { λ r. ⌜ pen (now (plan .exit)) r
+        ≡ puts (head-numbers (head-of (chart-of (now (chart .entry))) start length t)) (pen (now (plan .entry)) at) ⌝ }
 {
     let row = trans_row(chart, t);
     let target = row.target;
@@ -84,8 +86,10 @@ pub fn put_heads(
     plan: &mut [i32],
     at: usize,
 ) -> usize
-    requires { ⌜ Ready (now chart) (now index) × In-order (chart-of (now chart)) (now order) count × (start ≡ count-of (start-block (chart-of (now chart)))) × (at + 10 * count < NOWHERE) ⌝ }
-    ensures { λ r. ⌜ pen (now (plan .exit)) r ≡ puts (concat-map head-numbers (heads-from (chart-of (now (chart .entry))) start (head-order (chart-of (now (chart .entry)))))) (pen (now (plan .entry)) at) ⌝ }
+    requires { ⌜ Ready (now chart) (now index) × In-order (chart-of (now chart)) (now order) count
+        × (start ≡ count-of (start-block (chart-of (now chart)))) × (at + 10 * count < NOWHERE) ⌝ }
+    ensures { λ r. ⌜ pen (now (plan .exit)) r ≡ puts (concat-map head-numbers (heads-from (chart-of (now (chart .entry)))
+        start (head-order (chart-of (now (chart .entry)))))) (pen (now (plan .entry)) at) ⌝ }
 {
     let mut p = at;
     let mut from = start;

@@ -44,8 +44,10 @@ fn put_blocks(
     plan: &mut [i32],
     at: usize,
 ) -> usize
-    requires { ⌜ Ready (now chart) (now index) × In-order (chart-of (now chart)) (now order) count × Room (concat-map (block (chart-of (now chart))) (head-order (chart-of (now chart)))) at ⌝ }
-    ensures { λ r. ⌜ pen (now (plan .exit)) r ≡ emits (concat-map (block (chart-of (now (chart .entry)))) (head-order (chart-of (now (chart .entry))))) (pen (now (plan .entry)) at) ⌝ }
+    requires { ⌜ Ready (now chart) (now index) × In-order (chart-of (now chart)) (now order) count
+        × Room (concat-map (block (chart-of (now chart))) (head-order (chart-of (now chart)))) at ⌝ }
+    ensures { λ r. ⌜ pen (now (plan .exit)) r ≡ emits (concat-map (block (chart-of (now (chart .entry))))
+        (head-order (chart-of (now (chart .entry))))) (pen (now (plan .entry)) at) ⌝ }
 {
     let mut p = at;
     for j in 0..count {
@@ -64,7 +66,8 @@ fn put_code(
     plan: &mut [i32],
     at: usize,
 ) -> usize
-    requires { ⌜ Ready (now chart) (now index) × In-order (chart-of (now chart)) (now order) count × Room (code-of (chart-of (now chart))) at ⌝ }
+    requires { ⌜ Ready (now chart) (now index)
+        × In-order (chart-of (now chart)) (now order) count × Room (code-of (chart-of (now chart))) at ⌝ }
     ensures { λ r. ⌜ pen (now (plan .exit)) r ≡ emits (code-of (chart-of (now (chart .entry)))) (pen (now (plan .entry)) at) ⌝ }
 {
     let p = put_start(chart, index, plan, at);
@@ -99,7 +102,8 @@ fn code_length(
 // "low, high, first for each variable"
 fn put_vars(chart: &[i32], plan: &mut [i32], at: usize) -> usize
     requires { ⌜ at + 3 * VARIABLES < NOWHERE ⌝ }
-    ensures { λ r. ⌜ pen (now (plan .exit)) r ≡ puts (concat-map var-numbers (chart-of (now (chart .entry)) .vars)) (pen (now (plan .entry)) at) ⌝ }
+    ensures { λ r. ⌜ pen (now (plan .exit)) r
+        ≡ puts (concat-map var-numbers (chart-of (now (chart .entry)) .vars)) (pen (now (plan .entry)) at) ⌝ }
 {
     let n = var_count(chart);
     let mut p = at;
@@ -112,7 +116,8 @@ fn put_vars(chart: &[i32], plan: &mut [i32], at: usize) -> usize
 
 // "Six: states, variables, events, heads, instructions, start block length"
 fn put_six(chart: &[i32], heads: usize, code: usize, start: usize, plan: &mut [i32]) -> usize
-    requires { ⌜ Ruled (now chart) × (heads ≡ count-of (head-order (chart-of (now chart)))) × (code ≡ count-of (code-of (chart-of (now chart)))) × (start ≡ count-of (start-block (chart-of (now chart)))) ⌝ }
+    requires { ⌜ Ruled (now chart) × (heads ≡ count-of (head-order (chart-of (now chart))))
+        × (code ≡ count-of (code-of (chart-of (now chart)))) × (start ≡ count-of (start-block (chart-of (now chart)))) ⌝ }
     ensures { λ r. ⌜ pen (now (plan .exit)) r ≡ puts (six (plan-of (chart-of (now (chart .entry))))) (pen (now (plan .entry)) 0) ⌝ }
 {
     let states = state_count(chart);

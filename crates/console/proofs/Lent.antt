@@ -33,7 +33,8 @@ report-whole n t =
     rw (e, lines-whole t)
 
 -- l is what was lent: the trace, and 0 past it
-pub report-lent : (number n : ℕ) (t l : List ℤ) → l ≡ padded n (pos 0) t → length l ≡ n → report number (shown (length t / ENTRY) l) ≡ report number t
+pub report-lent : (number n : ℕ) (t l : List ℤ)
+    → l ≡ padded n (pos 0) t → length l ≡ n → report number (shown (length t / ENTRY) l) ≡ report number t
 unfolding shown padded
 report-lent number n t l e k =
     let long : length t ≤ n = omega (arith, simp length-append at (ap length e)) in

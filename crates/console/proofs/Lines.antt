@@ -51,7 +51,8 @@ plain-on v (b ∷ bs) = digit-on b (grown v b) bs (Plain (grown v b)) (λ o. wit
 minus-on : (v : ℕ) (bs : List ℕ) → read (Negative v) bs ≡ minus (capped (value v bs))
 unfolding part-on part-fed part-number value capped
 minus-on v [] = refl
-minus-on v (b ∷ bs) = digit-on b (grown v b) bs (Negative (grown v b)) (λ o. minus (capped o)) refl (minus-on (grown v b) bs) (ltb b 48) (ltb 57 b)
+minus-on v (b ∷ bs) =
+    digit-on b (grown v b) bs (Negative (grown v b)) (λ o. minus (capped o)) refl (minus-on (grown v b) bs) (ltb b 48) (ltb 57 b)
 
 -- "no leading zero": 0 alone
 zero-on : (bs : List ℕ) → read Zero bs ≡ with-no-sign (capped (alone bs))
@@ -133,7 +134,8 @@ event-on p (b ∷ bs) = go (eqb b TAB) (split TAB bs) (argument-on p Start bs) (
     go : (t : Bool) (q : Parts)
         → line-at (scan-on (Argument p Start) bs) ≡ unless-more (q .rest) (input-by (part-number p) (read Start (q .first)))
         → line-at (scan-on (Event (part-fed p b)) bs) ≡ with-fields (part-on (part-fed p b) (q .first)) (q .rest)
-        → line-at (scan-on (cond t (Argument p Start) (Event (part-fed p b))) bs) ≡ with-fields (part-on p (cut t b q .first)) (cut t b q .rest)
+        → line-at (scan-on (cond t (Argument p Start) (Event (part-fed p b))) bs)
+        ≡ with-fields (part-on p (cut t b q .first)) (cut t b q .rest)
     go true q arg ih = arg ∙ from-tab p (q .first) (q .rest)
     go false q arg ih = ih
 

@@ -74,7 +74,8 @@ module _ (s : List ℤ) (n k : ℕ) where
     entries-more p q x y z e hx hy hz =
         ap (put-all (from-entry s n (k + 1))) (e ∙ rw (hx, hy, hz))
         ∙ sym (all-append (entry-line (getD s (ENTRY * k) (pos 0)) (nth 1) (nth 2)) (from-entry s n (k + 1)) p)
-        ∙ sym (ap (λ l. put-all l p) (ap entry-lines entry-cut ∙ lines-cons (getD s (ENTRY * k) (pos 0)) (nth 1) (nth 2) (slice (ENTRY * (k + 1)) (ENTRY * n) s)))
+        ∙ sym (ap (λ l. put-all l p) (ap entry-lines entry-cut
+        ∙ lines-cons (getD s (ENTRY * k) (pos 0)) (nth 1) (nth 2) (slice (ENTRY * (k + 1)) (ENTRY * n) s)))
 
 -- ---- the entries that are shown: of a trace that is long enough, all of them
 module _ (entries : ℕ) (trace : List ℤ) where

@@ -35,7 +35,8 @@ head-room : (number n : ℕ) → number < 2 ^ 64 → n < 2 ^ 64 → length (head
 head-room number n f g = simp length-append (omega (arith, digits-length 19 number (omega arith), digits-length 19 n (omega arith)))
 
 module _ (trace : List ℤ) (entries number n : ℕ) (l k : List ℕ) (at to r : ℕ) (a b c d e : Pen) where
-  pub report-place : n ≡ held entries trace → a ≡ put-byte 82 (pen l at) → b ≡ put-byte SPACE a → c ≡ put-all (digits number) b → d ≡ put-byte SPACE c
+  pub report-place : n ≡ held entries trace
+      → a ≡ put-byte 82 (pen l at) → b ≡ put-byte SPACE a → c ≡ put-all (digits number) b → d ≡ put-byte SPACE c
       → e ≡ put-all (digits n) d → pen k to ≡ put-byte LF e → (to + LINE * n ≤ length k → r ≤ to + LINE * n)
       → number < 2 ^ 64 → n < 2 ^ 64 → at + largest trace ≤ length l → r ≤ at + largest trace
   report-place hn ha hb hc hd he hk hr f g room =

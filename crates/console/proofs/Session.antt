@@ -69,7 +69,8 @@ module _ (f : Turns) where
   line-first u pre q rest e = rw (scan-line pre, e (f u (input-of (fields pre)) .state))
 
   -- the input from here, behind these bytes of a line
-  pub printed-from : (u : State) (pre bs : List ℕ) → all-printed f (after u pre) bs ≡ turns-by f u (input-lines (all (onto pre (split LF bs))))
+  pub printed-from : (u : State) (pre bs : List ℕ)
+      → all-printed f (after u pre) bs ≡ turns-by f u (input-lines (all (onto pre (split LF bs))))
   unfolding all-printed passed split
   printed-from u pre [] = at-end u pre ∙ rw append-nil
   printed-from u pre (b ∷ bs) =
@@ -81,7 +82,8 @@ module _ (f : Turns) where
           → by-end f (after u pre) b t .printed ++ all-printed f (by-end f (after u pre) b t .under) bs
           ≡ turns-by f u (input-lines (all (onto pre (cut t b q))))
       go true q next on =
-          rw append-nil (line-first u pre q (λ w. all-printed f (fresh w) bs) (λ w. ap (λ s. all-printed f s bs) (sym (none-fed w)) ∙ next w))
+          rw append-nil
+          (line-first u pre q (λ w. all-printed f (fresh w) bs) (λ w. ap (λ s. all-printed f s bs) (sym (none-fed w)) ∙ next w))
       go false q next on = ap (λ s. all-printed f (record { state = u; scan = s }) bs) (sym (snoc-of pre b)) ∙ on ∙ rw append-assoc
 
 -- ---- the input in parts
@@ -113,7 +115,8 @@ module _ (f : Turns) where
   printed-none u = refl
 
   -- all of it, and then the end of the input
-  pub all-by-parts : (u : Under) (bs : List ℕ) → all-printed f u bs ≡ passed-all f u bs .printed ++ finished f (passed-all f u bs .under) .printed
+  pub all-by-parts : (u : Under) (bs : List ℕ)
+      → all-printed f u bs ≡ passed-all f u bs .printed ++ finished f (passed-all f u bs .under) .printed
   unfolding all-printed passed-all
   all-by-parts u [] = refl
   all-by-parts u (b ∷ bs) = rw (all-by-parts (passed f u b .under) bs, append-assoc)

@@ -8,7 +8,6 @@ pub use fields::LF;
 pub use pen::put;
 pub use pen::put_digits;
 pub use pen::put_numeral;
-pub use printed::ENTRY;
 pub use printed::HEAD;
 pub use printed::LINE;
 pub use printed::report;

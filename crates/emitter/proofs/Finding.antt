@@ -35,7 +35,8 @@ act-small (take-to v) n = omega arith
 act-small (send e x) n = omega arith
 act-small (tell x) n = tt
 
-pub row-small : (v : List ℤ) → Ruled v → (i : ℕ) → i < length (chart-of v .actions) → (row : ActRow) → row ≡ getD (chart-of v .actions) i no-action → Small-act (row .act)
+pub row-small : (v : List ℤ) → Ruled v → (i : ℕ)
+    → i < length (chart-of v .actions) → (row : ActRow) → row ≡ getD (chart-of v .actions) i no-action → Small-act (row .act)
 row-small v r i h row e = act-small (row .act) (row-named v r i h row e)
 
 -- an owner has at most as many actions as there are
@@ -51,7 +52,8 @@ acts-few o (r ∷ rs) = go (same-owner o (r .owner)) (acts-few o rs)
 pub code-few : (v : List ℤ) (o : Owner) → length (code-acts (chart-of v) o) ≤ ACTIONS
 unfolding code-acts acts-of
 code-few v o =
-    let n : length (map does (acts-in (chart-of v .actions) o)) ≡ length (acts-in (chart-of v .actions) o) = length-map (acts-in (chart-of v .actions) o) does in
+    let n : length (map does (acts-in (chart-of v .actions) o)) ≡ length (acts-in (chart-of v .actions) o) =
+    length-map (acts-in (chart-of v .actions) o) does in
     omega (arith, acts-few o (chart-of v .actions), actions-most v)
 
 -- ---- going from row to row
@@ -68,12 +70,14 @@ listing-begin c o l at i e = record {
   owes = ap (λ xs. emits (map does xs) (pen l at)) (ap (λ k. acts-in (drop k (c .actions)) o) e ∙ acts-onward o c 0);
 }
 
-pub listing-end : (c : Chart) (o : Owner) (l : List ℤ) (at i : ℕ) (l₁ : List ℤ) (p : ℕ) → length (c .actions) ≤ i → Listing c o l at i l₁ p → pen l₁ p ≡ emits (code-acts c o) (pen l at)
+pub listing-end : (c : Chart) (o : Owner) (l : List ℤ) (at i : ℕ) (l₁ : List ℤ) (p : ℕ)
+    → length (c .actions) ≤ i → Listing c o l at i l₁ p → pen l₁ p ≡ emits (code-acts c o) (pen l at)
 unfolding acts-in
 listing-end c o l at i l₁ p n h =
     sym (ap (λ rows. emits (map does (acts-in rows o)) (pen l₁ p)) (drop-of-length-le (c .actions) n) ∙ emits-none (pen l₁ p)) ∙ h .owes
 
-module _ (c : Chart) (o : Owner) (l : List ℤ) (at i : ℕ) (l₁ : List ℤ) (p : ℕ) (h : Listing c o l at i l₁ p) (n : i < length (c .actions)) (row : ActRow) (e : row ≡ getD (c .actions) i no-action) where
+module _ (c : Chart) (o : Owner) (l : List ℤ) (at i : ℕ) (l₁ : List ℤ) (p : ℕ) (h : Listing c o l at i l₁ p)
+    (n : i < length (c .actions)) (row : ActRow) (e : row ≡ getD (c .actions) i no-action) where
   here : drop i (c .actions) ≡ row ∷ drop (suc i) (c .actions)
   here = drop-cons (c .actions) i no-action n ∙ ap (λ r. r ∷ drop (suc i) (c .actions)) (sym e)
 
@@ -81,15 +85,21 @@ module _ (c : Chart) (o : Owner) (l : List ℤ) (at i : ℕ) (l₁ : List ℤ) (
   its = first-own o row (drop (suc i) (c .actions)) (ap (before-first o) (sym here) ∙ h .own)
 
   due : emits (does (row .act) ∷ map does (acts-in (drop (suc i) (c .actions)) o)) (pen l₁ p) ≡ emits (code-acts c o) (pen l at)
-  due = sym (ap (λ xs. emits (map does xs) (pen l₁ p)) (ap (λ rows. acts-in rows o) here ∙ acts-here o row (drop (suc i) (c .actions)) its)) ∙ h .owes
+  due = sym (ap (λ xs. emits (map does xs) (pen l₁ p))
+      (ap (λ rows. acts-in rows o) here ∙ acts-here o row (drop (suc i) (c .actions)) its)) ∙ h .owes
 
   -- there is room for the row's instruction
   pub listing-room : Room (code-acts c o) at → p + 4 < NOWHERE
   listing-room r =
       let q = ap (λ x. x .at) due in
-      omega (arith, emits-count (does (row .act) ∷ map does (acts-in (drop (suc i) (c .actions)) o)) (pen l₁ p), emits-count (code-acts c o) (pen l at))
+      omega (
+        arith,
+        emits-count (does (row .act) ∷ map does (acts-in (drop (suc i) (c .actions)) o)) (pen l₁ p),
+        emits-count (code-acts c o) (pen l at),
+      )
 
-  pub listing-on : (l₂ : List ℤ) (p₂ i₂ : ℕ) → pen l₂ p₂ ≡ emits (does (row .act) ∷ []) (pen l₁ p) → i₂ ≡ row-from c (getD (c .actions) i no-action .owner) (suc i) → Listing c o l at i₂ l₂ p₂
+  pub listing-on : (l₂ : List ℤ) (p₂ i₂ : ℕ) → pen l₂ p₂ ≡ emits (does (row .act) ∷ []) (pen l₁ p)
+      → i₂ ≡ row-from c (getD (c .actions) i no-action .owner) (suc i) → Listing c o l at i₂ l₂ p₂
   listing-on l₂ p₂ i₂ w f =
       let same : getD (c .actions) i no-action .owner ≡ o = ap (λ r. r .owner) (sym e) ∙ sym (owner-one o (row .owner) its) in
       let to : i₂ ≡ row-from c o (suc i) = f ∙ ap (λ x. row-from c x (suc i)) same in

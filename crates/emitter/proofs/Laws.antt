@@ -30,7 +30,8 @@ pub puts-append : (xs ys : List ℤ) (p : Pen) → puts (xs ++ ys) p ≡ puts ys
 unfolding puts
 puts-append xs ys p =
     let e : p .at + length (xs ++ ys) ≡ (p .at + length xs) + length ys = omega (arith, length-append xs ys) in
-    ap (λ b. pen b (p .at + length (xs ++ ys))) (sets-append (p .buf) (p .at) xs ys) ∙ ap (pen (sets (sets (p .buf) (p .at) xs) (p .at + length xs) ys)) e
+    ap (λ b. pen b (p .at + length (xs ++ ys))) (sets-append (p .buf) (p .at) xs ys)
+    ∙ ap (pen (sets (sets (p .buf) (p .at) xs) (p .at + length xs) ys)) e
 
 pub puts-none : (p : Pen) → puts [] p ≡ p
 unfolding puts
@@ -46,14 +47,17 @@ unfolding puts
 three l at a b c {l₁} {l₂} {l₃} e f g =
     let p : at + 1 ≡ suc at = omega arith in
     let q : at + 2 ≡ suc (suc at) = omega arith in
-    ap (λ x. pen x (at + 3)) (g ∙ ap (λ k. set l₂ k c) q ∙ ap (λ x. set x (suc (suc at)) c) (f ∙ ap (λ k. set l₁ k b) p ∙ ap (λ x. set x (suc at) b) e))
+    ap (λ x. pen x (at + 3)) (g ∙ ap (λ k. set l₂ k c) q
+    ∙ ap (λ x. set x (suc (suc at)) c) (f ∙ ap (λ k. set l₁ k b) p ∙ ap (λ x. set x (suc at) b) e))
 
-pub four : (l : List ℤ) (at : ℕ) (a b c d : ℤ) {l₁ l₂ l₃ l₄ : List ℤ} → l₁ ≡ set l at a → l₂ ≡ set l₁ (at + 1) b → l₃ ≡ set l₂ (at + 2) c → l₄ ≡ set l₃ (at + 3) d
+pub four : (l : List ℤ) (at : ℕ) (a b c d : ℤ) {l₁ l₂ l₃ l₄ : List ℤ}
+    → l₁ ≡ set l at a → l₂ ≡ set l₁ (at + 1) b → l₃ ≡ set l₂ (at + 2) c → l₄ ≡ set l₃ (at + 3) d
     → pen l₄ (at + 4) ≡ puts (a ∷ b ∷ c ∷ d ∷ []) (pen l at)
 unfolding puts
 four l at a b c d {l₁} {l₂} {l₃} {l₄} e f g h =
     let r : at + 3 ≡ suc (suc (suc at)) = omega arith in
-    ap (λ x. pen x (at + 4)) (h ∙ ap (λ k. set l₃ k d) r ∙ ap (λ x. set x (suc (suc (suc at))) d) (ap (λ x. x .buf) (three l at a b c e f g)))
+    ap (λ x. pen x (at + 4)) (h ∙ ap (λ k. set l₃ k d) r
+    ∙ ap (λ x. set x (suc (suc (suc at))) d) (ap (λ x. x .buf) (three l at a b c e f g)))
 
 -- ---- instructions
 
@@ -92,7 +96,8 @@ emits-none p = puts-none p
 
 pub emits-append : (xs ys : List Instr) (p : Pen) → emits (xs ++ ys) p ≡ emits ys (emits xs p)
 unfolding emits
-emits-append xs ys p = ap (λ l. puts l p) (concat-map-append instr-numbers xs ys) ∙ puts-append (concat-map instr-numbers xs) (concat-map instr-numbers ys) p
+emits-append xs ys p = ap (λ l. puts l p) (concat-map-append instr-numbers xs ys)
+    ∙ puts-append (concat-map instr-numbers xs) (concat-map instr-numbers ys) p
 
 pub emits-cons : (x : Instr) (xs : List Instr) (p : Pen) → emits (x ∷ xs) p ≡ emits xs (emits (x ∷ []) p)
 emits-cons x xs p = emits-append (x ∷ []) xs p
@@ -126,7 +131,8 @@ pub owes-none : (p : Pen) {t : Pen} → emits [] p ≡ t → p ≡ t
 owes-none p o = sym (emits-none p) ∙ o
 
 -- where there is room for all there is room for the part that comes next
-pub owes-room : (xs ys zs : List Instr) (l l₁ : List ℤ) (at p : ℕ) → emits (xs ++ ys) (pen l₁ p) ≡ emits zs (pen l at) → Room zs at → Room xs p
+pub owes-room : (xs ys zs : List Instr) (l l₁ : List ℤ) (at p : ℕ)
+    → emits (xs ++ ys) (pen l₁ p) ≡ emits zs (pen l at) → Room zs at → Room xs p
 owes-room xs ys zs l l₁ at p o r =
     let e = ap (λ q. q .at) o in
     omega (arith, emits-count (xs ++ ys) (pen l₁ p), emits-count zs (pen l at), length-append xs ys)

@@ -6,6 +6,7 @@ use meaning::State;
 use queue::lent::QUEUE_NUMBERS;
 use queue::lent::held;
 use queue_calls::answers::refused;
+use sizes::ENTRY;
 use sizes::STATES;
 use sizes::VARIABLES;
 use widget::Went;
@@ -16,12 +17,10 @@ ghost use lib.ListN.{length};
 ghost use Rattle.meaning.specs.Calls.{called, lent, outcome, refused as refusal};
 ghost use Rattle.widget.specs.View.{all-lent, went as gone};
 
-// How many numbers an entry has.
-const ENTRY: usize = 3;
-
 // "Any other leaves the state as it was and zeroes the lent output, its count."
 pub fn refuse(number: usize, place: usize, state: State, trace: &mut [i32]) -> Called
-    ensures { λ r. ⌜ (r ≡ called (refusal number place state)) × (now (trace .exit) ≡ lent (length (now (trace .entry))) (refusal number place state)) ⌝ }
+    ensures { λ r. ⌜ (r ≡ called (refusal number place state))
+        × (now (trace .exit) ≡ lent (length (now (trace .entry))) (refusal number place state)) ⌝ }
 {
     clear_from(trace, 0);
     refused(number, place, state)
@@ -38,7 +37,9 @@ pub fn finish(
     trace: &mut [i32],
 ) -> Called
     requires { ⌜ went .at ≤ length (now trace) ⌝ }
-    ensures { λ r. ⌜ (r ≡ called (outcome state (gone went (all-lent active slots vars queue (now (trace .entry)))))) × (now (trace .exit) ≡ lent (length (now (trace .entry))) (outcome state (gone went (all-lent active slots vars queue (now (trace .entry)))))) ⌝ }
+    ensures { λ r. ⌜ (r ≡ called (outcome state (gone went (all-lent active slots vars queue (now (trace .entry))))))
+        × (now (trace .exit) ≡ lent (length (now (trace .entry)))
+        (outcome state (gone went (all-lent active slots vars queue (now (trace .entry)))))) ⌝ }
 {
     if went.number != 0 {
         return refuse(went.number, 0, state, trace);

@@ -1,7 +1,8 @@
-// The engine's door (01): every function that a host or a program calls, each with its promise by name (crate promises), and nothing else. A
-// chart is a value in lent numbers, and no function at the root asks anything of what it is lent. A caller that has checked a chart once finds
-// in checked the same calls without the check. Plans are made and examined in plans, and run in planned; examined is for a plan that was
-// examined once. What is handed on here stands in chart_engine and plan_engine, each with its proofs and edits.
+// The engine's door (01): every function that a host or a program calls, each with its promise by name (crate promises), and
+// nothing else. A chart is a value in lent numbers, and no function at the root asks anything of what it is lent. A caller that
+// has checked a chart once finds in checked the same calls without the check. Plans are made and examined in plans, and run in
+// planned; examined is for a plan that was examined once. What is handed on here stands in chart_engine and plan_engine, each
+// with its proofs and edits.
 pub use chart_engine::check;
 pub use chart_engine::checked;
 pub use chart_engine::discard;

@@ -16,7 +16,8 @@ use Rattle.laws.proofs.Lists.{same-or}
 use Rattle.laws.specs.Facts.{Each, none-left, one-more}
 use Rattle.laws.proofs.Sound.{Sound-chart, sound-chart}
 use Rattle.laws.proofs.Value.{Sized-chart, sized-chart, value-passes}
-use Rattle.meaning.specs.Calls.{Outcome, discard, discard-of, outcome, post, post-of, react, refused, run, run-of, start, start-of, take-front, tests}
+use Rattle.meaning.specs.Calls.{Outcome, discard, discard-of, outcome, post, post-of, react, refused, run, run-of, start}
+use Rattle.meaning.specs.Calls.{start-of, take-front, tests}
 use Rattle.meaning.specs.Chart.{Chart}
 use Rattle.meaning.specs.Effects.{enqueue}
 use Rattle.meaning.specs.Foreign.{event-fits, own}
@@ -58,7 +59,8 @@ unstarted-7 c u F k e = ap (λ b. outcome u (bind (bind (require 7 b k) (require
 
 module _ (c : Chart) (r : Sound-chart c) (z : Sized-chart c) where
   unstarted-lives : (u : State) (F : Step Ctx) (k : Ctx) → u .started ≡ false → Lives c (outcome u ((tests c u then F) k))
-  unstarted-lives u F k e = subst (Lives c) (sym (unstarted-7 c u F k e)) (refused-lives c 7 0 u (λ x. omega arith) (λ x. omega arith) (inl e))
+  unstarted-lives u F k e =
+      subst (Lives c) (sym (unstarted-7 c u F k e)) (refused-lives c 7 0 u (λ x. omega arith) (λ x. omega arith) (inl e))
 
   pub make-lives : (x : Call) (u : State) → Lived c u → Lives c (make c x u)
   unfolding make run post discard
@@ -97,20 +99,26 @@ module _ (v : List ℤ) where
   pub value-sized : failing-rule-of v ≡ none → Sized-chart (chart-of v)
   value-sized e = sized-chart v (value-passes v e .0)
 
-  by-rule : (f : State → Outcome) (u : State) → (failing-rule-of v ≡ none → Lives (chart-of v) (f u)) → Lived (chart-of v) u → (x : Option ℕ) → failing-rule-of v ≡ x
+  by-rule : (f : State → Outcome) (u : State)
+      → (failing-rule-of v ≡ none → Lives (chart-of v) (f u)) → Lived (chart-of v) u → (x : Option ℕ) → failing-rule-of v ≡ x
       → Lives (chart-of v) (elim x [ none ↦ f u | some n ↦ refused 3 n u ])
   by-rule f u h l none e = h e
   by-rule f u h l (some n) e = refused-lives (chart-of v) 3 n u (λ q. omega arith) (λ q. omega arith) l
 
   pub make-of-lives : (x : Call) (u : State) → Lived (chart-of v) u → Lives (chart-of v) (make-of v x u)
   unfolding make-of make start-of run-of post-of discard-of
-  make-of-lives (to-start n) u l = by-rule (λ w. start (chart-of v) w n) u (λ e. make-lives (chart-of v) (value-sound e) (value-sized e) (to-start n) u l) l (failing-rule-of v) refl
-  make-of-lives (to-run n) u l = by-rule (λ w. run (chart-of v) w n) u (λ e. make-lives (chart-of v) (value-sound e) (value-sized e) (to-run n) u l) l (failing-rule-of v) refl
-  make-of-lives (to-post i a) u l = by-rule (λ w. post (chart-of v) w i a) u (λ e. make-lives (chart-of v) (value-sound e) (value-sized e) (to-post i a) u l) l (failing-rule-of v) refl
-  make-of-lives to-discard u l = by-rule (λ w. discard (chart-of v) w) u (λ e. make-lives (chart-of v) (value-sound e) (value-sized e) to-discard u l) l (failing-rule-of v) refl
+  make-of-lives (to-start n) u l = by-rule (λ w. start (chart-of v) w n) u
+      (λ e. make-lives (chart-of v) (value-sound e) (value-sized e) (to-start n) u l) l (failing-rule-of v) refl
+  make-of-lives (to-run n) u l = by-rule (λ w. run (chart-of v) w n) u
+      (λ e. make-lives (chart-of v) (value-sound e) (value-sized e) (to-run n) u l) l (failing-rule-of v) refl
+  make-of-lives (to-post i a) u l = by-rule (λ w. post (chart-of v) w i a) u
+      (λ e. make-lives (chart-of v) (value-sound e) (value-sized e) (to-post i a) u l) l (failing-rule-of v) refl
+  make-of-lives to-discard u l = by-rule (λ w. discard (chart-of v) w) u
+      (λ e. make-lives (chart-of v) (value-sound e) (value-sized e) to-discard u l) l (failing-rule-of v) refl
 
   -- over every value, also one that states no chart: from a widget not yet started 6 and 14 are never given
-  pub value-never-6-or-14 : (xs : List Call) (u : State) → u .started ≡ false → Each (λ n. (n ≡ 6 → ⊥) × (n ≡ 14 → ⊥)) (answers (make-of v) xs u)
+  pub value-never-6-or-14 : (xs : List Call) (u : State)
+      → u .started ≡ false → Each (λ n. (n ≡ 6 → ⊥) × (n ≡ 14 → ⊥)) (answers (make-of v) xs u)
   value-never-6-or-14 xs u l = answers-fine (chart-of v) (make-of v) make-of-lives xs u (inl l)
 
   -- and the state then stays one that only calls have written

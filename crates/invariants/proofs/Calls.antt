@@ -52,15 +52,18 @@ own-queue c u h =
     let s = slots-fit c u && queue-fits (c .events) (u .queue) in
     let v = values-fit (c .vars) (u .vars) && s in
     let m = marks-fit (length (c .states)) u && v in
-    and-right (slots-fit c u) (queue-fits (c .events) (u .queue)) (and-right (values-fit (c .vars) (u .vars)) s (and-right (marks-fit (length (c .states)) u) v (and-right (legal c u) m (h .is-own))))
+    and-right (slots-fit c u) (queue-fits (c .events) (u .queue)) (and-right (values-fit (c .vars) (u .vars)) s
+    (and-right (marks-fit (length (c .states)) u) v (and-right (legal c u) m (h .is-own))))
 
 -- an event that fits is appended, or 9
-post-stands : (c : Chart) → Sound-chart c → Sized-chart c → (u : State) → Own-state c u → (e a : ℤ) (b : Bool) → event-fits (c .events) e a ≡ b
+post-stands : (c : Chart) → Sound-chart c
+    → Sized-chart c → (u : State) → Own-state c u → (e a : ℤ) (b : Bool) → event-fits (c .events) e a ≡ b
     → Gives ((require 10 b then enqueue e a) (begin u 0)) (Whole c)
 unfolding _then_ require bind
 post-stands c r z u h e a true f =
     let w = own-whole c r z u 0 h in
-    gives-holds (λ j. Standing c (j .state)) (Good c) (enqueue e a (begin u 0)) (enqueue-keeps (Standing c) (standing-outside c) e a (begin u 0) (w .0)) (enqueue-good c r z e a f (begin u 0) (w .1))
+    gives-holds (λ j. Standing c (j .state)) (Good c) (enqueue e a (begin u 0))
+    (enqueue-keeps (Standing c) (standing-outside c) e a (begin u 0) (w .0)) (enqueue-good c r z e a f (begin u 0) (w .1))
 post-stands c r z u h e a false f = (λ x. omega arith, λ x. omega arith, λ x. omega arith)
 
 module _ (c : Chart) (r : Sound-chart c) (z : Sized-chart c) where
@@ -94,7 +97,8 @@ module _ (c : Chart) (r : Sound-chart c) (z : Sized-chart c) where
     tests-pass F k w = subst (λ b. Gives (bind (bind (require 7 b k) (require 6 (own c u))) F) (Whole c)) (sym (h .started))
         (subst (λ b. Gives (bind (require 6 b k) F) (Whole c)) (sym (h .is-own)) w)
 
-    whole-queue : (q : Queue) → queue-fits (c .events) q ≡ true → length (q .items) ≡ QUEUE → (n : ℕ) → Gives (change (set-queue q) (begin u n)) (Whole c)
+    whole-queue : (q : Queue) → queue-fits (c .events) q ≡ true
+        → length (q .items) ≡ QUEUE → (n : ℕ) → Gives (change (set-queue q) (begin u n)) (Whole c)
     unfolding change set-queue
     whole-queue q f l n =
         let w = own-whole c r z u n h in
@@ -110,10 +114,13 @@ module _ (c : Chart) (r : Sound-chart c) (z : Sized-chart c) where
         fits : queue-fits (c .events) (u .queue) ≡ true
         fits = own-queue c u h
 
-        none : u .queue .len ≡ 0 → Gives (bind (require 8 (removed (u .queue) .done) (begin u n)) (change (set-queue (removed (u .queue) .queue)))) (Whole c)
-        none e = subst (λ x. Gives (bind (require 8 (x .done) (begin u n)) (change (set-queue (x .queue)))) (Whole c)) (sym (removed-none (u .queue) e)) (λ x. omega arith, λ x. omega arith, λ x. omega arith)
+        none : u .queue .len ≡ 0 → Gives
+            (bind (require 8 (removed (u .queue) .done) (begin u n)) (change (set-queue (removed (u .queue) .queue)))) (Whole c)
+        none e = subst (λ x. Gives (bind (require 8 (x .done) (begin u n)) (change (set-queue (x .queue)))) (Whole c))
+            (sym (removed-none (u .queue) e)) (λ x. omega arith, λ x. omega arith, λ x. omega arith)
 
-        some : (u .queue .len ≡ 0 → ⊥) → Gives (bind (require 8 (removed (u .queue) .done) (begin u n)) (change (set-queue (removed (u .queue) .queue)))) (Whole c)
+        some : (u .queue .len ≡ 0 → ⊥) → Gives
+            (bind (require 8 (removed (u .queue) .done) (begin u n)) (change (set-queue (removed (u .queue) .queue)))) (Whole c)
         some e = subst (λ b. Gives (bind (require 8 b (begin u n)) (change (set-queue (removed (u .queue) .queue)))) (Whole c))
             (sym (ap (λ x. x .done) (removed-front (u .queue) (omega arith) (fits-len (c .events) (u .queue) fits))))
             (whole-queue (removed (u .queue) .queue) (removed-fits (c .events) (u .queue) fits (h .sized .items) (omega arith))
@@ -123,13 +130,16 @@ module _ (c : Chart) (r : Sound-chart c) (z : Sized-chart c) where
     unfolding run react _then_
     run-facts n = outcome-facts u ((tests c u then react c (removed (u .queue))) (begin u n))
         (tests-pass (react c (removed (u .queue))) (begin u n)
-        (gives-bind (Whole c) (Whole c) (take-front (removed (u .queue)) (begin u n)) (step c (ref (removed (u .queue) .front .event)) (removed (u .queue) .front .arg) then settle c) (front-stands n)
-        (λ k w. gives-bind (Whole c) (Whole c) (step c (ref (removed (u .queue) .front .event)) (removed (u .queue) .front .arg) k) (settle c)
+        (gives-bind (Whole c) (Whole c) (take-front (removed (u .queue)) (begin u n))
+        (step c (ref (removed (u .queue) .front .event)) (removed (u .queue) .front .arg) then settle c) (front-stands n)
+        (λ k w. gives-bind (Whole c) (Whole c)
+        (step c (ref (removed (u .queue) .front .event)) (removed (u .queue) .front .arg) k) (settle c)
         (step-stands c r z (ref (removed (u .queue) .front .event)) (removed (u .queue) .front .arg) k w) (settle-stands c r z))))
 
     pub discard-facts : Call-facts c u (discard c u)
     unfolding discard
-    discard-facts = outcome-facts u ((tests c u then take-front (removed (u .queue))) (begin u 0)) (tests-pass (take-front (removed (u .queue))) (begin u 0) (front-stands 0))
+    discard-facts = outcome-facts u ((tests c u then take-front (removed (u .queue))) (begin u 0))
+        (tests-pass (take-front (removed (u .queue))) (begin u 0) (front-stands 0))
 
     pub post-facts : (e a : ℤ) → Call-facts c u (post c u e a)
     unfolding post

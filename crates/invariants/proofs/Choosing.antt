@@ -4,7 +4,7 @@ use mathlib.Core.Path.{_∙_, _≡_, ap, refl, sym}
 use mathlib.Core.Logic.{⊎-elim}
 use Prim.Native.Nat.{_<_, ℕ}
 use native.Mathlib.Omega.{arith}
-use mathlib.Core.Bool.{Bool, _||_, cond, false, false≢true, true, true≢false}
+use mathlib.Core.Bool.{Bool, cond, false, false≢true, true, true≢false}
 use mathlib.Core.List.{List, [], _++_, _∷_, reverse}
 use lib.ListN.{length}
 use lib.Dec.{eqb}
@@ -33,14 +33,16 @@ kept-pass q (x ∷ xs) = go (q x) refl (kept-pass q xs)
 
 pub ordered-each : (P : ℕ → Type 0) (c : Chart) (ts : List ℕ) → Each P ts → Each P (choosing-order c ts)
 unfolding choosing-order
-ordered-each P c ts h = each-concat P (λ s. keep (λ t. eqb (trans-row c t .source) s) ts) (reverse (all-states c)) (λ s. each-kept P (λ t. eqb (trans-row c t .source) s) ts h)
+ordered-each P c ts h = each-concat P (λ s. keep (λ t. eqb (trans-row c t .source) s) ts)
+    (reverse (all-states c)) (λ s. each-kept P (λ t. eqb (trans-row c t .source) s) ts h)
 
 thin-each : (P : ℕ → Type 0) (c : Chart) (gone ts : List ℕ) → Each P ts → Each P (thin c gone ts)
 unfolding thin
 thin-each P c gone [] none-left = none-left
 thin-each P c gone (t ∷ ts) (one-more p ps) = go (meets (span c t) gone) (thin-each P c gone ts ps) (thin-each P c (span c t ++ gone) ts ps)
   where
-    go : (b : Bool) → Each P (thin c gone ts) → Each P (thin c (span c t ++ gone) ts) → Each P (elim b [ true ↦ thin c gone ts | false ↦ t ∷ thin c (span c t ++ gone) ts ])
+    go : (b : Bool) → Each P (thin c gone ts) → Each P (thin c (span c t ++ gone) ts)
+        → Each P (elim b [ true ↦ thin c gone ts | false ↦ t ∷ thin c (span c t ++ gone) ts ])
     go true x y = x
     go false x y = one-more p y
 
@@ -49,30 +51,11 @@ pub chosen-enabled : (c : Chart) (e : ℕ) (u : State) → Each (λ t. (t < leng
 unfolding chosen all-transitions
 chosen-enabled c e u = thin-each _ c [] _ (ordered-each _ c _
     (each-both (λ t. t < length (c .transitions)) (λ t. enabled c e u t ≡ true) (keep (enabled c e u) (from 0 (length (c .transitions))))
-    (each-kept (λ t. t < length (c .transitions)) (enabled c e u) (from 0 (length (c .transitions))) (each-range 0 (length (c .transitions)) (length (c .transitions)) (omega arith)))
+    (each-kept (λ t. t < length (c .transitions)) (enabled c e u)
+    (from 0 (length (c .transitions))) (each-range 0 (length (c .transitions)) (length (c .transitions)) (omega arith)))
     (kept-pass (enabled c e u) (from 0 (length (c .transitions))))))
 
 -- ---- spans that lie apart
-
-pub or-off-left : (a b : Bool) → (a || b) ≡ false → a ≡ false
-or-off-left true b e = absurd (true≢false e)
-or-off-left false b e = refl
-
-pub or-off-right : (a b : Bool) → (a || b) ≡ false → b ≡ false
-or-off-right true b e = absurd (true≢false e)
-or-off-right false b e = e
-
-pub or-off : (a b : Bool) → a ≡ false → b ≡ false → (a || b) ≡ false
-or-off a b p q = rw (p, q)
-
-pub has-joined : (x : ℕ) (ys zs : List ℕ) → has x (ys ++ zs) ≡ (has x ys || has x zs)
-unfolding has
-has-joined x [] zs = refl
-has-joined x (y ∷ ys) zs = go (eqb x y) (has-joined x ys zs)
-  where
-    go : (b : Bool) → has x (ys ++ zs) ≡ (has x ys || has x zs) → (b || has x (ys ++ zs)) ≡ ((b || has x ys) || has x zs)
-    go true ih = refl
-    go false ih = ih
 
 meets-left : (xs ys zs : List ℕ) → meets xs (ys ++ zs) ≡ false → meets xs ys ≡ false
 unfolding meets exists
@@ -107,7 +90,8 @@ unfolding thin
 thin-clear c gone [] = none-left
 thin-clear c gone (t ∷ ts) = go (meets (span c t) gone) refl (thin-clear c gone ts) (thin-clear c (span c t ++ gone) ts)
   where
-    go : (b : Bool) → meets (span c t) gone ≡ b → Each (λ x. meets (span c x) gone ≡ false) (thin c gone ts) → Each (λ x. meets (span c x) (span c t ++ gone) ≡ false) (thin c (span c t ++ gone) ts)
+    go : (b : Bool) → meets (span c t) gone ≡ b → Each (λ x. meets (span c x) gone ≡ false) (thin c gone ts)
+        → Each (λ x. meets (span c x) (span c t ++ gone) ≡ false) (thin c (span c t ++ gone) ts)
         → Each (λ x. meets (span c x) gone ≡ false) (elim b [ true ↦ thin c gone ts | false ↦ t ∷ thin c (span c t ++ gone) ts ])
     go true e x y = x
     go false e x y = one-more e (each-weaker _ _ _ (λ i q. meets-right (span c i) (span c t) gone q) y)
@@ -117,7 +101,8 @@ unfolding thin
 thin-apart c gone [] = none-apart
 thin-apart c gone (t ∷ ts) = go (meets (span c t) gone) (thin-apart c gone ts) (thin-apart c (span c t ++ gone) ts)
   where
-    go : (b : Bool) → Apart c (thin c gone ts) → Apart c (thin c (span c t ++ gone) ts) → Apart c (elim b [ true ↦ thin c gone ts | false ↦ t ∷ thin c (span c t ++ gone) ts ])
+    go : (b : Bool) → Apart c (thin c gone ts) → Apart c (thin c (span c t ++ gone) ts)
+        → Apart c (elim b [ true ↦ thin c gone ts | false ↦ t ∷ thin c (span c t ++ gone) ts ])
     go true x y = x
     go false x y = one-apart (each-weaker _ _ _ (λ i q. meets-left (span c i) (span c t) gone q) (thin-clear c (span c t ++ gone) ts)) y
 

@@ -56,12 +56,14 @@ inside-of n u h s e = ⊎-elim (λ l. absurd (true≢false (sym e ∙ off l))) (
         (λ m.
         let i : s ≡ n + (s - n) = omega arith in
         let k : s - n < length (drop n (u .active)) = subst (λ x. s - n < x) (sym (length-drop n (u .active))) (omega arith) in
-        ap (λ x. getD (u .active) x false) i ∙ sym (getD-drop n (u .active) (s - n) false) ∙ not-true _ (every-at not (drop n (u .active)) h (s - n) k false))
+        ap (λ x. getD (u .active) x false) i ∙ sym (getD-drop n (u .active) (s - n) false)
+        ∙ not-true _ (every-at not (drop n (u .active)) h (s - n) k false))
         (le-or-lt (length (u .active)) s)
 
 marks-of : (n : ℕ) (u : State) → ((s : ℕ) → is-active u s ≡ true → s < n) → marks-fit n u ≡ true
 unfolding marks-fit is-active
-marks-of n u h = at-every not (drop n (u .active)) false (λ i l. ap not (getD-drop n (u .active) i false ∙ is-false _ (λ e. omega (arith, h (n + i) e))))
+marks-of n u h = at-every not (drop n (u .active))
+    false (λ i l. ap not (getD-drop n (u .active) i false ∙ is-false _ (λ e. omega (arith, h (n + i) e))))
 
 -- ---- the test, state by state
 
@@ -73,7 +75,10 @@ module _ (c : Chart) (u : State) where
   unfolding legal-at
   at-on s e h k q = subst (λ x. children-legal c u x (children c s) ≡ true) q (go (is-active u s) e h)
     where
-      go : (b : Bool) → b ≡ true → elim b [ true ↦ children-legal c u (kind-of c s) (children c s) | false ↦ every (λ d. not (is-active u d)) (children c s) ] ≡ true
+      go : (b : Bool) → b ≡ true → elim b [
+        | true ↦ children-legal c u (kind-of c s) (children c s)
+        | false ↦ every (λ d. not (is-active u d)) (children c s)
+      ] ≡ true
           → children-legal c u (kind-of c s) (children c s) ≡ true
       go true p x = x
       go false p x = absurd (false≢true p)
@@ -82,17 +87,25 @@ module _ (c : Chart) (u : State) where
   unfolding legal-at
   at-off s e h = go (is-active u s) e h
     where
-      go : (b : Bool) → b ≡ false → elim b [ true ↦ children-legal c u (kind-of c s) (children c s) | false ↦ every (λ d. not (is-active u d)) (children c s) ] ≡ true
+      go : (b : Bool) → b ≡ false → elim b [
+        | true ↦ children-legal c u (kind-of c s) (children c s)
+        | false ↦ every (λ d. not (is-active u d)) (children c s)
+      ] ≡ true
           → every (λ d. not (is-active u d)) (children c s) ≡ true
       go true p x = absurd (true≢false p)
       go false p x = x
 
-  on-at : (s : ℕ) → (is-active u s ≡ true → children-legal c u (kind-of c s) (children c s) ≡ true) → (is-active u s ≡ false → every (λ d. not (is-active u d)) (children c s) ≡ true) → Legal-at s
+  on-at : (s : ℕ) → (is-active u s ≡ true → children-legal c u (kind-of c s) (children c s) ≡ true)
+      → (is-active u s ≡ false → every (λ d. not (is-active u d)) (children c s) ≡ true) → Legal-at s
   unfolding legal-at
   on-at s h g = go (is-active u s) h g
     where
-      go : (b : Bool) → (b ≡ true → children-legal c u (kind-of c s) (children c s) ≡ true) → (b ≡ false → every (λ d. not (is-active u d)) (children c s) ≡ true)
-          → elim b [ true ↦ children-legal c u (kind-of c s) (children c s) | false ↦ every (λ d. not (is-active u d)) (children c s) ] ≡ true
+      go : (b : Bool) → (b ≡ true → children-legal c u (kind-of c s) (children c s) ≡ true)
+          → (b ≡ false → every (λ d. not (is-active u d)) (children c s) ≡ true)
+          → elim b [
+            | true ↦ children-legal c u (kind-of c s) (children c s)
+            | false ↦ every (λ d. not (is-active u d)) (children c s)
+          ] ≡ true
       go true x y = x refl
       go false x y = y refl
 
@@ -101,15 +114,18 @@ module _ (c : Chart) (u : State) where
 module _ (c : Chart) (h : Sound-chart c) (u : State) (l : legal c u ≡ true) (m : marks-fit (length (c .states)) u ≡ true) where
   each-legal : (s : ℕ) → s < length (c .states) → legal-at c u s ≡ true
   unfolding legal all-states
-  each-legal s q = every-range (legal-at c u) 0 (length (c .states)) (and-right (is-active u 0) (every (legal-at c u) (from 0 (length (c .states)))) l) s (omega arith) (omega arith)
+  each-legal s q = every-range (legal-at c u) 0 (length (c .states))
+      (and-right (is-active u 0) (every (legal-at c u) (from 0 (length (c .states)))) l) s (omega arith) (omega arith)
 
   root-on : is-active u 0 ≡ true
   unfolding legal
   root-on = and-left (is-active u 0) (every (legal-at c u) (all-states c)) l
 
-  one-child : (s : ℕ) → kind-of c s ≡ kind-o → is-active u s ≡ true → length (keep (λ x. is-child c s x && is-active u x) (from 0 (length (c .states)))) ≡ 1
+  one-child : (s : ℕ) → kind-of c s ≡ kind-o
+      → is-active u s ≡ true → length (keep (λ x. is-child c s x && is-active u x) (from 0 (length (c .states)))) ≡ 1
   unfolding children-legal children all-states
-  one-child s k e = sym (ap length (keep-keep (is-active u) (is-child c s) (from 0 (length (c .states))))) ∙ eqb-true _ _ (at-on c u s e (each-legal s (o-inside c s k)) kind-o k)
+  one-child s k e = sym (ap length (keep-keep (is-active u) (is-child c s) (from 0 (length (c .states)))))
+      ∙ eqb-true _ _ (at-on c u s e (each-legal s (o-inside c s k)) kind-o k)
 
   pub config-of : Config c (is-active u) no-hole
   unfolding children-legal
@@ -118,8 +134,10 @@ module _ (c : Chart) (h : Sound-chart c) (u : State) (l : legal c u ≡ true) (m
     inside = inside-of (length (c .states)) u m;
     up = λ n e. is-on n e (is-active u (parent-of c (suc n))) refl;
     one = λ s k e q. some s (kept-exists (λ x. is-child c s x && is-active u x) 0 (length (c .states)) (omega (arith, one-child s k e)));
-    only = λ s y z k ty tz ey ez. kept-only (λ x. is-child c s x && is-active u x) (length (c .states)) y z (one-child s k (parent-on s y ty ey))
-        (inside-of (length (c .states)) u m y ey) (inside-of (length (c .states)) u m z ez) (and-both (is-child c s y) (is-active u y) ty ey) (and-both (is-child c s z) (is-active u z) tz ez);
+    only = λ s y z k ty tz ey ez. kept-only (λ x. is-child c s x && is-active u x)
+        (length (c .states)) y z (one-child s k (parent-on s y ty ey))
+        (inside-of (length (c .states)) u m y ey) (inside-of (length (c .states)) u m z ez)
+        (and-both (is-child c s y) (is-active u y) ty ey) (and-both (is-child c s z) (is-active u z) tz ez);
     all = λ s y k e t. every-child c (is-active u) s (all-on s k e) y (child-inside c s y (a-not-root c h s k) t) t;
   }
     where
@@ -127,14 +145,22 @@ module _ (c : Chart) (h : Sound-chart c) (u : State) (l : legal c u ≡ true) (m
       is-on n e true q = refl
       is-on n e false q =
           let i = inside-of (length (c .states)) u m (suc n) e in
-          absurd (true≢false (sym e ∙ not-true _ (every-child c (λ d. not (is-active u d)) (parent-of c (suc n)) (at-off c u (parent-of c (suc n)) q (each-legal (parent-of c (suc n)) (omega (arith, h .ordered .falls n)))) (suc n) i (parent-child c (parent-of c (suc n)) n refl))))
+          absurd (true≢false (sym e ∙ not-true _ (every-child c (λ d. not (is-active u d)) (parent-of c (suc n))
+          (at-off c u (parent-of c (suc n)) q (each-legal (parent-of c (suc n)) (omega (arith, h .ordered .falls n))))
+          (suc n) i (parent-child c (parent-of c (suc n)) n refl))))
 
-      some : (s : ℕ) → Kept (λ x. is-child c s x && is-active u x) 0 (length (c .states)) → (y : ℕ) × (is-child c s y ≡ true) × (is-active u y ≡ true)
-      some s f = (f .0, and-left (is-child c s (f .0)) (is-active u (f .0)) (f .3), and-right (is-child c s (f .0)) (is-active u (f .0)) (f .3))
+      some : (s : ℕ) → Kept (λ x. is-child c s x && is-active u x) 0 (length (c .states))
+          → (y : ℕ) × (is-child c s y ≡ true) × (is-active u y ≡ true)
+      some s f = (
+        f .0,
+        and-left (is-child c s (f .0)) (is-active u (f .0)) (f .3),
+        and-right (is-child c s (f .0)) (is-active u (f .0)) (f .3),
+      )
 
       parent-on : (s y : ℕ) → is-child c s y ≡ true → is-active u y ≡ true → is-active u s ≡ true
       parent-on s zero t e = absurd (no-root-child c s t)
-      parent-on s (suc n) t e = subst (λ p. is-active u p ≡ true) (child-parent c s n t) (is-on n e (is-active u (parent-of c (suc n))) refl)
+      parent-on s (suc n) t e =
+          subst (λ p. is-active u p ≡ true) (child-parent c s n t) (is-on n e (is-active u (parent-of c (suc n))) refl)
 
       all-on : (s : ℕ) → kind-of c s ≡ kind-a → is-active u s ≡ true → every (is-active u) (children c s) ≡ true
       all-on s k e = at-on c u s e (each-legal s (a-inside c s k)) kind-a k
@@ -151,8 +177,10 @@ module _ (c : Chart) (h : Sound-chart c) (u : State) (g : Config c (is-active u)
   legal-children s e kind-o k =
       let y = g .one s k e (λ z. z) in
       eq-eqb _ _ (ap length (keep-keep (is-active u) (is-child c s) (from 0 (length (c .states))))
-      ∙ kept-exactly (λ x. is-child c s x && is-active u x) 0 (length (c .states)) (y .0) (omega arith) (omega (arith, g .inside (y .0) (y .2))) (and-both (is-child c s (y .0)) (is-active u (y .0)) (y .1) (y .2))
-      (λ z a b t. g .only s z (y .0) k (and-left (is-child c s z) (is-active u z) t) (y .1) (and-right (is-child c s z) (is-active u z) t) (y .2)))
+      ∙ kept-exactly (λ x. is-child c s x && is-active u x) 0 (length (c .states)) (y .0)
+      (omega arith) (omega (arith, g .inside (y .0) (y .2))) (and-both (is-child c s (y .0)) (is-active u (y .0)) (y .1) (y .2))
+      (λ z a b t. g .only s z (y .0) k (and-left (is-child c s z) (is-active u z) t)
+      (y .1) (and-right (is-child c s z) (is-active u z) t) (y .2)))
   legal-children s e kind-a k = child-every c (is-active u) s (λ y l t. g .all s y k e t)
   legal-children s e kind-b k = refl
 
@@ -160,7 +188,8 @@ module _ (c : Chart) (h : Sound-chart c) (u : State) (g : Config c (is-active u)
   unfolding legal all-states
   legal-of = and-both (is-active u 0) (every (legal-at c u) (from 0 (length (c .states)))) (g .root)
       (range-every (legal-at c u) 0 (length (c .states)) (λ s a b. on-at c u s (λ e. legal-children s e (kind-of c s) refl)
-      (λ e. child-every c (λ d. not (is-active u d)) s (λ y l t. ap not (is-false (is-active u y) (λ q. true≢false (sym (child-on s y t q) ∙ e)))))))
+      (λ e. child-every c (λ d. not (is-active u d)) s
+      (λ y l t. ap not (is-false (is-active u y) (λ q. true≢false (sym (child-on s y t q) ∙ e)))))))
 
   pub marks-legal : marks-fit (length (c .states)) u ≡ true
   marks-legal = marks-of (length (c .states)) u (g .inside)

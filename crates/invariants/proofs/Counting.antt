@@ -32,7 +32,8 @@ module _ (p : ℕ → Bool) where
   kept-exists a zero l = absurd (omega arith)
   kept-exists a (suc n) l = go (p a) refl l (kept-exists (suc a) n)
     where
-      go : (b : Bool) → p a ≡ b → 1 ≤ length (cond b (a ∷ keep p (from (suc a) n)) (keep p (from (suc a) n))) → (1 ≤ length (keep p (from (suc a) n)) → Kept p (suc a) n) → Kept p a (suc n)
+      go : (b : Bool) → p a ≡ b → 1 ≤ length (cond b (a ∷ keep p (from (suc a) n)) (keep p (from (suc a) n)))
+          → (1 ≤ length (keep p (from (suc a) n)) → Kept p (suc a) n) → Kept p a (suc n)
       go true e h ih = (a, omega arith, omega arith, e)
       go false e h ih = let f = ih h in (f .0, omega (arith, f .1), omega (arith, f .2), f .3)
 
@@ -40,7 +41,8 @@ module _ (p : ℕ → Bool) where
   longer true a l = omega arith
   longer false a l = omega arith
 
-  first-kept : (m a n : ℕ) → p a ≡ true → m ≤ suc (length (keep p (from (suc a) n))) → m ≤ length (cond (p a) (a ∷ keep p (from (suc a) n)) (keep p (from (suc a) n)))
+  first-kept : (m a n : ℕ) → p a ≡ true → m ≤ suc (length (keep p (from (suc a) n)))
+      → m ≤ length (cond (p a) (a ∷ keep p (from (suc a) n)) (keep p (from (suc a) n)))
   first-kept m a n e h = subst (λ b. m ≤ length (cond b (a ∷ keep p (from (suc a) n)) (keep p (from (suc a) n)))) (sym e) h
 
   pub kept-one : (a n x : ℕ) → a ≤ x → x < a + n → p x ≡ true → 1 ≤ length (keep p (from a n))
@@ -65,10 +67,12 @@ module _ (p : ℕ → Bool) where
       (λ q. absurd (omega (arith, kept-two 0 n y x (omega arith) q (omega arith) f e)))
       (le-or-lt x y)
 
-  pub kept-exactly : (a n x : ℕ) → a ≤ x → x < a + n → p x ≡ true → ((y : ℕ) → a ≤ y → y < a + n → p y ≡ true → y ≡ x) → length (keep p (from a n)) ≡ 1
+  pub kept-exactly : (a n x : ℕ) → a ≤ x → x < a + n
+      → p x ≡ true → ((y : ℕ) → a ≤ y → y < a + n → p y ≡ true → y ≡ x) → length (keep p (from a n)) ≡ 1
   unfolding keep from
   kept-exactly a zero x l u e h = absurd (omega arith)
   kept-exactly a (suc n) x l u e h = ⊎-elim
       (λ q. rw (q, e, keep-none p (suc x) n (λ y m v. is-false (p y) (λ t. omega (arith, h y (omega arith) (omega arith) t)))))
-      (λ q. rw (is-false (p a) (λ t. omega (arith, h a (omega arith) (omega arith) t))) (kept-exactly (suc a) n x q (omega arith) e (λ y m v t. h y (omega arith) (omega arith) t)))
+      (λ q. rw (is-false (p a) (λ t. omega (arith, h a (omega arith) (omega arith) t)))
+      (kept-exactly (suc a) n x q (omega arith) e (λ y m v t. h y (omega arith) (omega arith) t)))
       (eq-or-lt-of-le l)

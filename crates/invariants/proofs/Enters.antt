@@ -2,21 +2,20 @@
 -- elsewhere, and below the scope what the way reaches. On the path to a state every state is reached. Assumes nothing.
 use mathlib.Core.Path.{_∙_, _≡_, ap, refl, subst, sym}
 use mathlib.Core.Logic.{_⊎_, inl, inr, ⊎-elim}
-use Prim.Native.Nat.{_+_, _<_, _≤_, suc, zero, ℕ}
+use Prim.Native.Nat.{_<_, suc, zero, ℕ}
 use native.Mathlib.Omega.{arith}
-use native.Mathlib.Nat.{eq-or-lt-of-le}
 use mathlib.Core.Bool.{Bool, _&&_, _||_, cond, false, true}
 use mathlib.Core.List.{List, [], _∷_, map}
 use lib.ListN.{length}
 use lib.Dec.{eqb}
 use borrow.Author.Tests.{eq-eqb, eqb-true, ne-eqb}
-use Rattle.invariants.proofs.Choosing.{or-off}
 use Rattle.invariants.proofs.Fired.{fired, reached-inside}
 use Rattle.invariants.proofs.Left.{left-on}
 use Rattle.laws.proofs.Descent.{Reached, picks}
 use Rattle.laws.specs.Facts.{Sound, Under, child, deeper}
 use Rattle.laws.proofs.Lists.{and-both, or-cases, or-left, or-right, same-or}
 use Rattle.laws.proofs.Preorder.{above-child, linear}
+use Rattle.laws.proofs.Ranges.{has-in}
 use Rattle.laws.proofs.Reach.{pass-states, reach, reached}
 use Rattle.laws.proofs.Scope.{first-found}
 use Rattle.laws.proofs.Sound.{Sound-chart, child-parent, no-root-child, parent-child}
@@ -42,26 +41,16 @@ has-kept y p [] = go (p y)
     go false = refl
 has-kept y p (x ∷ xs) = ⊎-elim (here (p x) refl (has-kept y p xs)) (there (p x) (has-kept y p xs)) (same-or y x)
   where
-    here : (b : Bool) → p x ≡ b → has y (keep p xs) ≡ (p y && has y xs) → y ≡ x → has y (cond b (x ∷ keep p xs) (keep p xs)) ≡ (p y && (eqb y x || has y xs))
-    here true e ih q = ap (λ t. t || has y (keep p xs)) (eq-eqb y x q) ∙ sym (ap (λ t. p y && (t || has y xs)) (eq-eqb y x q) ∙ ap (λ t. t && true) (ap p q ∙ e))
+    here : (b : Bool) → p x ≡ b → has y (keep p xs) ≡ (p y && has y xs)
+        → y ≡ x → has y (cond b (x ∷ keep p xs) (keep p xs)) ≡ (p y && (eqb y x || has y xs))
+    here true e ih q = ap (λ t. t || has y (keep p xs)) (eq-eqb y x q)
+        ∙ sym (ap (λ t. p y && (t || has y xs)) (eq-eqb y x q) ∙ ap (λ t. t && true) (ap p q ∙ e))
     here false e ih q = ih ∙ ap (λ t. t && has y xs) (ap p q ∙ e) ∙ sym (ap (λ t. t && (eqb y x || has y xs)) (ap p q ∙ e))
 
-    there : (b : Bool) → has y (keep p xs) ≡ (p y && has y xs) → (y ≡ x → ⊥) → has y (cond b (x ∷ keep p xs) (keep p xs)) ≡ (p y && (eqb y x || has y xs))
+    there : (b : Bool) → has y (keep p xs) ≡ (p y && has y xs)
+        → (y ≡ x → ⊥) → has y (cond b (x ∷ keep p xs) (keep p xs)) ≡ (p y && (eqb y x || has y xs))
     there true ih n = ap (λ t. t || has y (keep p xs)) (ne-eqb y x n) ∙ ih ∙ sym (ap (λ t. p y && (t || has y xs)) (ne-eqb y x n))
     there false ih n = ih ∙ sym (ap (λ t. p y && (t || has y xs)) (ne-eqb y x n))
-
-pub in-range : (y a n : ℕ) → a ≤ y → y < a + n → has y (from a n) ≡ true
-unfolding has from
-in-range y a zero l u = absurd (omega arith)
-in-range y a (suc n) l u = ⊎-elim
-    (λ q. or-left (eqb y a) (has y (from (suc a) n)) (eq-eqb y a (sym q)))
-    (λ q. or-right (eqb y a) (has y (from (suc a) n)) (in-range y (suc a) n q (omega arith)))
-    (eq-or-lt-of-le l)
-
-past-range : (y a n : ℕ) → a + n ≤ y → has y (from a n) ≡ false
-unfolding has from
-past-range y a zero l = refl
-past-range y a (suc n) l = or-off (eqb y a) (has y (from (suc a) n)) (ne-eqb y a (λ q. omega arith)) (past-range y (suc a) n (omega arith))
 
 -- ---- what is in after the entries
 
@@ -79,15 +68,18 @@ module _ (c : Chart) (r : Sound-chart c) (way : ℕ → Way) (g : Sound c way) (
 
   entered-has : (y : ℕ) → has y (map state-of (all-below c way s)) ≡ (reaches y && (has s (ancestors c y) && has y (all-states c)))
   unfolding descendants
-  entered-has y = ap (has y) (pass-states c way g s l) ∙ has-kept y reaches (descendants c s) ∙ ap (λ b. reaches y && b) (has-kept y (λ d. has s (ancestors c d)) (all-states c))
+  entered-has y = ap (has y) (pass-states c way g s l)
+      ∙ has-kept y reaches (descendants c s) ∙ ap (λ b. reaches y && b) (has-kept y (λ d. has s (ancestors c d)) (all-states c))
 
   -- below the scope, just what the way reaches
   pub entered-under : (y : ℕ) → Under c s y → has y (map state-of (all-below c way s)) ≡ reaches y
   unfolding all-states
-  entered-under y u = entered-has y ∙ ap (λ b. reaches y && (b && has y (all-states c))) (under-has c (r .ordered) s y u) ∙ go (reaches y) refl
+  entered-under y u = entered-has y ∙ ap (λ b. reaches y && (b && has y (all-states c))) (under-has c (r .ordered) s y u)
+      ∙ go (reaches y) refl
     where
       go : (b : Bool) → reaches y ≡ b → (b && (true && has y (from 0 (length (c .states))))) ≡ b
-      go true e = in-range y 0 (length (c .states)) (omega arith) (omega (arith, reached-inside c r way reaches s g (reached c way (g .ordered) s) y u e))
+      go true e = has-in y 0 (length (c .states))
+          (omega arith) (omega (arith, reached-inside c r way reaches s g (reached c way (g .ordered) s) y u e))
       go false e = refl
 
   pub entered-not-under : (y : ℕ) → has s (ancestors c y) ≡ false → has y (map state-of (all-below c way s)) ≡ false
@@ -98,7 +90,8 @@ module _ (c : Chart) (r : Sound-chart c) (way : ℕ → Way) (g : Sound c way) (
   unfolding left-on fired
   entered-fired on y = go (has s (ancestors c y)) refl
     where
-      go : (b : Bool) → has s (ancestors c y) ≡ b → (has y (map state-of (all-below c way s)) || cond b false (on y)) ≡ cond b (reaches y) (on y)
+      go : (b : Bool) → has s (ancestors c y) ≡ b
+          → (has y (map state-of (all-below c way s)) || cond b false (on y)) ≡ cond b (reaches y) (on y)
       go true e = or-false _ ∙ entered-under y (has-under c s y e)
       go false e = ap (λ t. t || on y) (entered-not-under y e)
 
@@ -111,7 +104,8 @@ module _ (c : Chart) (r : Sound-chart c) (b : ℕ) (l : b < length (c .states)) 
 
   path-has : (x : ℕ) → On-path x → has x (b ∷ ancestors c b) ≡ true
   unfolding has
-  path-has x p = ⊎-elim (λ q. or-left (eqb x b) (has x (ancestors c b)) (eq-eqb x b q)) (λ q. or-right (eqb x b) (has x (ancestors c b)) (under-has c (r .ordered) x b q)) p
+  path-has x p = ⊎-elim (λ q. or-left (eqb x b) (has x (ancestors c b)) (eq-eqb x b q))
+      (λ q. or-right (eqb x b) (has x (ancestors c b)) (under-has c (r .ordered) x b q)) p
 
   has-path : (x : ℕ) → has x (b ∷ ancestors c b) ≡ true → On-path x
   unfolding has
@@ -128,7 +122,8 @@ module _ (c : Chart) (r : Sound-chart c) (b : ℕ) (l : b < length (c .states)) 
   one-on-path p zero y tx ty px py = absurd (no-root-child c p tx)
   one-on-path p (suc m) zero tx ty px py = absurd (no-root-child c p ty)
   one-on-path p (suc m) (suc n) tx ty px py = ⊎-elim
-      (λ q. ⊎-elim (λ q′. q ∙ sym q′) (λ q′. absurd (not-above p n m (child-parent c p n ty) (child-parent c p m tx) (subst (Under c (suc n)) (sym q) q′))) py)
+      (λ q. ⊎-elim (λ q′. q ∙ sym q′)
+      (λ q′. absurd (not-above p n m (child-parent c p n ty) (child-parent c p m tx) (subst (Under c (suc n)) (sym q) q′))) py)
       (λ q. ⊎-elim (λ q′. absurd (not-above p m n (child-parent c p m tx) (child-parent c p n ty) (subst (Under c (suc m)) (sym q′) q)))
       (λ q′. ⊎-elim (λ e. e) (λ w. ⊎-elim
       (λ v. absurd (not-above p m n (child-parent c p m tx) (child-parent c p n ty) v))
@@ -146,20 +141,30 @@ module _ (c : Chart) (r : Sound-chart c) (b : ℕ) (l : b < length (c .states)) 
   owner-way : (p x : ℕ) → Under c p b → is-child c p x ≡ true → On-path x → towards-owner c b p ≡ on-to x
   unfolding towards-owner towards
   owner-way p x u t i =
-      ap (λ z. cond z stops (cond (has p (ancestors c b)) (on-to (first-that (is-child c p) (b ∷ ancestors c b))) defaults)) (ne-eqb p b (λ q. omega (arith, under-lt c (r .ordered) u)))
-      ∙ ap (λ z. cond z (on-to (first-that (is-child c p) (b ∷ ancestors c b))) defaults) (under-has c (r .ordered) p b u) ∙ ap on-to (path-next p x t i)
+      ap (λ z. cond z stops (cond (has p (ancestors c b)) (on-to (first-that (is-child c p) (b ∷ ancestors c b))) defaults))
+      (ne-eqb p b (λ q. omega (arith, under-lt c (r .ordered) u)))
+      ∙ ap (λ z. cond z (on-to (first-that (is-child c p) (b ∷ ancestors c b))) defaults) (under-has c (r .ordered) p b u)
+      ∙ ap on-to (path-next p x t i)
 
-  path-picked : (n : ℕ) → On-path (suc n) → (k : Kind) → picks c k (towards-owner c b (parent-of c (suc n))) (parent-of c (suc n)) (suc n) ≡ true
+  path-picked : (n : ℕ) → On-path (suc n) → (k : Kind)
+      → picks c k (towards-owner c b (parent-of c (suc n))) (parent-of c (suc n)) (suc n) ≡ true
   unfolding picks
-  path-picked n i kind-o = subst (λ w. picks c kind-o w (parent-of c (suc n)) (suc n) ≡ true) (sym (owner-way (parent-of c (suc n)) (suc n) (above-path n i) (parent-child c (parent-of c (suc n)) n refl) i)) (eq-eqb (suc n) (suc n) refl)
+  path-picked n i kind-o = subst (λ w. picks c kind-o w (parent-of c (suc n)) (suc n) ≡ true)
+      (sym (owner-way (parent-of c (suc n)) (suc n) (above-path n i) (parent-child c (parent-of c (suc n)) n refl) i))
+      (eq-eqb (suc n) (suc n) refl)
   path-picked n i kind-a = refl
   path-picked n i kind-b = refl
 
   module _ (s : ℕ) where
     owner-reached-by : (f : ℕ → Bool) → Reached c (towards-owner c b) s f → (x : ℕ) → Under c s x → On-path x → f x ≡ true
-    owner-reached-by f h x (child {n} e) i = h .step n (child e) ∙ and-both (picks c (kind-of c (parent-of c (suc n))) (towards-owner c b (parent-of c (suc n))) (parent-of c (suc n)) (suc n)) (f (parent-of c (suc n))) (path-picked n i (kind-of c (parent-of c (suc n)))) (ap f e ∙ h .top)
-    owner-reached-by f h x (deeper {n} u) i = h .step n (deeper u) ∙ and-both (picks c (kind-of c (parent-of c (suc n))) (towards-owner c b (parent-of c (suc n))) (parent-of c (suc n)) (suc n)) (f (parent-of c (suc n))) (path-picked n i (kind-of c (parent-of c (suc n)))) (owner-reached-by f h (parent-of c (suc n)) u (inr (above-path n i)))
+    owner-reached-by f h x (child {n} e) i = h .step n (child e)
+        ∙ and-both (picks c (kind-of c (parent-of c (suc n))) (towards-owner c b (parent-of c (suc n))) (parent-of c (suc n))
+        (suc n)) (f (parent-of c (suc n))) (path-picked n i (kind-of c (parent-of c (suc n)))) (ap f e ∙ h .top)
+    owner-reached-by f h x (deeper {n} u) i = h .step n (deeper u) ∙ and-both (picks c (kind-of c (parent-of c (suc n)))
+        (towards-owner c b (parent-of c (suc n))) (parent-of c (suc n)) (suc n)) (f (parent-of c (suc n)))
+        (path-picked n i (kind-of c (parent-of c (suc n)))) (owner-reached-by f h (parent-of c (suc n)) u (inr (above-path n i)))
 
     -- the owner of a history is reached from every state above it
     pub owner-reached : Under c s b → reach c (towards-owner c b) s b b ≡ true
-    owner-reached u = owner-reached-by (λ x. reach c (towards-owner c b) s x x) (reached c (towards-owner c b) (r .ordered) s) b u (inl refl)
+    owner-reached u = owner-reached-by (λ x. reach c (towards-owner c b) s x x)
+        (reached c (towards-owner c b) (r .ordered) s) b u (inl refl)

@@ -53,7 +53,8 @@ standing-outside c = record {
   queue = λ u q h. record { config = h .config; lead = h .lead };
 }
 
-pub stands : (c : Chart) (sl : List ℤ) (now on : ℕ → Bool) → Lead c sl → Config c on no-hole → ((y : ℕ) → now y ≡ on y) → (u : State) → Marks c sl now u → Standing c u
+pub stands : (c : Chart) (sl : List ℤ) (now on : ℕ → Bool)
+    → Lead c sl → Config c on no-hole → ((y : ℕ) → now y ≡ on y) → (u : State) → Marks c sl now u → Standing c u
 stands c sl now on l g e u h = record {
   config = config-same c on (is-active u) no-hole (λ y. sym (h .marks y ∙ e y)) g;
   lead = subst (Lead c) (sym (h .slots)) l;
@@ -89,9 +90,11 @@ module _ (c : Chart) (r : Sound-chart c) (z : Sized-chart c) (a : ℤ) where
   unfolding _then_
   left-then Q t s F k g h l f =
       gives-bind (Left-good on s) Q (leave-all c a (descendants c s) k) (perform-all c a (transition-of t) then F)
-      (gives-holds (λ j. Left c on s (j .state)) (Good c) (leave-all c a (descendants c s) k) (leave-all-leads c r a s l k (h .config) (h .lead) (omega (arith, z .states, g .sized .slots))) (leave-all-good c r z a s k g))
+      (gives-holds (λ j. Left c on s (j .state)) (Good c) (leave-all c a (descendants c s) k)
+      (leave-all-leads c r a s l k (h .config) (h .lead) (omega (arith, z .states, g .sized .slots))) (leave-all-good c r z a s k g))
       (λ j p. gives-bind (Left-good on s) Q (perform-all c a (transition-of t) j) F
-      (gives-holds (λ i. Left c on s (i .state)) (Good c) (perform-all c a (transition-of t) j) (acts-keep (Left c on s) (left-outside c on s) c a (transition-of t) j (p .0)) (acts-good c r z a (transition-of t) j (p .1))) f)
+      (gives-holds (λ i. Left c on s (i .state)) (Good c) (perform-all c a (transition-of t) j) (acts-keep (Left c on s)
+      (left-outside c on s) c a (transition-of t) j (p .0)) (acts-good c r z a (transition-of t) j (p .1))) f)
     where
       on : ℕ → Bool
       on = is-active (k .state)
@@ -101,36 +104,45 @@ module _ (c : Chart) (r : Sound-chart c) (z : Sized-chart c) (a : ℤ) where
 
   -- ---- to a state
 
-  module _ (s d : ℕ) (ld : d < length (c .states)) (k : Ctx) (h : Standing c (k .state)) (top : is-active (k .state) s ≡ true) (ls : s < length (c .states)) where
+  module _ (s d : ℕ) (ld : d < length (c .states))
+      (k : Ctx) (h : Standing c (k .state)) (top : is-active (k .state) s ≡ true) (ls : s < length (c .states)) where
     abbrev reach-to : ℕ → Bool
     reach-to x = reach c (towards c d) s x x
 
     to-legal : Config c (fired c (is-active (k .state)) reach-to s) no-hole
-    to-legal = legal-stays c r (towards c d) reach-to (is-active (k .state)) s no-hole (towards-sound c r d ld) (reached c (towards c d) (r .ordered) s) (h .config) top no-hole
+    to-legal = legal-stays c r (towards c d) reach-to
+        (is-active (k .state)) s no-hole (towards-sound c r d ld) (reached c (towards c d) (r .ordered) s) (h .config) top no-hole
         (λ x i e q w. towards-goes c d x w) (λ x i w. w)
 
     to-enters : (j : Ctx) → Left-good (is-active (k .state)) s j
-        → Gives (each (visit c a) (all-below c (towards c d) s) j) (λ i. Standing c (i .state) × ((y : ℕ) → (Under c s y → ⊥) → is-active (i .state) y ≡ is-active (k .state) y))
+        → Gives (each (visit c a) (all-below c (towards c d) s) j)
+        (λ i. Standing c (i .state) × ((y : ℕ) → (Under c s y → ⊥) → is-active (i .state) y ≡ is-active (k .state) y))
     to-enters j p = gives-map {A = Ctx} (λ i. Marks c (j .state .slots) now (i .state)) _ (each (visit c a) (all-below c (towards c d) s) j)
-        (visits-mark c (j .state .slots) a (all-below c (towards c d) s) (below-inside c r (towards c d) (towards-sound c r d ld) s ls) (left-on c (is-active (k .state)) s) j (begin-marks (is-active (k .state)) s j p))
+        (visits-mark c (j .state .slots) a (all-below c (towards c d) s) (below-inside c r (towards c d)
+        (towards-sound c r d ld) s ls) (left-on c (is-active (k .state)) s) j (begin-marks (is-active (k .state)) s j p))
         (λ i m. (
           stands c (j .state .slots) now (fired c (is-active (k .state)) reach-to s) (p .0 .lead) to-legal same (i .state) m,
-          λ y n. m .marks y ∙ same y ∙ fired-elsewhere c (is-active (k .state)) reach-to s y (is-false (has s (ancestors c y)) (λ e. n (has-under c s y e))),
+          λ y n. m .marks y ∙ same y
+              ∙ fired-elsewhere c (is-active (k .state)) reach-to s y (is-false (has s (ancestors c y)) (λ e. n (has-under c s y e))),
         ))
       where
         now : ℕ → Bool
         now = with-all (map state-of (all-below c (towards c d) s)) (left-on c (is-active (k .state)) s)
 
-        same : (y : ℕ) → with-all (map state-of (all-below c (towards c d) s)) (left-on c (is-active (k .state)) s) y ≡ fired c (is-active (k .state)) reach-to s y
+        same : (y : ℕ) → with-all (map state-of (all-below c (towards c d) s)) (left-on c (is-active (k .state)) s) y
+            ≡ fired c (is-active (k .state)) reach-to s y
         same = entered-fired c r (towards c d) (towards-sound c r d ld) s ls (is-active (k .state))
 
   -- ---- to a history
 
-  module _ (s b : ℕ) (lb : b < length (c .states)) (kb : kind-of c b ≡ kind-o) (us : Under c s b) (k : Ctx) (h : Standing c (k .state)) (top : is-active (k .state) s ≡ true) (ls : s < length (c .states)) where
+  module _ (s b : ℕ) (lb : b < length (c .states)) (kb : kind-of c b ≡ kind-o) (us : Under c s b)
+      (k : Ctx) (h : Standing c (k .state)) (top : is-active (k .state) s ≡ true) (ls : s < length (c .states)) where
     history-enters : (j : Ctx) → Left-good (is-active (k .state)) s j
-        → Gives (each (visit-towards c a b) (all-below c (towards-owner c b) s) j) (λ i. Standing c (i .state) × ((y : ℕ) → (Under c s y → ⊥) → is-active (i .state) y ≡ is-active (k .state) y))
+        → Gives (each (visit-towards c a b) (all-below c (towards-owner c b) s) j)
+        (λ i. Standing c (i .state) × ((y : ℕ) → (Under c s y → ⊥) → is-active (i .state) y ≡ is-active (k .state) y))
     history-enters j p = gives-map {A = Ctx} (λ i. Marks c sl now (i .state)) _ (each (visit-towards c a b) vs j)
-        (towards-marks c r sl (p .1 .slots) (p .0 .lead) b lb kb a vs (below-inside c r (towards-owner c b) (owner-sound c r b lb) s ls) (left-on c on s) j (begin-marks on s j p))
+        (towards-marks c r sl (p .1 .slots) (p .0 .lead) b
+        lb kb a vs (below-inside c r (towards-owner c b) (owner-sound c r b lb) s ls) (left-on c on s) j (begin-marks on s j p))
         (λ i m. (
           stands c sl now (on-2 c r sl (p .1 .slots) (p .0 .lead) b lb kb on (h .config) s ls us top) (p .0 .lead)
               (history-legal c r sl (p .1 .slots) (p .0 .lead) b lb kb on (h .config) s ls us top) same (i .state) m,
@@ -147,7 +159,8 @@ module _ (c : Chart) (r : Sound-chart c) (z : Sized-chart c) (a : ℤ) where
         vs = all-below c (towards-owner c b) s
 
         now : ℕ → Bool
-        now y = has y (map state-of vs) || ((has b (map state-of vs) && has y (map state-of (all-below c (restore-way (slot-at sl b) sl) b))) || left-on c on s y)
+        now y = has y (map state-of vs) ||
+            ((has b (map state-of vs) && has y (map state-of (all-below c (restore-way (slot-at sl b) sl) b))) || left-on c on s y)
 
         same : (y : ℕ) → now y ≡ on-2 c r sl (p .1 .slots) (p .0 .lead) b lb kb on (h .config) s ls us top y
         same = history-marks c r sl (p .1 .slots) (p .0 .lead) b lb kb on (h .config) s ls us top
@@ -159,7 +172,8 @@ module _ (c : Chart) (r : Sound-chart c) (z : Sized-chart c) (a : ℤ) where
 
   -- ---- a firing
 
-  pub fire-to-stands : (t s : ℕ) (x : Target) → Target-facts c s x → (k : Ctx) → Good c k → Standing c (k .state) → Armed-by c (k .state) s x
+  pub fire-to-stands : (t s : ℕ) (x : Target)
+      → Target-facts c s x → (k : Ctx) → Good c k → Standing c (k .state) → Armed-by c (k .state) s x
       → Gives (fire-to c a t s x k) (λ j. Standing c (j .state) × Moved-by c (k .state) (j .state) s x)
   unfolding fire-to same-marks
   fire-to-stands t s (to d) f k g h e =
@@ -169,4 +183,6 @@ module _ (c : Chart) (r : Sound-chart c) (z : Sized-chart c) (a : ℤ) where
       let q = scope-facts c r s b (f .3) (f .1) in
       left-then _ t (scope c s b) _ k g h (q .inside) (history-enters (scope c s b) b (f .0) (f .2) (q .above-target) k h e (q .inside))
   fire-to-stands t s in-place f k g h e =
-      gives-both (λ j. Standing c (j .state)) (λ j. same-marks k (j .state)) (perform-all c a (transition-of t) k) (acts-keep (Standing c) (standing-outside c) c a (transition-of t) k h) (acts-keep (same-marks k) (marks-kept k) c a (transition-of t) k (λ y. refl))
+      gives-both (λ j. Standing c (j .state)) (λ j. same-marks k (j .state))
+      (perform-all c a (transition-of t) k) (acts-keep (Standing c) (standing-outside c) c a (transition-of t) k h)
+      (acts-keep (same-marks k) (marks-kept k) c a (transition-of t) k (λ y. refl))

@@ -24,7 +24,8 @@ use Rattle.laws.proofs.Steps.{Holds}
 use Rattle.laws.proofs.Trace.{numbers-more}
 use Rattle.laws.proofs.Value.{Act-in-range, Sized-chart}
 use Rattle.meaning.specs.Chart.{Chart}
-use Rattle.meaning.specs.Effects.{act-on, act-var, acts-of, assign, enqueue, enter, held, leave, mark-entered, mark-left, o-parent, perform, perform-all}
+use Rattle.meaning.specs.Effects.{act-on, act-var, acts-of, assign, enqueue, enter, held, leave, mark-entered, mark-left}
+use Rattle.meaning.specs.Effects.{o-parent, perform, perform-all}
 use Rattle.meaning.specs.Effects.{store-in, take-queue}
 use Rattle.meaning.specs.Entry.{Visit, by-default, plain, state-of, visit}
 use Rattle.meaning.specs.Foreign.{event-fits, queue-fits}
@@ -47,7 +48,8 @@ use Rattle.queue.specs.declared.Queued.{Queued}
 use Rattle.sizes.specs.Sizes.{QUEUE}
 
 traced-more : (c : Chart) (out : List ℤ) (e : Entry) → Entry-ok c e → Traced c out → Traced c (out ++ numbers e)
-traced-more c out e h t = (t .0 ++ (e ∷ []), numbers-more (t .0) out e (t .1), each-joined (Entry-ok c) (t .0) (e ∷ []) (t .2) (one-more h none-left))
+traced-more c out e h t =
+    (t .0 ++ (e ∷ []), numbers-more (t .0) out e (t .1), each-joined (Entry-ok c) (t .0) (e ∷ []) (t .2) (one-more h none-left))
 
 -- ---- the few changes
 
@@ -64,7 +66,12 @@ module _ (c : Chart) where
   unfolding change set-active
   set-active-good s b k g = record {
     started = g .started;
-    sized = record { active = length-set (k .state .active) s b ∙ g .sized .active; slots = g .sized .slots; vars = g .sized .vars; items = g .sized .items };
+    sized = record {
+      active = length-set (k .state .active) s b ∙ g .sized .active;
+      slots = g .sized .slots;
+      vars = g .sized .vars;
+      items = g .sized .items;
+    };
     values = g .values;
     queue = g .queue;
     slots = g .slots;
@@ -76,7 +83,8 @@ module _ (c : Chart) where
   slots-set sl p d h g s = ⊎-elim
       (λ q. ⊎-elim
       (λ l. subst (λ x. Slot-ok c s (getD x s (negsuc 0))) (sym (set-out sl p (pos d) l)) (g s))
-      (λ l. subst (λ x. Slot-ok c x (getD (set sl p (pos d)) x (negsuc 0))) (sym q) (subst (Slot-ok c p) (sym (getD-set-same sl p (pos d) (negsuc 0) l)) h))
+      (λ l. subst (λ x. Slot-ok c x (getD (set sl p (pos d)) x (negsuc 0)))
+      (sym q) (subst (Slot-ok c p) (sym (getD-set-same sl p (pos d) (negsuc 0) l)) h))
       (le-or-lt (length sl) p))
       (λ q. subst (Slot-ok c s) (sym (getD-set-other sl p s (pos d) (negsuc 0) q)) (g s))
       (same-or s p)
@@ -85,7 +93,12 @@ module _ (c : Chart) where
   unfolding change set-slot
   set-slot-good p d h k g = record {
     started = g .started;
-    sized = record { active = g .sized .active; slots = length-set (k .state .slots) p (pos d) ∙ g .sized .slots; vars = g .sized .vars; items = g .sized .items };
+    sized = record {
+      active = g .sized .active;
+      slots = length-set (k .state .slots) p (pos d) ∙ g .sized .slots;
+      vars = g .sized .vars;
+      items = g .sized .items;
+    };
     values = g .values;
     queue = g .queue;
     slots = slots-set (k .state .slots) p d h (g .slots);
@@ -106,11 +119,17 @@ module _ (c : Chart) where
 -- ---- the acts
 
 module _ (c : Chart) (h : Sound-chart c) (z : Sized-chart c) where
-  set-value-good : (v : ℕ) (x : ℤ) → v < length (c .vars) → within-row (var-row (c .vars) v) x ≡ true → Stays (Good c) (change (set-value v x))
+  set-value-good : (v : ℕ) (x : ℤ) → v < length (c .vars)
+      → within-row (var-row (c .vars) v) x ≡ true → Stays (Good c) (change (set-value v x))
   unfolding change set-value
   set-value-good v x l e k g = record {
     started = g .started;
-    sized = record { active = g .sized .active; slots = g .sized .slots; vars = length-set (k .state .vars) v x ∙ g .sized .vars; items = g .sized .items };
+    sized = record {
+      active = g .sized .active;
+      slots = g .sized .slots;
+      vars = length-set (k .state .vars) v x ∙ g .sized .vars;
+      items = g .sized .items;
+    };
     values = values-set (c .vars) (k .state .vars) v x l (omega (arith, g .sized .vars, z .vars)) e (g .values);
     queue = g .queue;
     slots = g .slots;
@@ -121,7 +140,8 @@ module _ (c : Chart) (h : Sound-chart c) (z : Sized-chart c) where
   unfolding assign
   assign-good v x l =
       let e = held-in-row (var-row (c .vars) v) x (h .rows v l .0) (h .rows v l .1) in
-      then-stays (Good c) _ _ (emit-good c (changed v (held (var-row (c .vars) v) x)) (l, e)) (set-value-good v (held (var-row (c .vars) v) x) l e)
+      then-stays (Good c) _ _ (emit-good c (changed v (held (var-row (c .vars) v) x)) (l, e))
+      (set-value-good v (held (var-row (c .vars) v) x) l e)
 
   pub enqueue-good : (e x : ℤ) → event-fits (c .events) e x ≡ true → Stays (Good c) (enqueue e x)
   unfolding enqueue look take-queue _then_ require bind
@@ -137,20 +157,23 @@ module _ (c : Chart) (h : Sound-chart c) (z : Sized-chart c) where
       room l = on (appended (k .state .queue) e x .done)
         where
           on : (b : Bool) → Holds (bind (require 9 b k) (change (set-queue (appended (k .state .queue) e x .queue)))) (Good c)
-          on true = set-queue-good c (appended (k .state .queue) e x .queue) (appended-fits (c .events) (k .state .queue) (g .queue) (g .sized .items) e x f l)
+          on true = set-queue-good c (appended (k .state .queue) e x .queue)
+              (appended-fits (c .events) (k .state .queue) (g .queue) (g .sized .items) e x f l)
               (appended-long (k .state .queue) e x ∙ g .sized .items) k g
           on false = tt
 
   sent-fits : (e : ℕ) (x : ℤ) → 1 ≤ e → e ≤ c .events → inRange x ≡ true → event-fits (c .events) (pos e) x ≡ true
   unfolding event-fits
-  sent-fits e x l m r = and-both (leZ (pos 1) (pos e)) _ (le-leb 1 e l) (and-both (leZ (pos e) (pos (c .events))) _ (le-leb e (c .events) m) r)
+  sent-fits e x l m r =
+      and-both (leZ (pos 1) (pos e)) _ (le-leb 1 e l) (and-both (leZ (pos e) (pos (c .events))) _ (le-leb e (c .events) m) r)
 
   pub act-good : (a : ℤ) (x : Act) → Act-facts c x × Act-in-range x → Stays (Good c) (perform (c .vars) a x)
   unfolding perform act-on act-var
   act-good a (set-to v x) f = assign-good v x (f .0 .0)
   act-good a (add-to v x) f = look-stays (Good c) _ (λ k g. assign-good v (value-at (k .state) v +ℤ x) (f .0))
   act-good a (take-to v) f = assign-good v a (f .0)
-  act-good a (send e x) f = then-stays (Good c) _ _ (emit-good c (sent e x) (f .0 .0, f .0 .1, f .1)) (enqueue-good (pos e) x (sent-fits e x (f .0 .0) (f .0 .1) (f .1)))
+  act-good a (send e x) f = then-stays (Good c) _ _ (emit-good c (sent e x) (f .0 .0, f .0 .1, f .1))
+      (enqueue-good (pos e) x (sent-fits e x (f .0 .0) (f .0 .1) (f .1)))
   act-good a (tell x) f = emit-good c (told x) (f .1)
 
   pub acts-good : (a : ℤ) (o : Owner) → Stays (Good c) (perform-all c a o)
@@ -162,7 +185,8 @@ module _ (c : Chart) (h : Sound-chart c) (z : Sized-chart c) where
 
   pub enter-good : (a : ℤ) (s : ℕ) → s < length (c .states) → Stays (Good c) (enter c a s)
   unfolding enter mark-entered
-  enter-good a s l = then-stays (Good c) _ _ (then-stays (Good c) _ _ (emit-good c (entered s) l) (set-active-good c s true)) (acts-good a (entry-of s))
+  enter-good a s l = then-stays (Good c) _ _ (then-stays (Good c) _ _ (emit-good c (entered s) l) (set-active-good c s true))
+      (acts-good a (entry-of s))
 
   pub visit-good : (a : ℤ) (v : Visit) → state-of v < length (c .states) → Stays (Good c) (visit c a v)
   unfolding visit state-of
@@ -178,8 +202,14 @@ module _ (c : Chart) (h : Sound-chart c) (z : Sized-chart c) where
       next = record { state = set-active (suc n) false (k .state); out = k .out; room = k .room }
 
       go : (b : Bool) → is-o (kind-of c (parent-of c (suc n))) ≡ b
-          → Good c (record { state = store-in (cond b (holds (parent-of c (suc n))) empty) (suc n) (set-active (suc n) false (k .state)); out = k .out; room = k .room })
-      go true e = set-slot-good c (parent-of c (suc n)) (suc n) (o-of _ e, parent-child c (parent-of c (suc n)) n refl, l) next (set-active-good c (suc n) false k g)
+          → Good c (record {
+            state = store-in (cond b (holds (parent-of c (suc n))) empty)
+                (suc n) (set-active (suc n) false (k .state));
+            out = k .out;
+            room = k .room;
+          })
+      go true e = set-slot-good c (parent-of c (suc n))
+          (suc n) (o-of _ e, parent-child c (parent-of c (suc n)) n refl, l) next (set-active-good c (suc n) false k g)
       go false e = set-active-good c (suc n) false k g
 
   pub leave-good : (a : ℤ) (s : ℕ) → s < length (c .states) → Stays (Good c) (leave c a s)

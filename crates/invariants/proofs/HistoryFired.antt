@@ -37,23 +37,29 @@ use Rattle.numbers.specs.declared.Place.the-variants.{At as holds, Empty as emp
 -- ---- what the slots reach below an owner that leads on
 
 module _ (c : Chart) (r : Sound-chart c) (sl : List ℤ) (lead : Lead c sl) where
-  next-goes : (p n : ℕ) → parent-of c (suc n) ≡ p → Goes c sl p → (k : Kind) → kind-of c p ≡ k → (x : Slot) → slot-at sl p ≡ x → picks c k (slot-way x) p (suc n) ≡ true → Goes c sl (suc n)
+  next-goes : (p n : ℕ) → parent-of c (suc n) ≡ p → Goes c sl p
+      → (k : Kind) → kind-of c p ≡ k → (x : Slot) → slot-at sl p ≡ x → picks c k (slot-way x) p (suc n) ≡ true → Goes c sl (suc n)
   unfolding picks slot-way
   next-goes p n e g kind-o kx empty sx t = absurd (false≢true t)
   next-goes p n e g kind-o kx (holds d) sx t = subst (Goes c sl) (sym (eqb-true (suc n) d t)) (lead p d sx)
   next-goes p n e g kind-a kx x sx t = goes-component c r sl lead p (suc n) kx (parent-child c p n e) g
   next-goes p n e g kind-b kx x sx t = absurd (no-child-of-b c r p (suc n) kx (parent-child c p n e))
 
-  reached-goes : (b : ℕ) (f : ℕ → Bool) → Reached c (λ x. slot-way (slot-at sl x)) b f → Goes c sl b → (x : ℕ) → Under c b x → f x ≡ true → Goes c sl x
+  reached-goes : (b : ℕ) (f : ℕ → Bool) → Reached c (λ x. slot-way (slot-at sl x)) b f
+      → Goes c sl b → (x : ℕ) → Under c b x → f x ≡ true → Goes c sl x
   reached-goes b f h g x (child {n} e) t =
-      next-goes (parent-of c (suc n)) n refl (subst (Goes c sl) (sym e) g) (kind-of c (parent-of c (suc n))) refl (slot-at sl (parent-of c (suc n))) refl
-      (and-left (picks c (kind-of c (parent-of c (suc n))) (slot-way (slot-at sl (parent-of c (suc n)))) (parent-of c (suc n)) (suc n)) (f (parent-of c (suc n))) (sym (h .step n (child e)) ∙ t))
+      next-goes (parent-of c (suc n)) n refl (subst (Goes c sl) (sym e) g)
+      (kind-of c (parent-of c (suc n))) refl (slot-at sl (parent-of c (suc n))) refl
+      (and-left (picks c (kind-of c (parent-of c (suc n))) (slot-way (slot-at sl (parent-of c (suc n))))
+      (parent-of c (suc n)) (suc n)) (f (parent-of c (suc n))) (sym (h .step n (child e)) ∙ t))
   reached-goes b f h g x (deeper {n} u) t =
       let q = sym (h .step n (deeper u)) ∙ t in
       next-goes (parent-of c (suc n)) n refl
-      (reached-goes b f h g (parent-of c (suc n)) u (and-right (picks c (kind-of c (parent-of c (suc n))) (slot-way (slot-at sl (parent-of c (suc n)))) (parent-of c (suc n)) (suc n)) (f (parent-of c (suc n))) q))
+      (reached-goes b f h g (parent-of c (suc n)) u (and-right (picks c (kind-of c (parent-of c (suc n)))
+      (slot-way (slot-at sl (parent-of c (suc n)))) (parent-of c (suc n)) (suc n)) (f (parent-of c (suc n))) q))
       (kind-of c (parent-of c (suc n))) refl (slot-at sl (parent-of c (suc n))) refl
-      (and-left (picks c (kind-of c (parent-of c (suc n))) (slot-way (slot-at sl (parent-of c (suc n)))) (parent-of c (suc n)) (suc n)) (f (parent-of c (suc n))) q)
+      (and-left (picks c (kind-of c (parent-of c (suc n)))
+      (slot-way (slot-at sl (parent-of c (suc n)))) (parent-of c (suc n)) (suc n)) (f (parent-of c (suc n))) q)
 
 -- ---- the two ways, one after the other
 
@@ -75,7 +81,8 @@ towards-goes c b x e = go (has x (ancestors c b)) e
 
 owner-stops : (c : Chart) (b x : ℕ) → towards-owner c b x ≡ stops → x ≡ b
 unfolding towards-owner
-owner-stops c b x e = ⊎-elim (λ q. q) (λ q. absurd (towards-goes c b x (sym (ap (λ t. cond t stops (towards c b x)) (ne-eqb x b q)) ∙ e))) (same-or x b)
+owner-stops c b x e = ⊎-elim (λ q. q)
+    (λ q. absurd (towards-goes c b x (sym (ap (λ t. cond t stops (towards c b x)) (ne-eqb x b q)) ∙ e))) (same-or x b)
 
 default-way : (sl : List ℤ) (x : ℕ) → restore-way empty sl x ≡ stops → ⊥
 unfolding restore-way
@@ -85,11 +92,13 @@ held-way : (sl : List ℤ) (d x : ℕ) → restore-way (holds d) sl x ≡ stops 
 unfolding restore-way
 held-way sl d x e = e
 
-held-reached : (c : Chart) (sl : List ℤ) (d b : ℕ) (f : ℕ → Bool) → Reached c (restore-way (holds d) sl) b f → Reached c (λ x. slot-way (slot-at sl x)) b f
+held-reached : (c : Chart) (sl : List ℤ) (d b : ℕ) (f : ℕ → Bool)
+    → Reached c (restore-way (holds d) sl) b f → Reached c (λ x. slot-way (slot-at sl x)) b f
 unfolding restore-way
 held-reached c sl d b f h = h
 
-module _ (c : Chart) (r : Sound-chart c) (sl : List ℤ) (ok : Slots-ok c sl) (lead : Lead c sl) (b : ℕ) (l : b < length (c .states)) (kb : kind-of c b ≡ kind-o)
+module _ (c : Chart) (r : Sound-chart c)
+    (sl : List ℤ) (ok : Slots-ok c sl) (lead : Lead c sl) (b : ℕ) (l : b < length (c .states)) (kb : kind-of c b ≡ kind-o)
     (on : ℕ → Bool) (g : Config c on no-hole) (s : ℕ) (ls : s < length (c .states)) (us : Under c s b) (top : on s ≡ true) where
   abbrev way-1 : ℕ → Way
   way-1 = towards-owner c b
@@ -116,7 +125,8 @@ module _ (c : Chart) (r : Sound-chart c) (sl : List ℤ) (ok : Slots-ok c sl) (l
   h2 = reached c way-2 (r .ordered) b
 
   config-1 : Config c on-1 (λ x. x ≡ b)
-  config-1 = legal-stays c r way-1 reach-1 on s no-hole (owner-sound c r b l) h1 g top (λ x. x ≡ b) (λ x i e k w. owner-stops c b x w) (λ x i w. absurd w)
+  config-1 = legal-stays c r way-1 reach-1
+      on s no-hole (owner-sound c r b l) h1 g top (λ x. x ≡ b) (λ x i e k w. owner-stops c b x w) (λ x i w. absurd w)
 
   owner-in : on-1 b ≡ true
   owner-in = fired-under c (r .ordered) on reach-1 s b us ∙ owner-reached c r b l s us
@@ -126,9 +136,11 @@ module _ (c : Chart) (r : Sound-chart c) (sl : List ℤ) (ok : Slots-ok c sl) (l
   unfolding picks towards-owner
   dead x (child {n} e) = h1 .step n (under-trans us (child e)) ∙ off
     where
-      off : (picks c (kind-of c (parent-of c (suc n))) (towards-owner c b (parent-of c (suc n))) (parent-of c (suc n)) (suc n) && reach-1 (parent-of c (suc n))) ≡ false
+      off : (picks c (kind-of c (parent-of c (suc n))) (towards-owner c b (parent-of c (suc n))) (parent-of c (suc n)) (suc n)
+          && reach-1 (parent-of c (suc n))) ≡ false
       off = subst (λ p. (picks c (kind-of c p) (towards-owner c b p) p (suc n) && reach-1 p) ≡ false) (sym e) (rw (kb, eq-eqb b b refl))
-  dead x (deeper {n} u) = h1 .step n (under-trans us (deeper u)) ∙ ap (λ t. picks c (kind-of c (parent-of c (suc n))) (towards-owner c b (parent-of c (suc n))) (parent-of c (suc n)) (suc n) && t) (dead (parent-of c (suc n)) u)
+  dead x (deeper {n} u) = h1 .step n (under-trans us (deeper u)) ∙ ap (λ t. picks c (kind-of c (parent-of c (suc n)))
+      (towards-owner c b (parent-of c (suc n))) (parent-of c (suc n)) (suc n) && t) (dead (parent-of c (suc n)) u)
       ∙ go (picks c (kind-of c (parent-of c (suc n))) (towards-owner c b (parent-of c (suc n))) (parent-of c (suc n)) (suc n))
     where
       go : (t : Bool) → (t && false) ≡ false
@@ -149,16 +161,20 @@ module _ (c : Chart) (r : Sound-chart c) (sl : List ℤ) (ok : Slots-ok c sl) (l
         where
           never : restore-way empty sl x ≡ stops → ⊥
           never p = default-way sl x p
-      by-slot (holds d) q = filled-not-empty c r sl lead (slot-at sl x) (goes-x .child k) (stops-empty (slot-at sl x) (held-way sl d x (subst (λ z. restore-way z sl x ≡ stops) q w)))
+      by-slot (holds d) q = filled-not-empty c r sl lead (slot-at sl x)
+          (goes-x .child k) (stops-empty (slot-at sl x) (held-way sl d x (subst (λ z. restore-way z sl x ≡ stops) q w)))
         where
           goes-x : Goes c sl x
           goes-x = ⊎-elim
               (λ p. subst (Goes c sl) (sym p) (owner-goes c r sl ok lead b l kb d q))
-              (λ u. reached-goes c r sl lead b reach-2 (held-reached c sl d b reach-2 (subst (λ z. Reached c (restore-way z sl) b reach-2) q h2)) (owner-goes c r sl ok lead b l kb d q) x u (sym (fired-under c (r .ordered) on-1 reach-2 b x u) ∙ e))
+              (λ u. reached-goes c r sl lead b reach-2
+              (held-reached c sl d b reach-2 (subst (λ z. Reached c (restore-way z sl) b reach-2) q h2))
+              (owner-goes c r sl ok lead b l kb d q) x u (sym (fired-under c (r .ordered) on-1 reach-2 b x u) ∙ e))
               i
 
   pub history-legal : Config c on-2 no-hole
-  history-legal = legal-stays c r way-2 reach-2 on-1 b (λ x. x ≡ b) (restore-sound c r sl ok lead (slot-at sl b)) h2 config-1 owner-in no-hole goes-2 (λ x i w. i .1 w)
+  history-legal = legal-stays c r way-2 reach-2
+      on-1 b (λ x. x ≡ b) (restore-sound c r sl ok lead (slot-at sl b)) h2 config-1 owner-in no-hole goes-2 (λ x i w. i .1 w)
 
   -- ---- the marks
 
@@ -181,7 +197,8 @@ module _ (c : Chart) (r : Sound-chart c) (sl : List ℤ) (ok : Slots-ok c sl) (l
   -- after the exits, the visits towards the owner and the restore, what is in is the legal configuration
   pub history-marks : (y : ℕ) → (has y entered-1 || ((has b entered-1 && has y entered-2) || left-on c on s y)) ≡ on-2 y
   history-marks y =
-      ap (λ t. has y entered-1 || ((t && has y entered-2) || left-on c on s y)) (entered-under c r way-1 (owner-sound c r b l) s ls b us ∙ owner-reached c r b l s us)
+      ap (λ t. has y entered-1 || ((t && has y entered-2) || left-on c on s y))
+      (entered-under c r way-1 (owner-sound c r b l) s ls b us ∙ owner-reached c r b l s us)
       ∙ or-move (has y entered-1) (has y entered-2) (left-on c on s y)
       ∙ ap (λ t. has y entered-2 || t) (entered-fired c r way-1 (owner-sound c r b l) s ls on y)
       ∙ go (has b (ancestors c y)) refl
@@ -189,7 +206,10 @@ module _ (c : Chart) (r : Sound-chart c) (sl : List ℤ) (ok : Slots-ok c sl) (l
       go : (t : Bool) → has b (ancestors c y) ≡ t → (has y entered-2 || on-1 y) ≡ on-2 y
       go true e =
           let u = has-under c b y e in
-          ap (λ t. has y entered-2 || t) (fired-under c (r .ordered) on reach-1 s y (under-trans us u) ∙ dead y u) ∙ or-none (has y entered-2)
-          ∙ entered-under c r way-2 (restore-sound c r sl ok lead (slot-at sl b)) b l y u ∙ sym (fired-under c (r .ordered) on-1 reach-2 b y u)
+          ap (λ t. has y entered-2 || t) (fired-under c (r .ordered) on reach-1 s y (under-trans us u) ∙ dead y u)
+          ∙ or-none (has y entered-2)
+          ∙ entered-under c r way-2 (restore-sound c r sl ok lead (slot-at sl b)) b l y u
+          ∙ sym (fired-under c (r .ordered) on-1 reach-2 b y u)
       go false e =
-          ap (λ t. t || on-1 y) (entered-not-under c r way-2 (restore-sound c r sl ok lead (slot-at sl b)) b l y e) ∙ sym (fired-elsewhere c on-1 reach-2 b y e)
+          ap (λ t. t || on-1 y) (entered-not-under c r way-2 (restore-sound c r sl ok lead (slot-at sl b)) b l y e)
+          ∙ sym (fired-elsewhere c on-1 reach-2 b y e)

@@ -33,7 +33,8 @@ abbrev pub Gives : {A : Type 0} → Res A → (A → Type 0) → Type 0
 Gives (ok a) P = P a
 Gives (refuse n) P = Fine n
 
-pub gives-bind : {A B : Type 0} (P : A → Type 0) (Q : B → Type 0) (r : Res A) (g : A → Res B) → Gives r P → ((a : A) → P a → Gives (g a) Q) → Gives (bind r g) Q
+pub gives-bind : {A B : Type 0} (P : A → Type 0) (Q : B → Type 0) (r : Res A) (g : A → Res B)
+    → Gives r P → ((a : A) → P a → Gives (g a) Q) → Gives (bind r g) Q
 unfolding bind
 gives-bind P Q (ok a) g h n = n a h
 gives-bind P Q (refuse e) g h n = h
@@ -117,11 +118,14 @@ module _ (Q : State → Type 0) (o : Outside Q) where
   unfolding perform-all perform
   acts-keep c a w = each-keeps Q (perform (c .vars) a) (λ x. act-keeps (var-row (c .vars) (act-var x)) a x) (acts-of c w)
 
-pub enter-leads : (Q R : State → Type 0) → Outside R → (c : Chart) (a : ℤ) (s : ℕ) → ((u : State) → Q u → R (set-active s true u)) → Leads Q R (enter c a s)
+pub enter-leads : (Q R : State → Type 0)
+    → Outside R → (c : Chart) (a : ℤ) (s : ℕ) → ((u : State) → Q u → R (set-active s true u)) → Leads Q R (enter c a s)
 unfolding enter mark-entered
-enter-leads Q R o c a s h = then-leads Q R R _ _ (then-leads Q Q R _ _ (emit-keeps Q _) (change-leads Q R _ h)) (acts-keep R o c a (entry-of s))
+enter-leads Q R o c a s h =
+    then-leads Q R R _ _ (then-leads Q Q R _ _ (emit-keeps Q _) (change-leads Q R _ h)) (acts-keep R o c a (entry-of s))
 
-pub visit-leads : (Q R : State → Type 0) → Outside Q → Outside R → (c : Chart) (a : ℤ) (v : Visit) → ((u : State) → Q u → R (set-active (state-of v) true u)) → Leads Q R (visit c a v)
+pub visit-leads : (Q R : State → Type 0) → Outside Q → Outside R
+    → (c : Chart) (a : ℤ) (v : Visit) → ((u : State) → Q u → R (set-active (state-of v) true u)) → Leads Q R (visit c a v)
 unfolding visit state-of
 visit-leads Q R p o c a (plain s) h = enter-leads Q R o c a s h
 visit-leads Q R p o c a (by-default d s) h = then-leads Q Q R _ _ (acts-keep Q p c a (default-of d)) (enter-leads Q R o c a s h)

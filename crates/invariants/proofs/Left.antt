@@ -51,7 +51,8 @@ module _ (c : Chart) (r : Sound-chart c) (s n : ℕ) (e : suc s + n ≡ length (
       (λ l. l)
       (le-or-lt (suc s + run .k) y)
 
-  begins : (u : State) → Config c (is-active u) no-hole → Lead c (u .slots) → length (c .states) ≤ length (u .slots) → Leaving c (is-active u) s (suc (s + run .k)) u
+  begins : (u : State) → Config c (is-active u) no-hole
+      → Lead c (u .slots) → length (c .states) ≤ length (u .slots) → Leaving c (is-active u) s (suc (s + run .k)) u
   begins u g l w = record {
     lead = l;
     stored = λ y m v o k. absurd (omega (arith, in-run (is-active u) (g .inside) (suc y) v o));
@@ -69,16 +70,22 @@ module _ (c : Chart) (r : Sound-chart c) (s n : ℕ) (e : suc s + n ≡ length (
       go y true q = let v = has-under c s y q in h .off y (omega (arith, under-lt c (r .ordered) v)) v
       go y false q = h .kept y (λ v. true≢false (sym (under-has c (r .ordered) s y v) ∙ q))
 
-  leave-all-by : (a : ℤ) (k : Ctx) → Config c (is-active (k .state)) no-hole → Lead c (k .state .slots) → length (c .states) ≤ length (k .state .slots)
+  leave-all-by : (a : ℤ) (k : Ctx) → Config c (is-active (k .state)) no-hole
+      → Lead c (k .state .slots) → length (c .states) ≤ length (k .state .slots)
       → Gives (leave-all c a (descendants c s) k) (λ j. Left c (is-active (k .state)) s (j .state))
   unfolding leave-all run
   leave-all-by a k g l w =
-      subst (λ xs. Gives (each (leave-active c a) (reverse xs) k) (λ j. Left c (is-active (k .state)) s (j .state))) (sym (sub-kept c (r .ordered) s n e))
+      subst (λ xs. Gives (each (leave-active c a) (reverse xs) k) (λ j. Left c (is-active (k .state)) s (j .state)))
+      (sym (sub-kept c (r .ordered) s n e))
       (subst (λ xs. Gives (each (leave-active c a) xs k) (λ j. Left c (is-active (k .state)) s (j .state))) (sym (reverse-range s (run .k)))
-      (gives-map {A = Ctx} (λ j. Leaving c (is-active (k .state)) s (suc (s + 0)) (j .state)) (λ j. Left c (is-active (k .state)) s (j .state)) (each (leave-active c a) (falling s (run .k)) k)
-      (leaves c r (is-active (k .state)) g s a (run .k) (λ z p q. (has-under c s (suc z) (run .inside (suc z) (omega arith) (omega arith)), omega (arith, run .fits))) k (begins (k .state) g l w))
+      (gives-map {A = Ctx} (λ j. Leaving c (is-active (k .state)) s (suc (s + 0)) (j .state))
+      (λ j. Left c (is-active (k .state)) s (j .state)) (each (leave-active c a) (falling s (run .k)) k)
+      (leaves c r (is-active (k .state)) g s a
+      (run .k) (λ z p q. (has-under c s (suc z) (run .inside (suc z) (omega arith) (omega arith)), omega (arith, run .fits))) k
+      (begins (k .state) g l w))
       (λ j h. ends (is-active (k .state)) (j .state) h)))
 
-pub leave-all-leads : (c : Chart) → Sound-chart c → (a : ℤ) (s : ℕ) → s < length (c .states) → (k : Ctx) → Config c (is-active (k .state)) no-hole → Lead c (k .state .slots) → length (c .states) ≤ length (k .state .slots)
+pub leave-all-leads : (c : Chart) → Sound-chart c → (a : ℤ) (s : ℕ) → s < length (c .states) → (k : Ctx)
+    → Config c (is-active (k .state)) no-hole → Lead c (k .state .slots) → length (c .states) ≤ length (k .state .slots)
     → Gives (leave-all c a (descendants c s) k) (λ j. Left c (is-active (k .state)) s (j .state))
 leave-all-leads c r a s l = leave-all-by c r s (length (c .states) - suc s) (omega arith) a

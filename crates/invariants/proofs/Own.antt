@@ -94,8 +94,10 @@ module _ (c : Chart) (r : Sound-chart c) (z : Sized-chart c) where
   whole-own k w = record {
     sized = w .1 .sized;
     started = w .1 .started;
-    is-own = and-both (legal c (k .state)) _ (legal-of c r (k .state) (w .0 .config)) (and-both (marks-fit (length (c .states)) (k .state)) _ (marks-legal c r (k .state) (w .0 .config))
-        (and-both (values-fit (c .vars) (k .state .vars)) _ (values-fit-of (c .vars) (k .state .vars) (omega (arith, z .vars, w .1 .sized .vars)) (w .1 .values))
+    is-own = and-both (legal c (k .state)) _ (legal-of c r (k .state) (w .0 .config))
+        (and-both (marks-fit (length (c .states)) (k .state)) _ (marks-legal c r (k .state) (w .0 .config))
+        (and-both (values-fit (c .vars) (k .state .vars)) _
+        (values-fit-of (c .vars) (k .state .vars) (omega (arith, z .vars, w .1 .sized .vars)) (w .1 .values))
         (and-both (slots-fit c (k .state)) _ (slots-fit-of c (k .state) (w .1 .slots) (w .0 .lead)) (w .1 .queue))));
   }
 
@@ -106,11 +108,13 @@ replicate-same zero i d = refl
 replicate-same (suc n) zero d = refl
 replicate-same (suc n) (suc i) d = replicate-same n i d
 
-first-values : (vs : List VarRow) (m : ℕ) → ((v : ℕ) → v < length vs → (leZ (var-row vs v .low) (var-row vs v .first) ≡ true) × (leZ (var-row vs v .first) (var-row vs v .high) ≡ true))
+first-values : (vs : List VarRow) (m : ℕ) → ((v : ℕ) → v < length vs
+    → (leZ (var-row vs v .low) (var-row vs v .first) ≡ true) × (leZ (var-row vs v .first) (var-row vs v .high) ≡ true))
     → Values vs (map (λ x. x .first) vs ++ replicate m (pos 0))
 unfolding within-row var-row
 first-values vs m h = record {
-  inside = λ v l. subst (λ x. within-row (getD vs v no-var) x ≡ true) (sym (at v l)) (and-both (leZ (getD vs v no-var .low) (getD vs v no-var .first)) _ (h v l .0) (h v l .1));
+  inside = λ v l. subst (λ x. within-row (getD vs v no-var) x ≡ true) (sym (at v l))
+      (and-both (leZ (getD vs v no-var .low) (getD vs v no-var .first)) _ (h v l .0) (h v l .1));
   outside = λ v l. past v l;
 }
   where
@@ -126,9 +130,11 @@ first-values vs m h = record {
     past : (v : ℕ) → length vs ≤ v → getD (firsts ++ replicate m (pos 0)) v (pos 0) ≡ pos 0
     past v l =
         let e : v ≡ length firsts + (v - length firsts) = omega (arith, long) in
-        ap (λ i. getD (firsts ++ replicate m (pos 0)) i (pos 0)) e ∙ getD-append-add firsts (replicate m (pos 0)) (v - length firsts) (pos 0) ∙ replicate-same m (v - length firsts) (pos 0)
+        ap (λ i. getD (firsts ++ replicate m (pos 0)) i (pos 0)) e
+        ∙ getD-append-add firsts (replicate m (pos 0)) (v - length firsts) (pos 0) ∙ replicate-same m (v - length firsts) (pos 0)
 
-padded-long : (vs : List VarRow) (n : ℕ) → length vs ≤ n → length (map (λ x. x .first) vs ++ replicate (n - length (map (λ x. x .first) vs)) (pos 0)) ≡ n
+padded-long : (vs : List VarRow) (n : ℕ)
+    → length vs ≤ n → length (map (λ x. x .first) vs ++ replicate (n - length (map (λ x. x .first) vs)) (pos 0)) ≡ n
 padded-long vs n l =
     length-append (map (λ x. x .first) vs) (replicate (n - length (map (λ x. x .first) vs)) (pos 0))
     ∙ ap (λ i. length (map (λ x. x .first) vs) + i) (length-replicate (n - length (map (λ x. x .first) vs)) (pos 0)) ∙ total
@@ -141,7 +147,12 @@ module _ (c : Chart) (r : Sound-chart c) (z : Sized-chart c) where
   unfolding begin fresh padded empty-queue
   fresh-good n = record {
     started = refl;
-    sized = record { active = length-replicate STATES false; slots = length-replicate STATES (negsuc 0); vars = padded-long (c .vars) VARIABLES (z .vars); items = length-replicate QUEUE none-item };
+    sized = record {
+      active = length-replicate STATES false;
+      slots = length-replicate STATES (negsuc 0);
+      vars = padded-long (c .vars) VARIABLES (z .vars);
+      items = length-replicate QUEUE none-item;
+    };
     values = first-values (c .vars) (VARIABLES - length (map (λ x. x .first) (c .vars))) (r .rows);
     queue = empty-fits (c .events);
     slots = λ s. subst (Slot-ok c s) (sym (replicate-same STATES s (negsuc 0))) refl;
@@ -159,7 +170,11 @@ module _ (c : Chart) (r : Sound-chart c) (z : Sized-chart c) where
 
   pub fresh-marks : (n : ℕ) → Marks c no-slots (λ y. false) (begin (fresh c) n .state)
   unfolding begin fresh is-active
-  fresh-marks n = record { marks = λ y. replicate-same STATES y false; slots = refl; wide = subst (λ i. length (c .states) ≤ i) (sym (length-replicate STATES false)) (z .states) }
+  fresh-marks n = record {
+    marks = λ y. replicate-same STATES y false;
+    slots = refl;
+    wide = subst (λ i. length (c .states) ≤ i) (sym (length-replicate STATES false)) (z .states);
+  }
 
 -- ---- the root alone, a configuration with a hole at the root
 
@@ -176,7 +191,8 @@ root-only c r = record {
 root-left : (c : Chart) → Sound-chart c → (y : ℕ) → (eqb y 0 || false) ≡ left-on c (λ x. eqb x 0) 0 y
 unfolding left-on ancestors climb has
 root-left c r zero = refl
-root-left c r (suc n) = ap (λ t. t || false) (ne-eqb (suc n) 0 (λ q. omega arith)) ∙ sym (ap (λ t. cond t false (eqb (suc n) 0)) (under-has c (r .ordered) 0 (suc n) (root-above c (r .ordered) (suc n) (omega arith))))
+root-left c r (suc n) = ap (λ t. t || false) (ne-eqb (suc n) 0 (λ q. omega arith)) ∙ sym
+    (ap (λ t. cond t false (eqb (suc n) 0)) (under-has c (r .ordered) 0 (suc n) (root-above c (r .ordered) (suc n) (omega arith))))
 
 module _ (c : Chart) (r : Sound-chart c) (z : Sized-chart c) where
   abbrev reach-0 : ℕ → Bool
@@ -187,22 +203,34 @@ module _ (c : Chart) (r : Sound-chart c) (z : Sized-chart c) where
 
   start-legal : Config c (fired c (λ y. eqb y 0) reach-0 0) no-hole
   unfolding by-defaults
-  start-legal = legal-stays c r by-defaults reach-0 (λ y. eqb y 0) 0 (λ x. x ≡ 0) (defaults-sound c r) (reached c by-defaults (r .ordered) 0) (root-only c r) (eq-eqb 0 0 refl) no-hole
+  start-legal = legal-stays c r by-defaults reach-0 (λ y. eqb y 0) 0
+      (λ x. x ≡ 0) (defaults-sound c r) (reached c by-defaults (r .ordered) 0) (root-only c r) (eq-eqb 0 0 refl) no-hole
       (λ x i e k w. let y : _≡_ {A = ℕ} 0 1 = cc in absurd (omega arith)) (λ x i w. i .1 w)
 
-  start-marks : (y : ℕ) → with-all (map state-of (all-below c by-defaults 0)) (with-state 0 (λ x. false)) y ≡ fired c (λ x. eqb x 0) reach-0 0 y
-  start-marks y = ap (λ t. has y (map state-of (all-below c by-defaults 0)) || t) (root-left c r y) ∙ entered-fired c r by-defaults (defaults-sound c r) 0 inside-0 (λ x. eqb x 0) y
+  start-marks : (y : ℕ)
+      → with-all (map state-of (all-below c by-defaults 0)) (with-state 0 (λ x. false)) y ≡ fired c (λ x. eqb x 0) reach-0 0 y
+  start-marks y = ap (λ t. has y (map state-of (all-below c by-defaults 0)) || t) (root-left c r y)
+      ∙ entered-fired c r by-defaults (defaults-sound c r) 0 inside-0 (λ x. eqb x 0) y
 
   -- the root and its defaults entered: a state that is the chart's own
-  pub start-enters : (n : ℕ) → Gives (bind (enter c (pos 0) 0 (begin (fresh c) n)) (each (visit c (pos 0)) (all-below c by-defaults 0))) (Whole c)
+  pub start-enters : (n : ℕ)
+      → Gives (bind (enter c (pos 0) 0 (begin (fresh c) n)) (each (visit c (pos 0)) (all-below c by-defaults 0))) (Whole c)
   start-enters n =
       gives-bind At-root (Whole c) (enter c (pos 0) 0 k) (each (visit c (pos 0)) vs)
       (gives-holds (λ j. Marks c sl (with-state 0 (λ y. false)) (j .state)) (Good c) (enter c (pos 0) 0 k)
-      (enter-marks c sl (pos 0) 0 inside-0 (λ y. false) k (fresh-marks c r z n)) (enter-good c r z (pos 0) 0 inside-0 k (fresh-good c r z n)))
-      (λ j p. gives-map {A = Ctx} (λ i. Marks c sl (with-all (map state-of vs) (with-state 0 (λ y. false))) (i .state) × Good c i) (Whole c) (each (visit c (pos 0)) vs j)
-      (gives-holds (λ i. Marks c sl (with-all (map state-of vs) (with-state 0 (λ y. false))) (i .state)) (Good c) (each (visit c (pos 0)) vs j)
-      (visits-mark c sl (pos 0) vs inside (with-state 0 (λ y. false)) j (p .0)) (each-stays (Good c) (visit c (pos 0)) (λ v. state-of v < length (c .states)) (visit-good c r z (pos 0)) vs inside j (p .1)))
-      (λ i q. (stands c sl (with-all (map state-of vs) (with-state 0 (λ y. false))) (fired c (λ y. eqb y 0) reach-0 0) (fresh-lead c r z) start-legal start-marks (i .state) (q .0), q .1)))
+      (enter-marks c sl (pos 0) 0 inside-0 (λ y. false) k (fresh-marks c r z n))
+      (enter-good c r z (pos 0) 0 inside-0 k (fresh-good c r z n)))
+      (λ j p. gives-map {A = Ctx} (λ i. Marks c sl (with-all (map state-of vs) (with-state 0 (λ y. false))) (i .state) × Good c i)
+      (Whole c) (each (visit c (pos 0)) vs j)
+      (gives-holds (λ i. Marks c sl (with-all (map state-of vs) (with-state 0 (λ y. false))) (i .state))
+      (Good c) (each (visit c (pos 0)) vs j)
+      (visits-mark c sl (pos 0) vs inside (with-state 0 (λ y. false)) j (p .0))
+      (each-stays (Good c) (visit c (pos 0)) (λ v. state-of v < length (c .states)) (visit-good c r z (pos 0)) vs inside j (p .1)))
+      (λ i q. (
+        stands c sl (with-all (map state-of vs) (with-state 0 (λ y. false))) (fired c (λ y. eqb y 0) reach-0 0)
+            (fresh-lead c r z) start-legal start-marks (i .state) (q .0),
+        q .1,
+      )))
     where
       k : Ctx
       k = begin (fresh c) n

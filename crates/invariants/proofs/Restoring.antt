@@ -8,7 +8,8 @@ use mathlib.Core.List.{List, [], _∷_, map}
 use lib.ListN.{length}
 use lib.Dec.{eqb}
 use lib.IntN.{ℤ}
-use Rattle.invariants.proofs.Entering.{Marks, Restorable, below-fine, each-marks, marks-same, revisit-marks, visit-marks, visits-mark, with-all, with-state}
+use Rattle.invariants.proofs.Entering.{Marks, Restorable, below-fine, each-marks, marks-same, revisit-marks, visit-marks}
+use Rattle.invariants.proofs.Entering.{visits-mark, with-all, with-state}
 use Rattle.invariants.proofs.Enters.{eqb-sym}
 use Rattle.invariants.proofs.GoodReaction.{below-inside}
 use Rattle.invariants.proofs.Keeps.{Gives, Leads, gives-bind, gives-map, then-leads}
@@ -19,7 +20,8 @@ use Rattle.laws.proofs.Lists.{each-both}
 use Rattle.laws.proofs.Rules.{not-o-of-a, not-o-of-b}
 use Rattle.laws.proofs.Sound.{Sound-chart, child-inside, every-child}
 use Rattle.meaning.specs.Chart.{Chart}
-use Rattle.meaning.specs.Entry.{Visit, Way, all-below, below, by-defaults, by-slots, defaults, on-to, restore, restore-by, revisit, slot-way, state-of}
+use Rattle.meaning.specs.Entry.{Visit, Way, all-below, below, by-defaults, by-slots, defaults, on-to, restore, restore-by}
+use Rattle.meaning.specs.Entry.{revisit, slot-way, state-of}
 use Rattle.meaning.specs.Entry.{visit, visit-towards}
 use Rattle.meaning.specs.Lists.{every, has}
 use Rattle.meaning.specs.Steps.{_then_, each, look, ok, when}
@@ -64,7 +66,12 @@ module _ (c : Chart) (r : Sound-chart c) (sl : List ℤ) (ok : Slots-ok c sl) (l
       not-by (holds d) e = let z : _≡_ {A = ℕ} 0 1 = cc in omega arith
 
   defaults-way-sound : Sound c (λ x. defaults)
-  defaults-way-sound = record { ordered = r .ordered; on = λ s d k e. let z : _≡_ {A = ℕ} 0 1 = cc in absurd (omega arith); by = λ s k e. r .default s k; leaf = r .leaf }
+  defaults-way-sound = record {
+    ordered = r .ordered;
+    on = λ s d k e. let z : _≡_ {A = ℕ} 0 1 = cc in absurd (omega arith);
+    by = λ s k e. r .default s k;
+    leaf = r .leaf;
+  }
 
   pub restore-sound : (x : Slot) → Sound c (restore-way x sl)
   unfolding restore-way
@@ -83,18 +90,24 @@ module _ (c : Chart) (r : Sound-chart c) (sl : List ℤ) (ok : Slots-ok c sl) (l
     restored = map state-of (all-below c (restore-way (slot-at sl b) sl) b)
 
     restore-by-marks : (a : ℤ) (on : ℕ → Bool) (k : Ctx) → Marks c sl on (k .state) → (x : Slot) → slot-at sl b ≡ x
-        → Gives (restore-by c a b (k .state) x k) (λ j. Marks c sl (with-all (map state-of (all-below c (restore-way x sl) b)) on) (j .state))
+        → Gives (restore-by c a b (k .state) x k)
+        (λ j. Marks c sl (with-all (map state-of (all-below c (restore-way x sl) b)) on) (j .state))
     unfolding restore-by restore-way by-defaults all-below by-slots slot
-    restore-by-marks a on k h empty e = visits-mark c sl a (all-below c (λ x. defaults) b) (below-inside c r (λ x. defaults) defaults-way-sound b l) on k h
+    restore-by-marks a on k h empty e =
+        visits-mark c sl a (all-below c (λ x. defaults) b) (below-inside c r (λ x. defaults) defaults-way-sound b l) on k h
     restore-by-marks a on k h (holds d) e =
-        subst (λ w. Gives (each (revisit c a) (below c (λ x. slot-way (slot-at w x)) (length (c .states)) b) k) (λ j. Marks c sl (with-all (map state-of (below c (λ x. slot-way (slot-at sl x)) (length (c .states)) b)) on) (j .state))) (sym (h .slots))
-        (each-marks c sl (revisit c a) (λ v. (state-of v < length (c .states)) × Restorable c sl (state-of v)) (revisit-marks c r sl lead a) (below c (λ x. slot-way (slot-at sl x)) (length (c .states)) b)
-        (each-both _ _ _ (below-inside c r (λ x. slot-way (slot-at sl x)) slots-way-sound b l) (below-fine c r sl lead (length (c .states)) b (owner-goes d e))) on k h)
+        subst (λ w. Gives (each (revisit c a) (below c (λ x. slot-way (slot-at w x)) (length (c .states)) b) k) (λ j. Marks c sl
+        (with-all (map state-of (below c (λ x. slot-way (slot-at sl x)) (length (c .states)) b)) on) (j .state))) (sym (h .slots))
+        (each-marks c sl (revisit c a) (λ v. (state-of v < length (c .states)) × Restorable c sl (state-of v))
+        (revisit-marks c r sl lead a) (below c (λ x. slot-way (slot-at sl x)) (length (c .states)) b)
+        (each-both _ _ _ (below-inside c r (λ x. slot-way (slot-at sl x)) slots-way-sound b l)
+        (below-fine c r sl lead (length (c .states)) b (owner-goes d e))) on k h)
 
     pub restore-marks : (a : ℤ) (on : ℕ → Bool) → Leads (Marks c sl on) (Marks c sl (with-all restored on)) (restore c a b)
     unfolding restore look slot
     restore-marks a on k h =
-        subst (λ w. Gives (restore-by c a b (k .state) (slot-at w b) k) (λ j. Marks c sl (with-all restored on) (j .state))) (sym (h .slots))
+        subst (λ w. Gives (restore-by c a b (k .state) (slot-at w b) k) (λ j. Marks c sl (with-all restored on) (j .state)))
+        (sym (h .slots))
         (restore-by-marks a on k h (slot-at sl b) refl)
 
     -- ---- what the visits towards the owner mark
@@ -130,10 +143,13 @@ module _ (c : Chart) (r : Sound-chart c) (sl : List ℤ) (ok : Slots-ok c sl) (l
     owner-off false false false o = refl
 
     one-towards : (a : ℤ) (v : Visit) → state-of v < length (c .states) → (on : ℕ → Bool) (t : Bool) → eqb (state-of v) b ≡ t
-        → Leads (Marks c sl on) (Marks c sl (λ y. (t && has y restored) || with-state (state-of v) on y)) (visit c a v then when t (restore c a b))
+        → Leads (Marks c sl on) (Marks c sl (λ y. (t && has y restored) || with-state (state-of v) on y))
+        (visit c a v then when t (restore c a b))
     unfolding when
-    one-towards a v m on true e = then-leads (Marks c sl on) (Marks c sl (with-state (state-of v) on)) _ _ _ (visit-marks c sl a v m on) (restore-marks a (with-state (state-of v) on))
-    one-towards a v m on false e = then-leads (Marks c sl on) (Marks c sl (with-state (state-of v) on)) _ _ _ (visit-marks c sl a v m on) (λ k h. h)
+    one-towards a v m on true e = then-leads (Marks c sl on)
+        (Marks c sl (with-state (state-of v) on)) _ _ _ (visit-marks c sl a v m on) (restore-marks a (with-state (state-of v) on))
+    one-towards a v m on false e =
+        then-leads (Marks c sl on) (Marks c sl (with-state (state-of v) on)) _ _ _ (visit-marks c sl a v m on) (λ k h. h)
 
     towards-same : (v : Visit) (xs : List ℕ) (on : ℕ → Bool) (t : Bool) → eqb (state-of v) b ≡ t → (y : ℕ)
         → with-restore xs (λ i. (t && has i restored) || with-state (state-of v) on i) y ≡ with-restore (state-of v ∷ xs) on y
@@ -148,9 +164,12 @@ module _ (c : Chart) (r : Sound-chart c) (sl : List ℤ) (ok : Slots-ok c sl) (l
     unfolding each has visit-towards
     towards-marks a [] none-left on k h = h
     towards-marks a (v ∷ vs) (one-more m ms) on k h =
-        gives-bind (λ j. Marks c sl (next (eqb (state-of v) b)) (j .state)) (λ j. Marks c sl (with-restore (state-of v ∷ map state-of vs) on) (j .state))
-        ((visit c a v then when (eqb (state-of v) b) (restore c a b)) k) (each (visit-towards c a b) vs) (one-towards a v m on (eqb (state-of v) b) refl k h)
-        (λ j g. gives-map {A = Ctx} (λ i. Marks c sl (with-restore (map state-of vs) (next (eqb (state-of v) b))) (i .state)) (λ i. Marks c sl (with-restore (state-of v ∷ map state-of vs) on) (i .state)) (each (visit-towards c a b) vs j)
+        gives-bind (λ j. Marks c sl (next (eqb (state-of v) b)) (j .state))
+        (λ j. Marks c sl (with-restore (state-of v ∷ map state-of vs) on) (j .state))
+        ((visit c a v then when (eqb (state-of v) b) (restore c a b)) k)
+        (each (visit-towards c a b) vs) (one-towards a v m on (eqb (state-of v) b) refl k h)
+        (λ j g. gives-map {A = Ctx} (λ i. Marks c sl (with-restore (map state-of vs) (next (eqb (state-of v) b))) (i .state))
+        (λ i. Marks c sl (with-restore (state-of v ∷ map state-of vs) on) (i .state)) (each (visit-towards c a b) vs j)
         (towards-marks a vs ms (next (eqb (state-of v) b)) j g)
         (λ i w. marks-same c sl _ _ (i .state) (towards-same v (map state-of vs) on (eqb (state-of v) b) refl) w))
       where

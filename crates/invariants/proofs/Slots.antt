@@ -43,7 +43,8 @@ pub same-held : (x y : ℕ) → holds x ≡ holds y → x ≡ y
 same-held x y e = cc
 
 -- what a slot holds is a child of its o state
-pub slot-child : (c : Chart) (sl : List ℤ) → Slots-ok c sl → (s d : ℕ) → slot-at sl s ≡ holds d → (kind-of c s ≡ kind-o) × (is-child c s d ≡ true) × (d < length (c .states))
+pub slot-child : (c : Chart) (sl : List ℤ) → Slots-ok c sl
+    → (s d : ℕ) → slot-at sl s ≡ holds d → (kind-of c s ≡ kind-o) × (is-child c s d ≡ true) × (d < length (c .states))
 slot-child c sl h s d e = go (getD sl s (negsuc 0)) (h s) e
   where
     go : (z : ℤ) → Slot-ok c s z → as-slot z ≡ holds d → (kind-of c s ≡ kind-o) × (is-child c s d ≡ true) × (d < length (c .states))
@@ -68,8 +69,12 @@ module _ (c : Chart) (h : Sound-chart c) (u : State) where
   fits-ok s (pos d) e =
       let r2 = is-child c s d && leads-on c u (kind-of c d) d in
       let r1 = is-o (kind-of c s) && r2 in
-      let f = and-right (ltb d (length (c .states))) r1 e in
-      (o-of _ (and-left (is-o (kind-of c s)) r2 f), and-left (is-child c s d) (leads-on c u (kind-of c d) d) (and-right (is-o (kind-of c s)) r2 f), ltb-true _ _ (and-left (ltb d (length (c .states))) r1 e))
+      let f = and-right (ltb d (length (c .states))) r1 e in (
+        o-of _ (and-left (is-o (kind-of c s)) r2 f),
+        and-left (is-child c s d) (leads-on c u (kind-of c d) d)
+            (and-right (is-o (kind-of c s)) r2 f),
+        ltb-true _ _ (and-left (ltb d (length (c .states))) r1 e),
+      )
   fits-ok s (negsuc n) e = eqb-true n 0 e
 
   fits-leads : (s d : ℕ) (z : ℤ) → slot-fits c u s z ≡ true → as-slot z ≡ holds d → leads-on c u (kind-of c d) d ≡ true
@@ -77,7 +82,8 @@ module _ (c : Chart) (h : Sound-chart c) (u : State) where
   fits-leads s d (pos x) e q =
       let r2 = is-child c s x && leads-on c u (kind-of c x) x in
       let r1 = is-o (kind-of c s) && r2 in
-      let p = and-right (is-child c s x) (leads-on c u (kind-of c x) x) (and-right (is-o (kind-of c s)) r2 (and-right (ltb x (length (c .states))) r1 e)) in
+      let p = and-right (is-child c s x) (leads-on c u (kind-of c x) x)
+      (and-right (is-o (kind-of c s)) r2 (and-right (ltb x (length (c .states))) r1 e)) in
       subst (λ y. leads-on c u (kind-of c y) y ≡ true) (same-held x d q) p
   fits-leads s d (negsuc n) e q = let z : _≡_ {A = ℕ} 0 1 = cc in absurd (omega arith)
 
@@ -115,4 +121,5 @@ module _ (c : Chart) (u : State) (k : Slots-ok c (u .slots)) (g : Lead c (u .slo
 
   pub slots-fit-of : slots-fit c u ≡ true
   unfolding slots-fit
-  slots-fit-of = range-every (λ s. slot-fits c u s (getD (u .slots) s (negsuc 0))) 0 STATES (λ s a b. ok-fits s (getD (u .slots) s (negsuc 0)) (k s) (g s))
+  slots-fit-of = range-every (λ s. slot-fits c u s (getD (u .slots) s (negsuc 0))) 0
+      STATES (λ s a b. ok-fits s (getD (u .slots) s (negsuc 0)) (k s) (g s))

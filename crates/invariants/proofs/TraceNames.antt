@@ -19,7 +19,8 @@ use Rattle.meaning.specs.Value.{chart-of}
 use Rattle.meaning.specs.declared.State.{State}
 
 module _ (v : List ℤ) where
-  lived-names : (xs : List Call) (u : State) → Lived (chart-of v) u → every (all-named (of-chart (chart-of v))) (traces (make-of v) xs u) ≡ true
+  lived-names : (xs : List Call) (u : State)
+      → Lived (chart-of v) u → every (all-named (of-chart (chart-of v))) (traces (make-of v) xs u) ≡ true
   unfolding every traces
   lived-names [] u l = refl
   lived-names (x ∷ xs) u l =
@@ -41,7 +42,8 @@ module _ (v : List ℤ) where
   done-is-own x u l e = let h = make-of-answered v u l x .done e in (h .started, h .is-own)
 
   -- every list of calls from any lent state whatsoever
-  pub every-trace-names-from : (xs : List Call) (u : State) → Sized u → every (all-named (of-chart (chart-of v))) (traces (make-of v) xs u) ≡ true
+  pub every-trace-names-from : (xs : List Call) (u : State)
+      → Sized u → every (all-named (of-chart (chart-of v))) (traces (make-of v) xs u) ≡ true
   unfolding every traces
   every-trace-names-from [] u l = refl
   every-trace-names-from (x ∷ xs) u l =

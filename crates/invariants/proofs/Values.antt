@@ -33,7 +33,8 @@ use Rattle.queue.specs.declared.Queue.{Queue}
 use Rattle.sizes.specs.Sizes.{QUEUE}
 
 zeros : (xs : List ℤ) → every (eqZ (pos 0)) xs ≡ true → (v : ℕ) → getD xs v (pos 0) ≡ pos 0
-zeros xs e v = ⊎-elim (λ l. List·getD-eq-default xs (pos 0) l) (λ l. sym (eqZ-true _ _ (every-at (eqZ (pos 0)) xs e v l (pos 0)))) (le-or-lt (length xs) v)
+zeros xs e v = ⊎-elim (λ l. List·getD-eq-default xs (pos 0) l)
+    (λ l. sym (eqZ-true _ _ (every-at (eqZ (pos 0)) xs e v l (pos 0)))) (le-or-lt (length xs) v)
 
 pub values-of : (vs : List VarRow) (xs : List ℤ) → values-fit vs xs ≡ true → Values vs xs
 unfolding values-fit var-row
@@ -54,16 +55,20 @@ values-of (r ∷ vs) (x ∷ xs) e = go (values-of vs xs (and-right (within-row r
 
 pub values-fit-of : (vs : List VarRow) (xs : List ℤ) → length vs ≤ length xs → Values vs xs → values-fit vs xs ≡ true
 unfolding values-fit var-row
-values-fit-of [] xs l h = at-every (eqZ (pos 0)) xs (pos 0) (λ v m. subst (λ z. eqZ (pos 0) z ≡ true) (sym (h .outside v (omega arith))) (eqZ-refl (pos 0)))
+values-fit-of [] xs l h = at-every (eqZ (pos 0))
+    xs (pos 0) (λ v m. subst (λ z. eqZ (pos 0) z ≡ true) (sym (h .outside v (omega arith))) (eqZ-refl (pos 0)))
 values-fit-of (r ∷ vs) [] l h = absurd (omega arith)
 values-fit-of (r ∷ vs) (x ∷ xs) l h = and-both (within-row r x) (values-fit vs xs) (h .inside 0 (omega arith))
-    (values-fit-of vs xs (omega arith) (record { inside = λ v m. h .inside (suc v) (omega arith); outside = λ v m. h .outside (suc v) (omega arith) }))
+    (values-fit-of vs xs (omega arith)
+    (record { inside = λ v m. h .inside (suc v) (omega arith); outside = λ v m. h .outside (suc v) (omega arith) }))
 
 -- a variable takes a value of its row
-pub values-set : (vs : List VarRow) (xs : List ℤ) (v : ℕ) (x : ℤ) → v < length vs → length vs ≤ length xs → within-row (var-row vs v) x ≡ true → Values vs xs → Values vs (set xs v x)
+pub values-set : (vs : List VarRow) (xs : List ℤ) (v : ℕ) (x : ℤ)
+    → v < length vs → length vs ≤ length xs → within-row (var-row vs v) x ≡ true → Values vs xs → Values vs (set xs v x)
 values-set vs xs v x l m e h = record {
   inside = λ w k. ⊎-elim
-      (λ q. subst (λ y. within-row (var-row vs y) (getD (set xs v x) y (pos 0)) ≡ true) (sym q) (subst (λ y. within-row (var-row vs v) y ≡ true) (sym (getD-set-same xs v x (pos 0) (omega arith))) e))
+      (λ q. subst (λ y. within-row (var-row vs y) (getD (set xs v x) y (pos 0)) ≡ true) (sym q)
+      (subst (λ y. within-row (var-row vs v) y ≡ true) (sym (getD-set-same xs v x (pos 0) (omega arith))) e))
       (λ q. subst (λ y. within-row (var-row vs w) y ≡ true) (sym (getD-set-other xs v w x (pos 0) q)) (h .inside w k))
       (same-or w v);
   outside = λ w k. getD-set-other xs v w x (pos 0) (λ q. omega arith) ∙ h .outside w k;
@@ -91,7 +96,8 @@ module _ (n : ℕ) (q : Queue) (h : queue-fits n q ≡ true) where
   pub fits-free : every is-none (drop (q .len) (q .items)) ≡ true
   fits-free = and-right (every (item-fits n) (waiting q)) (every is-none (drop (q .len) (q .items))) fits-rest
 
-pub fits-queue : (n : ℕ) (q : Queue) → q .len ≤ QUEUE → every (item-fits n) (waiting q) ≡ true → every is-none (drop (q .len) (q .items)) ≡ true → queue-fits n q ≡ true
+pub fits-queue : (n : ℕ) (q : Queue) → q .len ≤ QUEUE
+    → every (item-fits n) (waiting q) ≡ true → every is-none (drop (q .len) (q .items)) ≡ true → queue-fits n q ≡ true
 unfolding queue-fits
 fits-queue n q l w f = and-both (leb (q .len) QUEUE) _ (le-leb _ _ l) (and-both (every (item-fits n) (waiting q)) _ w f)
 
@@ -101,7 +107,8 @@ none-is = refl
 
 pub empty-fits : (n : ℕ) → queue-fits n empty-queue ≡ true
 unfolding empty-queue every
-empty-fits n = fits-queue n empty-queue (omega arith) (subst (λ w. every (item-fits n) w ≡ true) (sym empty-waits) refl) (every-replicate is-none QUEUE none-item none-is)
+empty-fits n = fits-queue n empty-queue (omega arith)
+    (subst (λ w. every (item-fits n) w ≡ true) (sym empty-waits) refl) (every-replicate is-none QUEUE none-item none-is)
 
 module _ (n : ℕ) (q : Queue) (h : queue-fits n q ≡ true) (l : length (q .items) ≡ QUEUE) where
   -- an append to a queue with room
@@ -142,10 +149,12 @@ module _ (n : ℕ) (q : Queue) (h : queue-fits n q ≡ true) (l : length (q .ite
       len = subst (λ x. x .queue .len ≤ QUEUE) (sym (removed-front q m k)) (omega (arith, k))
 
       waits : every (item-fits n) (waiting (removed q .queue)) ≡ true
-      waits = subst (λ w. every (item-fits n) w ≡ true) (sym (removed-waits q m k l)) (every-drop-1 (item-fits n) (waiting q) (fits-waiting n q h))
+      waits = subst (λ w. every (item-fits n) w ≡ true) (sym (removed-waits q m k l))
+          (every-drop-1 (item-fits n) (waiting q) (fits-waiting n q h))
 
       shift : drop (q .len - 1) (shifted (q .items)) ≡ drop (q .len) (q .items) ++ (none-item ∷ [])
-      shift = drop-append-le (q .len - 1) (drop 1 (q .items)) (none-item ∷ []) (subst (λ x. q .len - 1 ≤ x) (sym (length-drop 1 (q .items))) (omega (arith, k, l)))
+      shift = drop-append-le (q .len - 1) (drop 1 (q .items))
+          (none-item ∷ []) (subst (λ x. q .len - 1 ≤ x) (sym (length-drop 1 (q .items))) (omega (arith, k, l)))
           ∙ ap (λ w. w ++ (none-item ∷ [])) (drop-drop (q .len - 1) 1 (q .items) ∙ ap (λ i. drop i (q .items)) one-off)
         where
           one-off : 1 + (q .len - 1) ≡ q .len
@@ -153,4 +162,5 @@ module _ (n : ℕ) (q : Queue) (h : queue-fits n q ≡ true) (l : length (q .ite
 
       free : every is-none (drop (removed q .queue .len) (removed q .queue .items)) ≡ true
       free = subst (λ x. every is-none (drop (x .queue .len) (x .queue .items)) ≡ true) (sym (removed-front q m k))
-          (subst (λ w. every is-none w ≡ true) (sym shift) (every-append is-none (drop (q .len) (q .items)) (none-item ∷ []) (fits-free n q h) (and-both (is-none none-item) true none-is refl)))
+          (subst (λ w. every is-none w ≡ true) (sym shift) (every-append is-none
+          (drop (q .len) (q .items)) (none-item ∷ []) (fits-free n q h) (and-both (is-none none-item) true none-is refl)))

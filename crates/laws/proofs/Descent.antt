@@ -45,16 +45,19 @@ module _ {A B : Type 0} where
   keep-concat-map p g [] = refl
   keep-concat-map p g (x ∷ xs) = keep-append p (g x) (concat-map g xs) ∙ ap (λ l. keep p (g x) ++ l) (keep-concat-map p g xs)
 
-none-from : {B : Type 0} (g : ℕ → List B) (p : ℕ → Bool) (a n : ℕ) → ((x : ℕ) → a ≤ x → p x ≡ true → g x ≡ []) → concat-map g (keep p (from a n)) ≡ []
+none-from : {B : Type 0} (g : ℕ → List B) (p : ℕ → Bool) (a n : ℕ)
+    → ((x : ℕ) → a ≤ x → p x ≡ true → g x ≡ []) → concat-map g (keep p (from a n)) ≡ []
 unfolding concat-map keep from
 none-from g p a zero h = refl
 none-from {B} g p a (suc n) h = go (p a) refl (none-from g p (suc a) n (λ x l. h x (omega arith)))
   where
-    go : (b : Bool) → p a ≡ b → concat-map g (keep p (from (suc a) n)) ≡ [] → concat-map g (cond b (a ∷ keep p (from (suc a) n)) (keep p (from (suc a) n))) ≡ []
+    go : (b : Bool) → p a ≡ b → concat-map g (keep p (from (suc a) n)) ≡ []
+        → concat-map g (cond b (a ∷ keep p (from (suc a) n)) (keep p (from (suc a) n))) ≡ []
     go true e ih = rw (h a (omega arith) e) ih
     go false e ih = ih
 
-pub cong-from : {B : Type 0} (g k : ℕ → List B) (p : ℕ → Bool) (a n : ℕ) → ((x : ℕ) → x < a + n → p x ≡ true → g x ≡ k x) → concat-map g (keep p (from a n)) ≡ concat-map k (keep p (from a n))
+pub cong-from : {B : Type 0} (g k : ℕ → List B) (p : ℕ → Bool) (a n : ℕ)
+    → ((x : ℕ) → x < a + n → p x ≡ true → g x ≡ k x) → concat-map g (keep p (from a n)) ≡ concat-map k (keep p (from a n))
 unfolding concat-map keep from
 cong-from g k p a zero h = refl
 cong-from {B} g k p a (suc n) h = go (p a) refl (cong-from g k p (suc a) n (λ x l. h x (omega arith)))
@@ -62,20 +65,24 @@ cong-from {B} g k p a (suc n) h = go (p a) refl (cong-from g k p (suc a) n (λ x
     rest : List ℕ
     rest = keep p (from (suc a) n)
 
-    go : (b : Bool) → p a ≡ b → concat-map g rest ≡ concat-map k rest → concat-map g (cond b (a ∷ rest) rest) ≡ concat-map k (cond b (a ∷ rest) rest)
+    go : (b : Bool) → p a ≡ b → concat-map g rest ≡ concat-map k rest
+        → concat-map g (cond b (a ∷ rest) rest) ≡ concat-map k (cond b (a ∷ rest) rest)
     go true e ih = rw (h a (omega arith) e, ih)
     go false e ih = ih
 
 -- where only d yields anything
-pub concat-map-one : {B : Type 0} (g : ℕ → List B) (p : ℕ → Bool) (a n d : ℕ) → a ≤ d → d < a + n → p d ≡ true → ((x : ℕ) → p x ≡ true → (x ≡ d → ⊥) → g x ≡ []) → concat-map g (keep p (from a n)) ≡ g d
+pub concat-map-one : {B : Type 0} (g : ℕ → List B) (p : ℕ → Bool) (a n d : ℕ)
+    → a ≤ d → d < a + n → p d ≡ true → ((x : ℕ) → p x ≡ true → (x ≡ d → ⊥) → g x ≡ []) → concat-map g (keep p (from a n)) ≡ g d
 unfolding concat-map keep from
 concat-map-one g p a zero d l u e h = absurd (omega arith)
-concat-map-one {B} g p a (suc n) d l u e h = ⊎-elim here (later (p a) refl (λ q. concat-map-one g p (suc a) n d q (omega arith) e h)) (eq-or-lt-of-le l)
+concat-map-one {B} g p a (suc n) d l u e h =
+    ⊎-elim here (later (p a) refl (λ q. concat-map-one g p (suc a) n d q (omega arith) e h)) (eq-or-lt-of-le l)
   where
     here : a ≡ d → concat-map g (cond (p a) (a ∷ keep p (from (suc a) n)) (keep p (from (suc a) n))) ≡ g d
     here q = rw (q, e, none-from g p (suc d) n (λ x m t. h x t (λ r. omega arith))) (append-nil (g d))
 
-    later : (b : Bool) → p a ≡ b → (suc a ≤ d → concat-map g (keep p (from (suc a) n)) ≡ g d) → a < d → concat-map g (cond (p a) (a ∷ keep p (from (suc a) n)) (keep p (from (suc a) n))) ≡ g d
+    later : (b : Bool) → p a ≡ b → (suc a ≤ d → concat-map g (keep p (from (suc a) n)) ≡ g d)
+        → a < d → concat-map g (cond (p a) (a ∷ keep p (from (suc a) n)) (keep p (from (suc a) n))) ≡ g d
     later true t ih q = rw (t, h a t (λ r. omega arith)) (ih q)
     later false t ih q = rw t (ih q)
 
@@ -100,7 +107,8 @@ picks c kind-b w s x = true
 -- r says of each state under b whether it is entered
 pub record Reached (c : Chart) (way : ℕ → Way) (b : ℕ) (r : ℕ → Bool) : Type 0 where
   pub top : r b ≡ true
-  pub step : (n : ℕ) → Under c b (suc n) → r (suc n) ≡ (picks c (kind-of c (parent-of c (suc n))) (way (parent-of c (suc n))) (parent-of c (suc n)) (suc n) && r (parent-of c (suc n)))
+  pub step : (n : ℕ) → Under c b (suc n) → r (suc n) ≡ (picks c
+      (kind-of c (parent-of c (suc n))) (way (parent-of c (suc n))) (parent-of c (suc n)) (suc n) && r (parent-of c (suc n)))
 
 and-off : (a x : Bool) → x ≡ false → (a && x) ≡ false
 and-off true x e = e
@@ -123,7 +131,8 @@ module _ (c : Chart) (way : ℕ → Way) (b : ℕ) (r : ℕ → Bool) (g : Sound
   -- below a state that is not entered nothing is
   dead : (s d : ℕ) → In s → r s ≡ false → Under c s d → r d ≡ false
   dead s d i e (child {n} q) = child-reached s n i q ∙ and-off (picks c (kind-of c s) (way s) s (suc n)) (r s) e
-  dead s d i e (deeper {n} u) = h .step n (in-under s n i u) ∙ and-off (picks c _ _ _ (suc n)) (r (parent-of c (suc n))) (dead s (parent-of c (suc n)) i e u)
+  dead s d i e (deeper {n} u) = h .step n (in-under s n i u)
+      ∙ and-off (picks c _ _ _ (suc n)) (r (parent-of c (suc n))) (dead s (parent-of c (suc n)) i e u)
     where
       in-under : (x m : ℕ) → In x → Under c x (parent-of c (suc m)) → Under c b (suc m)
       in-under x m i₁ v = deeper (⊎-elim (λ q. subst (λ y. Under c y (parent-of c (suc m))) q v) (λ w. under-trans w v) i₁)
@@ -135,11 +144,13 @@ module _ (c : Chart) (way : ℕ → Way) (b : ℕ) (r : ℕ → Bool) (g : Sound
   nothing s (suc n) i e p =
       let q : parent-of c (suc n) ≡ s = eqb-true _ _ e in
       let off : r (suc n) ≡ false = child-reached s n i q ∙ rw p in
-      rw off (keep-keep-none r (λ d. has (suc n) (ancestors c d)) (all-states c) (λ d t. dead (suc n) d (inr (in-child s n i q)) off (has-under c (suc n) d t)))
+      rw off (keep-keep-none r (λ d. has (suc n) (ancestors c d))
+      (all-states c) (λ d t. dead (suc n) d (inr (in-child s n i q)) off (has-under c (suc n) d t)))
 
   -- what is kept below s, child by child
   parts : (s : ℕ) → s < length (c .states) → keep r (descendants c s) ≡ concat-map (λ y. keep r (tree c (g .ordered) s y)) (children c s)
-  parts s u = ap (keep r) (preorder c (g .ordered) s (length (c .states) - suc s) (omega arith)) ∙ keep-concat-map r (tree c (g .ordered) s) (children c s)
+  parts s u = ap (keep r) (preorder c (g .ordered) s (length (c .states) - suc s) (omega arith))
+      ∙ keep-concat-map r (tree c (g .ordered) s) (children c s)
 
   entered : (s y : ℕ) → In s → is-child c s y ≡ true → picks c (kind-of c s) (way s) s y ≡ true → r s ≡ true → r y ≡ true
   unfolding is-child
@@ -156,13 +167,15 @@ module _ (c : Chart) (way : ℕ → Way) (b : ℕ) (r : ℕ → Bool) (g : Sound
   in-of s (suc n) i e = inr (in-child s n i (eqb-true _ _ e))
 
   -- s goes on with d alone
-  one : (s d : ℕ) → s < length (c .states) → In s → r s ≡ true → (is-child c s d ≡ true) × (d < length (c .states)) → ((x : ℕ) → picks c (kind-of c s) (way s) s x ≡ eqb x d)
+  one : (s d : ℕ) → s < length (c .states) → In s
+      → r s ≡ true → (is-child c s d ≡ true) × (d < length (c .states)) → ((x : ℕ) → picks c (kind-of c s) (way s) s x ≡ eqb x d)
       → (l : List ℕ) → (r d ≡ true → l ≡ keep r (descendants c d)) → d ∷ l ≡ keep r (descendants c s)
   unfolding children all-states
   one s d u i e q p l ih =
       let on : r d ≡ true = entered s d i (q .0) (p d ∙ eq-eqb d d refl) e in
       sym (parts s u
-      ∙ concat-map-one (λ y. keep r (tree c (g .ordered) s y)) (is-child c s) 0 (length (c .states)) d (omega arith) (omega (arith, q .1)) (q .0)
+      ∙ concat-map-one (λ y. keep r (tree c (g .ordered) s y))
+      (is-child c s) 0 (length (c .states)) d (omega arith) (omega (arith, q .1)) (q .0)
       (λ x t n. nothing s x i t (p x ∙ ne-eqb x d n))
       ∙ live s d on ∙ ap (λ k. d ∷ k) (sym (ih on)))
 
@@ -170,10 +183,13 @@ module _ (c : Chart) (way : ℕ → Way) (b : ℕ) (r : ℕ → Bool) (g : Sound
       → ((y : ℕ) → is-child c s y ≡ true → y < length (c .states) → r y ≡ true → map state-of (deep y) ≡ keep r (descendants c y))
       → (x : Kind) → kind-of c s ≡ x → (w : Way) → way s ≡ w → map state-of (goes-on c deep s x w) ≡ keep r (descendants c s)
   unfolding goes-on state-of picks children all-states concat-map
-  goes s deep u i e ih kind-o kx (on-to d) wx = one s d u i e (g .on s d kx wx) (λ x. rw (kx, wx)) _ (ih d (g .on s d kx wx .0) (g .on s d kx wx .1))
-  goes s deep u i e ih kind-o kx defaults wx = one s (default-child c s) u i e (g .by s kx wx) (λ x. rw (kx, wx)) _ (ih (default-child c s) (g .by s kx wx .0) (g .by s kx wx .1))
+  goes s deep u i e ih kind-o kx (on-to d) wx =
+      one s d u i e (g .on s d kx wx) (λ x. rw (kx, wx)) _ (ih d (g .on s d kx wx .0) (g .on s d kx wx .1))
+  goes s deep u i e ih kind-o kx defaults wx = one s (default-child c s) u i e
+      (g .by s kx wx) (λ x. rw (kx, wx)) _ (ih (default-child c s) (g .by s kx wx .0) (g .by s kx wx .1))
   goes s deep u i e ih kind-o kx stops wx =
-      sym (parts s u ∙ concat-map-none (λ y. keep r (tree c (g .ordered) s y)) (is-child c s) (all-states c) (λ y t. nothing s y i t (rw (kx, wx))))
+      sym (parts s u ∙ concat-map-none (λ y. keep r (tree c (g .ordered) s y))
+      (is-child c s) (all-states c) (λ y t. nothing s y i t (rw (kx, wx))))
   goes s deep u i e ih kind-a kx w wx =
       map-concat-map state-of (λ d. plain d ∷ deep d) (children c s)
       ∙ cong-from (λ d. d ∷ map state-of (deep d)) (λ y. keep r (tree c (g .ordered) s y)) (is-child c s) 0 (length (c .states))
@@ -186,7 +202,9 @@ module _ (c : Chart) (way : ℕ → Way) (b : ℕ) (r : ℕ → Bool) (g : Sound
   later s zero e = absurd (true≢false (sym e))
   later s (suc n) e = omega (arith, eqb-true (parent-of c (suc n)) s e, g .ordered .falls n)
 
-  pub descent : (f s : ℕ) → length (c .states) ≤ s + f → s < length (c .states) → In s → r s ≡ true → map state-of (below c way f s) ≡ keep r (descendants c s)
+  pub descent : (f s : ℕ) → length (c .states) ≤ s + f
+      → s < length (c .states) → In s → r s ≡ true → map state-of (below c way f s) ≡ keep r (descendants c s)
   unfolding below
   descent zero s l u i e = absurd (omega arith)
-  descent (suc f) s l u i e = goes s (below c way f) u i e (λ y t m on. descent f y (omega (arith, later s y t)) m (in-of s y i t) on) (kind-of c s) refl (way s) refl
+  descent (suc f) s l u i e = goes s (below c way f) u i e
+      (λ y t m on. descent f y (omega (arith, later s y t)) m (in-of s y i t) on) (kind-of c s) refl (way s) refl

@@ -1,5 +1,6 @@
 pub mod Steps
 pub mod Lists
+pub mod Ranges
 pub mod Tree
 pub mod Preorder
 pub mod Descent

@@ -1,5 +1,5 @@
 -- Laws of the tests over lists: what a test of every element says of each, and what proves it. Assumes nothing.
-use mathlib.Core.Path.{_∙_, _≡_, refl, sym}
+use mathlib.Core.Path.{_∙_, _≡_, ap, refl, sym}
 use mathlib.Core.Logic.{_⊎_, inl, inr, ⊎-elim}
 use Prim.Native.Nat.{_+_, _<_, _≤_, suc, zero, ℕ}
 use native.Mathlib.Omega.{arith}
@@ -38,6 +38,17 @@ pub or-right : (a b : Bool) → b ≡ true → (a || b) ≡ true
 or-right true b e = refl
 or-right false b e = e
 
+pub or-off-left : (a b : Bool) → (a || b) ≡ false → a ≡ false
+or-off-left true b e = absurd (true≢false e)
+or-off-left false b e = refl
+
+pub or-off-right : (a b : Bool) → (a || b) ≡ false → b ≡ false
+or-off-right true b e = absurd (true≢false e)
+or-off-right false b e = e
+
+pub or-off : (a b : Bool) → a ≡ false → b ≡ false → (a || b) ≡ false
+or-off a b p q = rw (p, q)
+
 -- ---- every element of a list
 
 module _ {A : Type 0} (p : A → Bool) where
@@ -55,12 +66,14 @@ module _ {A : Type 0} (p : A → Bool) where
   pub every-append : (xs ys : List A) → every p xs ≡ true → every p ys ≡ true → every p (xs ++ ys) ≡ true
   unfolding every
   every-append [] ys h g = g
-  every-append (x ∷ xs) ys h g = and-both (p x) (every p (xs ++ ys)) (and-left (p x) (every p xs) h) (every-append xs ys (and-right (p x) (every p xs) h) g)
+  every-append (x ∷ xs) ys h g =
+      and-both (p x) (every p (xs ++ ys)) (and-left (p x) (every p xs) h) (every-append xs ys (and-right (p x) (every p xs) h) g)
 
   pub every-append-left : (xs ys : List A) → every p (xs ++ ys) ≡ true → every p xs ≡ true
   unfolding every
   every-append-left [] ys h = refl
-  every-append-left (x ∷ xs) ys h = and-both (p x) (every p xs) (and-left (p x) (every p (xs ++ ys)) h) (every-append-left xs ys (and-right (p x) (every p (xs ++ ys)) h))
+  every-append-left (x ∷ xs) ys h = and-both (p x)
+      (every p xs) (and-left (p x) (every p (xs ++ ys)) h) (every-append-left xs ys (and-right (p x) (every p (xs ++ ys)) h))
 
   pub every-append-right : (xs ys : List A) → every p (xs ++ ys) ≡ true → every p ys ≡ true
   unfolding every
@@ -86,7 +99,8 @@ module _ (p : ℕ → Bool) where
   pub range-every : (a n : ℕ) → ((x : ℕ) → a ≤ x → x < a + n → p x ≡ true) → every p (from a n) ≡ true
   unfolding every from
   range-every a zero h = refl
-  range-every a (suc n) h = and-both (p a) (every p (from (suc a) n)) (h a (omega arith) (omega arith)) (range-every (suc a) n (λ x l u. h x (omega arith) (omega arith)))
+  range-every a (suc n) h = and-both (p a) (every p (from (suc a) n))
+      (h a (omega arith) (omega arith)) (range-every (suc a) n (λ x l u. h x (omega arith) (omega arith)))
 
   -- of those that q keeps
   pub every-kept : (q : ℕ → Bool) (a n : ℕ) → every p (keep q (from a n)) ≡ true → (x : ℕ) → a ≤ x → x < a + n → q x ≡ true → p x ≡ true
@@ -97,7 +111,8 @@ module _ (p : ℕ → Bool) where
       (λ r. every-kept q (suc a) n (rest (q a) e) x r (omega arith) t)
       (eq-or-lt-of-le l)
     where
-      rest : (b : Bool) → every p (cond b (a ∷ keep q (from (suc a) n)) (keep q (from (suc a) n))) ≡ true → every p (keep q (from (suc a) n)) ≡ true
+      rest : (b : Bool) → every p (cond b (a ∷ keep q (from (suc a) n)) (keep q (from (suc a) n))) ≡ true
+          → every p (keep q (from (suc a) n)) ≡ true
       rest true h = and-right (p a) (every p (keep q (from (suc a) n))) h
       rest false h = h
 
@@ -110,7 +125,8 @@ module _ (p : ℕ → Bool) where
   kept-every q a zero h = refl
   kept-every q a (suc n) h = go (q a) refl (kept-every q (suc a) n (λ x l u. h x (omega arith) (omega arith)))
     where
-      go : (b : Bool) → q a ≡ b → every p (keep q (from (suc a) n)) ≡ true → every p (cond b (a ∷ keep q (from (suc a) n)) (keep q (from (suc a) n))) ≡ true
+      go : (b : Bool) → q a ≡ b → every p (keep q (from (suc a) n)) ≡ true
+          → every p (cond b (a ∷ keep q (from (suc a) n)) (keep q (from (suc a) n))) ≡ true
       go true e ih = and-both (p a) (every p (keep q (from (suc a) n))) (h a (omega arith) (omega arith) e) ih
       go false e ih = ih
 
@@ -162,7 +178,8 @@ module _ {A : Type 0} (P : A → Type 0) where
   each-mapped f [] h = none-left
   each-mapped f (x ∷ xs) (one-more p ps) = one-more p (each-mapped f xs ps)
 
-  pub each-collected : {B : Type 0} (f : B → List A) (q : B → Bool) (xs : List B) → ((x : B) → q x ≡ true → Each P (f x)) → Each P (concat-map f (keep q xs))
+  pub each-collected : {B : Type 0} (f : B → List A) (q : B → Bool) (xs : List B)
+      → ((x : B) → q x ≡ true → Each P (f x)) → Each P (concat-map f (keep q xs))
   unfolding concat-map keep
   each-collected f q [] h = none-left
   each-collected f q (x ∷ xs) h = go (q x) refl (each-collected f q xs h)
@@ -183,3 +200,21 @@ pub each-range : (a n m : ℕ) → a + n ≤ m → Each (λ x. x < m) (from a n)
 unfolding from
 each-range a zero m h = none-left
 each-range a (suc n) m h = one-more {x = a} (omega arith) (each-range (suc a) n m (omega arith))
+
+-- what holds of the element at each place holds of each element
+pub each-of : {A : Type 0} (P : A → Type 0) (d : A) (xs : List A) → ((i : ℕ) → i < length xs → P (getD xs i d)) → Each P xs
+each-of P d [] h = none-left
+each-of P d (x ∷ xs) h = one-more (h 0 (omega arith)) (each-of P d xs (λ i l. h (suc i) (omega arith)))
+
+-- a narrower test keeps the same of what a wider one has kept
+pub keep-within : {A : Type 0} (p q : A → Bool) → ((x : A) → p x ≡ true → q x ≡ true) → (xs : List A) → keep p (keep q xs) ≡ keep p xs
+unfolding keep
+keep-within p q h [] = refl
+keep-within p q h (x ∷ xs) = go (p x) (q x) refl refl (keep-within p q h xs)
+  where
+    go : (a b : Bool) → p x ≡ a → q x ≡ b → keep p (keep q xs) ≡ keep p xs
+        → keep p (cond b (x ∷ keep q xs) (keep q xs)) ≡ cond a (x ∷ keep p xs) (keep p xs)
+    go true true d e ih = rw d (ap (λ l. x ∷ l) ih)
+    go true false d e ih = absurd (true≢false (sym (h x d) ∙ e))
+    go false true d e ih = rw d ih
+    go false false d e ih = ih

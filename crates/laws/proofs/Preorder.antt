@@ -25,7 +25,8 @@ pub record Run (p : ℕ → Bool) (a n : ℕ) : Type 0 where
   pub outside : (x : ℕ) → a + k ≤ x → x < a + n → p x ≡ false
   pub kept : keep p (from a n) ≡ from a k
 
-stays : (p : ℕ → Bool) (a m : ℕ) → ((x : ℕ) → a ≤ x → suc x < m → p (suc x) ≡ true → p x ≡ true) → p a ≡ false → (d : ℕ) → a + d < m → p (a + d) ≡ false
+stays : (p : ℕ → Bool) (a m : ℕ) → ((x : ℕ) → a ≤ x → suc x < m → p (suc x) ≡ true → p x ≡ true)
+    → p a ≡ false → (d : ℕ) → a + d < m → p (a + d) ≡ false
 stays p a m h e zero g = rw add-zero e
 stays p a m h e (suc d) g =
     rw add-suc (is-false _ (λ t. true≢false (sym (h (a + d) (omega arith) (omega arith) t) ∙ stays p a m h e d (omega arith))))
@@ -57,7 +58,8 @@ find-run p a (suc n) h = go (p a) refl (find-run p (suc a) n (λ x l g. h x (ome
   where
     go : (b : Bool) → p a ≡ b → Run p (suc a) n → Run p a (suc n)
     go true e r = run-cons p a n e r
-    go false e r = run-nil p a (suc n) (λ x l g. let q : x ≡ a + (x - a) = omega arith in rw q (stays p a (a + suc n) h e (x - a) (omega arith)))
+    go false e r = run-nil p a (suc n)
+        (λ x l g. let q : x ≡ a + (x - a) = omega arith in rw q (stays p a (a + suc n) h e (x - a) (omega arith)))
 
 -- ---- in a tree
 
@@ -92,7 +94,8 @@ module _ (c : Chart) (o : Ordered c) where
       same q = below-y (⊎-elim (λ r. inl (q ∙ r)) (λ r. inr (subst (Under c (suc y)) (sym q) r)) l)
 
       above : Under c p z → p ≡ s
-      above v = ⊎-elim (λ r. over-y (subst (Under c p) r v)) (λ r. ⊎-elim (λ q. below-y (inl q)) (λ q. ⊎-elim over-y (λ w. below-y (inr w)) q) (linear v r)) l
+      above v = ⊎-elim (λ r. over-y (subst (Under c p) r v))
+          (λ r. ⊎-elim (λ q. below-y (inl q)) (λ q. ⊎-elim over-y (λ w. below-y (inr w)) q) (linear v r)) l
 
   pub sub-run : (s m : ℕ) → suc s + m ≡ length (c .states) → Run (λ d. has s (ancestors c d)) (suc s) m
   sub-run s m e = find-run (λ d. has s (ancestors c d)) (suc s) m
@@ -108,7 +111,8 @@ module _ (c : Chart) (o : Ordered c) where
 pub keep-all : (p : ℕ → Bool) (a n : ℕ) → ((x : ℕ) → a ≤ x → x < a + n → p x ≡ true) → keep p (from a n) ≡ from a n
 unfolding keep from
 keep-all p a zero h = refl
-keep-all p a (suc n) h = rw (h a (omega arith) (omega arith)) (ap (λ l. a ∷ l) (keep-all p (suc a) n (λ x l g. h x (omega arith) (omega arith))))
+keep-all p a (suc n) h =
+    rw (h a (omega arith) (omega arith)) (ap (λ l. a ∷ l) (keep-all p (suc a) n (λ x l g. h x (omega arith) (omega arith))))
 
 module _ (c : Chart) (o : Ordered c) (s : ℕ) where
   unfoldable pub is-under : ℕ → Bool
@@ -133,12 +137,14 @@ module _ (c : Chart) (o : Ordered c) (s : ℕ) where
   unfoldable pub Border : ℕ → ℕ → Type 0
   Border x n = (parent-of c (suc x) ≡ s) ⊎ ((is-under (suc x) ≡ false) ⊎ (n ≡ 0))
 
-  gone : (x n : ℕ) → s ≤ x → suc x + n ≡ length (c .states) → is-under (suc x) ≡ false → (d : ℕ) → suc x ≤ d → d < suc x + n → is-under d ≡ false
+  gone : (x n : ℕ) → s ≤ x → suc x + n ≡ length (c .states)
+      → is-under (suc x) ≡ false → (d : ℕ) → suc x ≤ d → d < suc x + n → is-under d ≡ false
   unfolding is-under
   gone x n l e q d a b =
       let i : d ≡ suc x + (d - suc x) = omega arith in
       rw i (stays (λ y. has s (ancestors c y)) (suc x) (suc x + n)
-      (λ y a₁ b₁ t. ⊎-elim (λ z. absurd (omega arith)) (λ v. under-has c o s y v) (step-down c o s y (omega arith) (has-under c s (suc y) t))) q (d - suc x) (omega arith))
+      (λ y a₁ b₁ t. ⊎-elim (λ z. absurd (omega arith))
+      (λ v. under-has c o s y v) (step-down c o s y (omega arith) (has-under c s (suc y) t))) q (d - suc x) (omega arith))
 
   children-gone : (x n : ℕ) → ((d : ℕ) → suc x ≤ d → d < suc x + n → is-under d ≡ false) → keep (is-child c s) (from (suc x) n) ≡ []
   children-gone x n h = keep-none (is-child c s) (suc x) n (λ d a b. one d a (h d a b))
@@ -147,7 +153,8 @@ module _ (c : Chart) (o : Ordered c) (s : ℕ) where
       one zero a e = absurd (omega arith)
       one (suc d) a e = not-child d e
 
-  pub border-next : (x n : ℕ) (e : suc (suc x) + n ≡ length (c .states)) → parent-of c (suc x) ≡ s → (m : ℕ) → n ≡ sub-run c o (suc x) n e .k + m → Border (suc x + sub-run c o (suc x) n e .k) m
+  pub border-next : (x n : ℕ) (e : suc (suc x) + n ≡ length (c .states))
+      → parent-of c (suc x) ≡ s → (m : ℕ) → n ≡ sub-run c o (suc x) n e .k + m → Border (suc x + sub-run c o (suc x) n e .k) m
   unfolding Border is-under
   border-next x n e q zero f = inr (inr refl)
   border-next x n e q (suc m) f = go (has s (ancestors c (suc z))) refl
@@ -174,13 +181,17 @@ module _ (c : Chart) (o : Ordered c) (s : ℕ) where
   keep-cons p y l e = rw e refl
 
   -- a child of s with its descendants, and what is left
-  part : (x n : ℕ) → s ≤ x → (e : suc (suc x) + n ≡ length (c .states)) → parent-of c (suc x) ≡ s → (m : ℕ) → n ≡ sub-run c o (suc x) n e .k + m
-      → keep is-under (from (suc (suc x + sub-run c o (suc x) n e .k)) m) ≡ concat-map tree (keep (is-child c s) (from (suc (suc x + sub-run c o (suc x) n e .k)) m))
+  part : (x n : ℕ) → s ≤ x → (e : suc (suc x) + n ≡ length (c .states))
+      → parent-of c (suc x) ≡ s → (m : ℕ) → n ≡ sub-run c o (suc x) n e .k + m
+      → keep is-under (from (suc (suc x + sub-run c o (suc x) n e .k)) m)
+      ≡ concat-map tree (keep (is-child c s) (from (suc (suc x + sub-run c o (suc x) n e .k)) m))
       → keep is-under (from (suc x) (suc n)) ≡ concat-map tree (keep (is-child c s) (from (suc x) (suc n)))
   unfolding from concat-map tree is-under
   part x n l e q m f ih =
-      ap (keep is-under) cut ∙ keep-cons is-under (suc x) _ (under-has c o s (suc x) (child q)) ∙ ap (λ l. suc x ∷ l) (keep-append is-under F G ∙ ap (λ l. l ++ keep is-under G) all-under ∙ ap (λ l. F ++ l) ih)
-      ∙ sym (ap (λ l. concat-map tree (keep (is-child c s) l)) cut ∙ ap (concat-map tree) (keep-cons (is-child c s) (suc x) _ (parent-child x q) ∙ ap (λ l. suc x ∷ l) (keep-append (is-child c s) F G ∙ ap (λ l. l ++ keep (is-child c s) G) no-child))
+      ap (keep is-under) cut ∙ keep-cons is-under (suc x) _ (under-has c o s (suc x) (child q))
+      ∙ ap (λ l. suc x ∷ l) (keep-append is-under F G ∙ ap (λ l. l ++ keep is-under G) all-under ∙ ap (λ l. F ++ l) ih)
+      ∙ sym (ap (λ l. concat-map tree (keep (is-child c s) l)) cut ∙ ap (concat-map tree) (keep-cons (is-child c s) (suc x) _
+      (parent-child x q) ∙ ap (λ l. suc x ∷ l) (keep-append (is-child c s) F G ∙ ap (λ l. l ++ keep (is-child c s) G) no-child))
       ∙ ap (λ l. suc x ∷ (l ++ concat-map tree (keep (is-child c s) G))) (sub-kept c o (suc x) n e))
     where
       r : Run (λ d. has (suc x) (ancestors c d)) (suc (suc x)) n
@@ -193,30 +204,35 @@ module _ (c : Chart) (o : Ordered c) (s : ℕ) where
       G = from (suc (suc x + r .k)) m
 
       cut : from (suc x) (suc n) ≡ suc x ∷ (F ++ G)
-      cut = ap (λ l. suc x ∷ l) (ap (from (suc (suc x))) f ∙ from-add (suc (suc x)) (r .k) m ∙ ap (λ i. F ++ from i m) (suc-add (suc x) (r .k)))
+      cut = ap (λ l. suc x ∷ l) (ap (from (suc (suc x))) f
+          ∙ from-add (suc (suc x)) (r .k) m ∙ ap (λ i. F ++ from i m) (suc-add (suc x) (r .k)))
 
       all-under : keep is-under F ≡ F
       all-under = keep-all is-under _ (r .k) (λ d a b. under-has c o s d (under-trans (child q) (has-under c (suc x) d (r .inside d a b))))
 
       not-here : (d : ℕ) → suc (suc x) ≤ d → d < suc (suc x) + r .k → is-child c s d ≡ false
       not-here zero a b = absurd (omega arith)
-      not-here (suc d) a b = is-false _ (λ t. ⊎-elim (λ w. absurd (omega arith)) (λ w. absurd (omega (arith, under-lt c o w))) (above-child d (child-parent d t) (has-under c (suc x) (suc d) (r .inside (suc d) a b))))
+      not-here (suc d) a b = is-false _ (λ t. ⊎-elim (λ w. absurd (omega arith)) (λ w. absurd (omega (arith, under-lt c o w)))
+          (above-child d (child-parent d t) (has-under c (suc x) (suc d) (r .inside (suc d) a b))))
 
       no-child : keep (is-child c s) F ≡ []
       no-child = keep-none (is-child c s) _ (r .k) not-here
 
-  pub preorder-from : (g x n : ℕ) → n ≤ g → s ≤ x → suc x + n ≡ length (c .states) → Border x n → keep is-under (from (suc x) n) ≡ concat-map tree (keep (is-child c s) (from (suc x) n))
+  pub preorder-from : (g x n : ℕ) → n ≤ g → s ≤ x → suc x + n ≡ length (c .states)
+      → Border x n → keep is-under (from (suc x) n) ≡ concat-map tree (keep (is-child c s) (from (suc x) n))
   unfolding Border keep from concat-map
   preorder-from zero x zero a l e b = refl
   preorder-from (suc g) x zero a l e b = refl
   preorder-from zero x (suc n) a l e b = absurd (omega arith)
-  preorder-from (suc g) x (suc n) a l e (inr (inl q)) = rw (keep-none is-under (suc x) (suc n) (gone x (suc n) l e q), children-gone x (suc n) (gone x (suc n) l e q))
+  preorder-from (suc g) x (suc n) a l e (inr (inl q)) =
+      rw (keep-none is-under (suc x) (suc n) (gone x (suc n) l e q), children-gone x (suc n) (gone x (suc n) l e q))
   preorder-from (suc g) x (suc n) a l e (inr (inr q)) = absurd (omega arith)
   preorder-from (suc g) x (suc n) a l e (inl q) =
       let e′ : suc (suc x) + n ≡ length (c .states) = omega arith in
       let k : ℕ = sub-run c o (suc x) n e′ .k in
       let f : n ≡ k + (n - k) = omega (arith, sub-run c o (suc x) n e′ .fits) in
-      part x n l e′ q (n - k) f (preorder-from g (suc x + k) (n - k) (omega arith) (omega arith) (omega arith) (border-next x n e′ q (n - k) f))
+      part x n l e′ q (n - k) f
+      (preorder-from g (suc x + k) (n - k) (omega arith) (omega arith) (omega arith) (border-next x n e′ q (n - k) f))
 
   first-border : (m : ℕ) → Border s m
   unfolding Border is-under

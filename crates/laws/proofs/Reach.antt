@@ -26,7 +26,8 @@ use Rattle.meaning.specs.declared.chart.Kind.the-variants.{A as kind-a, B as ki
 unfoldable pub reach : Chart → (ℕ → Way) → ℕ → ℕ → ℕ → Bool
 reach c way b zero x = eqb x b
 reach c way b (suc f) zero = eqb 0 b
-reach c way b (suc f) (suc n) = eqb (suc n) b || (picks c (kind-of c (parent-of c (suc n))) (way (parent-of c (suc n))) (parent-of c (suc n)) (suc n) && reach c way b f (parent-of c (suc n)))
+reach c way b (suc f) (suc n) = eqb (suc n) b || (picks c (kind-of c (parent-of c (suc n)))
+    (way (parent-of c (suc n))) (parent-of c (suc n)) (suc n) && reach c way b f (parent-of c (suc n)))
 
 reach-fuel : (c : Chart) (way : ℕ → Way) → Ordered c → (b f g x : ℕ) → x ≤ f → x ≤ g → reach c way b f x ≡ reach c way b g x
 unfolding reach
@@ -36,7 +37,8 @@ reach-fuel c way o b zero (suc g) (suc n) l m = absurd (omega arith)
 reach-fuel c way o b (suc f) zero zero l m = refl
 reach-fuel c way o b (suc f) zero (suc n) l m = absurd (omega arith)
 reach-fuel c way o b (suc f) (suc g) zero l m = refl
-reach-fuel c way o b (suc f) (suc g) (suc n) l m = rw (reach-fuel c way o b f g (parent-of c (suc n)) (omega (arith, o .falls n)) (omega (arith, o .falls n)))
+reach-fuel c way o b (suc f) (suc g) (suc n) l m =
+    rw (reach-fuel c way o b f g (parent-of c (suc n)) (omega (arith, o .falls n)) (omega (arith, o .falls n)))
 
 pub reached : (c : Chart) (way : ℕ → Way) → Ordered c → (b : ℕ) → Reached c way b (λ x. reach c way b x x)
 unfolding reach
@@ -46,8 +48,12 @@ reached c way o b = record { top = top b; step = step }
     top zero = eq-eqb 0 0 refl
     top (suc n) = rw (eq-eqb (suc n) (suc n) refl)
 
-    step : (n : ℕ) → Under c b (suc n) → reach c way b (suc n) (suc n) ≡ (picks c (kind-of c (parent-of c (suc n))) (way (parent-of c (suc n))) (parent-of c (suc n)) (suc n) && reach c way b (parent-of c (suc n)) (parent-of c (suc n)))
-    step n u = rw (ne-eqb (suc n) b (λ e. omega (arith, under-lt c o u, e)), reach-fuel c way o b n (parent-of c (suc n)) (parent-of c (suc n)) (o .falls n) (omega arith))
+    step : (n : ℕ) → Under c b (suc n) → reach c way b (suc n) (suc n) ≡ (picks c (kind-of c (parent-of c (suc n)))
+        (way (parent-of c (suc n))) (parent-of c (suc n)) (suc n) && reach c way b (parent-of c (suc n)) (parent-of c (suc n)))
+    step n u = rw (
+      ne-eqb (suc n) b (λ e. omega (arith, under-lt c o u, e)),
+      reach-fuel c way o b n (parent-of c (suc n)) (parent-of c (suc n)) (o .falls n) (omega arith),
+    )
 
 -- ---- how a state is entered, asked of the state by itself
 
@@ -68,27 +74,32 @@ module _ (c : Chart) (way : ℕ → Way) (g : Sound c way) where
   child-visit s zero e = absurd (no-root-child c s e)
   child-visit s (suc n) e = ap (λ p. visit-by (kind-of c p) (way p) p (suc n)) (child-parent c s n e)
 
-  visits-append : (vs ws : List Visit) → map (λ v. visit-of c way (state-of v)) vs ≡ vs → map (λ v. visit-of c way (state-of v)) ws ≡ ws → map (λ v. visit-of c way (state-of v)) (vs ++ ws) ≡ vs ++ ws
+  visits-append : (vs ws : List Visit) → map (λ v. visit-of c way (state-of v)) vs ≡ vs
+      → map (λ v. visit-of c way (state-of v)) ws ≡ ws → map (λ v. visit-of c way (state-of v)) (vs ++ ws) ≡ vs ++ ws
   visits-append vs ws p q = map-append (λ v. visit-of c way (state-of v)) vs ws ∙ rw (p, q)
 
-  visits-each : (deep : ℕ → List Visit) (p : ℕ → Bool) (xs : List ℕ) → ((x : ℕ) → p x ≡ true → map (λ v. visit-of c way (state-of v)) (deep x) ≡ deep x)
+  visits-each : (deep : ℕ → List Visit) (p : ℕ → Bool) (xs : List ℕ)
+      → ((x : ℕ) → p x ≡ true → map (λ v. visit-of c way (state-of v)) (deep x) ≡ deep x)
       → map (λ v. visit-of c way (state-of v)) (concat-map deep (keep p xs)) ≡ concat-map deep (keep p xs)
   unfolding concat-map keep
   visits-each deep p [] h = refl
   visits-each deep p (x ∷ xs) h = go (p x) refl (visits-each deep p xs h)
     where
       go : (b : Bool) → p x ≡ b → map (λ v. visit-of c way (state-of v)) (concat-map deep (keep p xs)) ≡ concat-map deep (keep p xs)
-          → map (λ v. visit-of c way (state-of v)) (concat-map deep (cond b (x ∷ keep p xs) (keep p xs))) ≡ concat-map deep (cond b (x ∷ keep p xs) (keep p xs))
+          → map (λ v. visit-of c way (state-of v)) (concat-map deep (cond b (x ∷ keep p xs) (keep p xs)))
+          ≡ concat-map deep (cond b (x ∷ keep p xs) (keep p xs))
       go true e ih = visits-append (deep x) (concat-map deep (keep p xs)) (h x e) ih
       go false e ih = ih
 
   goes-visits : (deep : ℕ → List Visit) (s : ℕ) → ((y : ℕ) → map (λ v. visit-of c way (state-of v)) (deep y) ≡ deep y)
-      → (x : Kind) → kind-of c s ≡ x → (w : Way) → way s ≡ w → map (λ v. visit-of c way (state-of v)) (goes-on c deep s x w) ≡ goes-on c deep s x w
+      → (x : Kind) → kind-of c s ≡ x → (w : Way)
+      → way s ≡ w → map (λ v. visit-of c way (state-of v)) (goes-on c deep s x w) ≡ goes-on c deep s x w
   unfolding goes-on state-of visit-by children
   goes-visits deep s ih kind-o kx (on-to d) wx = rw (child-visit s d (g .on s d kx wx .0), kx, wx, ih d)
   goes-visits deep s ih kind-o kx defaults wx = rw (child-visit s (default-child c s) (g .by s kx wx .0), kx, wx, ih (default-child c s))
   goes-visits deep s ih kind-o kx stops wx = refl
-  goes-visits deep s ih kind-a kx w wx = visits-each (λ d. plain d ∷ deep d) (is-child c s) (all-states c) (λ y t. rw (child-visit s y t, kx, ih y))
+  goes-visits deep s ih kind-a kx w wx =
+      visits-each (λ d. plain d ∷ deep d) (is-child c s) (all-states c) (λ y t. rw (child-visit s y t, kx, ih y))
   goes-visits deep s ih kind-b kx w wx = refl
 
   below-visits : (f s : ℕ) → map (λ v. visit-of c way (state-of v)) (below c way f s) ≡ below c way f s
@@ -112,4 +123,5 @@ module _ (c : Chart) (way : ℕ → Way) (g : Sound c way) where
   -- and how each is entered: the whole itinerary is one forward pass over the descendants
   pub pass : (b : ℕ) → b < length (c .states) → all-below c way b ≡ map (visit-of c way) (keep (λ x. reach c way b x x) (descendants c b))
   unfolding all-below
-  pass b l = sym (below-visits (length (c .states)) b) ∙ sym (map-map (visit-of c way) state-of (below c way (length (c .states)) b)) ∙ ap (map (visit-of c way)) (pass-states b l)
+  pass b l = sym (below-visits (length (c .states)) b)
+      ∙ sym (map-map (visit-of c way) state-of (below c way (length (c .states)) b)) ∙ ap (map (visit-of c way)) (pass-states b l)

@@ -15,7 +15,8 @@ use Rattle.laws.proofs.Tree.{has-under}
 use Rattle.laws.specs.Facts.{Ordered, Target-facts}
 use Rattle.meaning.specs.Chart.{Chart, no-state}
 use Rattle.meaning.specs.Lists.{every, has}
-use Rattle.meaning.specs.Rules.{act-fits, failing-rule, first-failing, guard-fits, is-state, is-var, owner-fits, parent-fits, rule-1, rule-2, rule-3}
+use Rattle.meaning.specs.Rules.{act-fits, failing-rule, first-failing, guard-fits, is-state, is-var, owner-fits, parent-fits}
+use Rattle.meaning.specs.Rules.{rule-1, rule-2, rule-3}
 use Rattle.meaning.specs.Rules.{rule-4, rule-5, rule-6, rule-7, target-fits, transition-fits, within-row}
 use Rattle.meaning.specs.Tree.{all-states, ancestors, climb, is-o, kind-of, parent-of, state-row, var-row}
 use Rattle.meaning.specs.declared.chart.Act.{Act}
@@ -25,7 +26,8 @@ use Rattle.meaning.specs.declared.chart.Guard.the-variants.{Always as always, C
 use Rattle.meaning.specs.declared.chart.Kind.{Kind}
 use Rattle.meaning.specs.declared.chart.Kind.the-variants.{A as kind-a, B as kind-b, O as kind-o}
 use Rattle.meaning.specs.declared.chart.Owner.{Owner}
-use Rattle.meaning.specs.declared.chart.Owner.the-variants.{DefaultOf as default-of, EntryOf as entry-of, ExitOf as exit-of, TransitionOf as transition-of}
+use Rattle.meaning.specs.declared.chart.Owner.the-variants.{DefaultOf as default-of, EntryOf as entry-of, ExitOf as exit-of}
+use Rattle.meaning.specs.declared.chart.Owner.the-variants.{TransitionOf as transition-of}
 use Rattle.meaning.specs.declared.chart.Target.{Target}
 use Rattle.meaning.specs.declared.chart.Target.the-variants.{History as history, InPlace as in-place, To as to}
 use Rattle.meaning.specs.declared.chart.TransRow.{TransRow}
@@ -130,7 +132,8 @@ module _ (c : Chart) (r : rule-2 c ≡ true) where
   falls-below zero n l = absurd (omega arith)
   falls-below (suc b) n l = ⊎-elim
       (λ q. omega (arith, outside-parent c (suc n) q))
-      (λ q. ⊎-elim (λ e. omega arith) (λ e. omega (arith, climb-lt c (parent-of c (suc n)) n n (λ m k. falls-below b m (omega arith)) e)) (parent-2 n q))
+      (λ q. ⊎-elim (λ e. omega arith)
+      (λ e. omega (arith, climb-lt c (parent-of c (suc n)) n n (λ m k. falls-below b m (omega arith)) e)) (parent-2 n q))
       (le-or-lt (length (c .states)) (suc n))
 
   pub ordered-2 : Ordered c
@@ -176,8 +179,11 @@ guard-facts c (compares v g x) e = ltb-true _ _ e
 pub target-facts : (c : Chart) (s : ℕ) (t : Target) → target-fits c s t ≡ true → Target-facts c s t
 unfolding target-fits
 target-facts c s (to d) e =
-    let f = and-right (is-state c d) (not (eqb d 0) && not (eqb s 0)) e in
-    (ltb-true _ _ (and-left (is-state c d) (not (eqb d 0) && not (eqb s 0)) e), positive d (and-left (not (eqb d 0)) (not (eqb s 0)) f), positive s (and-right (not (eqb d 0)) (not (eqb s 0)) f))
+    let f = and-right (is-state c d) (not (eqb d 0) && not (eqb s 0)) e in (
+      ltb-true _ _ (and-left (is-state c d) (not (eqb d 0) && not (eqb s 0)) e),
+      positive d (and-left (not (eqb d 0)) (not (eqb s 0)) f),
+      positive s (and-right (not (eqb d 0)) (not (eqb s 0)) f),
+    )
 target-facts c s (history b) e =
     let f = and-right (is-state c b) (not (eqb b 0) && (is-o (kind-of c b) && not (eqb s 0))) e in
     let g = and-right (not (eqb b 0)) (is-o (kind-of c b) && not (eqb s 0)) f in (
@@ -191,10 +197,12 @@ target-facts c s in-place e = tt
 pub transition-facts : (c : Chart) (r : TransRow) → transition-fits c r ≡ true → Transition-facts c r
 unfolding transition-fits
 transition-facts c r e =
-    let f = and-right (is-state c (r .source)) (leb (r .trigger) (c .events) && (guard-fits c (r .guard) && target-fits c (r .source) (r .target))) e in
+    let f = and-right (is-state c (r .source))
+    (leb (r .trigger) (c .events) && (guard-fits c (r .guard) && target-fits c (r .source) (r .target))) e in
     let g = and-right (leb (r .trigger) (c .events)) (guard-fits c (r .guard) && target-fits c (r .source) (r .target)) f in
     record {
-      source = ltb-true _ _ (and-left (is-state c (r .source)) (leb (r .trigger) (c .events) && (guard-fits c (r .guard) && target-fits c (r .source) (r .target))) e);
+      source = ltb-true _ _ (and-left (is-state c (r .source))
+          (leb (r .trigger) (c .events) && (guard-fits c (r .guard) && target-fits c (r .source) (r .target))) e);
       trigger = leb-true _ _ (and-left (leb (r .trigger) (c .events)) (guard-fits c (r .guard) && target-fits c (r .source) (r .target)) f);
       guard = guard-facts c (r .guard) (and-left (guard-fits c (r .guard)) (target-fits c (r .source) (r .target)) g);
       target = target-facts c (r .source) (r .target) (and-right (guard-fits c (r .guard)) (target-fits c (r .source) (r .target)) g);
@@ -204,13 +212,18 @@ pub owner-facts : (c : Chart) (o : Owner) → owner-fits c o ≡ true → Owner-
 unfolding owner-fits
 owner-facts c (entry-of s) e = ltb-true _ _ e
 owner-facts c (exit-of s) e = ltb-true _ _ e
-owner-facts c (default-of s) e = (ltb-true _ _ (and-left (is-state c s) (is-o (kind-of c s)) e), o-of _ (and-right (is-state c s) (is-o (kind-of c s)) e))
+owner-facts c (default-of s) e =
+    (ltb-true _ _ (and-left (is-state c s) (is-o (kind-of c s)) e), o-of _ (and-right (is-state c s) (is-o (kind-of c s)) e))
 owner-facts c (transition-of t) e = ltb-true _ _ e
 
 pub act-facts : (c : Chart) (x : Act) → act-fits c x ≡ true → Act-facts c x
 unfolding act-fits
-act-facts c (set-to v x) e = (ltb-true _ _ (and-left (is-var c v) (within-row (var-row (c .vars) v) x) e), and-right (is-var c v) (within-row (var-row (c .vars) v) x) e)
+act-facts c (set-to v x) e = (
+  ltb-true _ _ (and-left (is-var c v) (within-row (var-row (c .vars) v) x) e),
+  and-right (is-var c v) (within-row (var-row (c .vars) v) x) e,
+)
 act-facts c (add-to v x) e = ltb-true _ _ e
 act-facts c (take-to v) e = ltb-true _ _ e
-act-facts c (send n x) e = (leb-true _ _ (and-left (leb 1 n) (leb n (c .events)) e), leb-true _ _ (and-right (leb 1 n) (leb n (c .events)) e))
+act-facts c (send n x) e =
+    (leb-true _ _ (and-left (leb 1 n) (leb n (c .events)) e), leb-true _ _ (and-right (leb 1 n) (leb n (c .events)) e))
 act-facts c (tell x) e = tt

@@ -33,7 +33,8 @@ root-above c o zero l = absurd (omega arith)
 root-above c o (suc n) l = above-all c o (suc n) n (omega arith)
 
 -- the first that a test finds, where it finds one
-pub first-found : (p : ℕ → Bool) (xs : List ℕ) (x : ℕ) → has x xs ≡ true → p x ≡ true → (p (first-that p xs) ≡ true) × (has (first-that p xs) xs ≡ true)
+pub first-found : (p : ℕ → Bool) (xs : List ℕ) (x : ℕ)
+    → has x xs ≡ true → p x ≡ true → (p (first-that p xs) ≡ true) × (has (first-that p xs) xs ≡ true)
 unfolding first-that has
 first-found p [] x h e = absurd (false≢true h)
 first-found p (y ∷ ys) x h e = go (p y) refl (λ q. first-found p ys x q e)
@@ -55,8 +56,10 @@ pub record Scope-facts (c : Chart) (s t x : ℕ) : Type 0 where
 pub scope-facts : (c : Chart) → Sound-chart c → (s t : ℕ) → 0 < s → 0 < t → Scope-facts c s t (scope c s t)
 unfolding scope
 scope-facts c h s t l m =
-    let f = first-found (λ x. is-o (kind-of c x) && has x (ancestors c t)) (ancestors c s) 0 (under-has c (h .ordered) 0 s (root-above c (h .ordered) s l))
-    (and-both (is-o (kind-of c 0)) (has 0 (ancestors c t)) (of-o _ (h .root-o)) (under-has c (h .ordered) 0 t (root-above c (h .ordered) t m))) in
+    let f = first-found (λ x. is-o (kind-of c x) && has x (ancestors c t))
+    (ancestors c s) 0 (under-has c (h .ordered) 0 s (root-above c (h .ordered) s l))
+    (and-both (is-o (kind-of c 0)) (has 0 (ancestors c t))
+    (of-o _ (h .root-o)) (under-has c (h .ordered) 0 t (root-above c (h .ordered) t m))) in
     let x = first-that (λ y. is-o (kind-of c y) && has y (ancestors c t)) (ancestors c s) in
     let k = o-of _ (and-left (is-o (kind-of c x)) (has x (ancestors c t)) (f .0)) in
     record {

@@ -18,7 +18,8 @@ use Rattle.laws.proofs.Tree.{keep-none}
 use Rattle.meaning.specs.Chart.{Chart, no-action, no-trans, no-var}
 use Rattle.meaning.specs.Effects.{acts-in, acts-of, same-owner}
 use Rattle.meaning.specs.Lists.{every}
-use Rattle.meaning.specs.Rules.{act-fits, action-fits, children-fit, default-fits, failing-rule, is-state, owner-fits, row-fits, rule-1, rule-3}
+use Rattle.meaning.specs.Rules.{act-fits, action-fits, children-fit, default-fits, failing-rule, is-state, owner-fits, row-fits}
+use Rattle.meaning.specs.Rules.{rule-1, rule-3}
 use Rattle.meaning.specs.Rules.{rule-4, rule-5, rule-6, rule-7, transition-fits}
 use Rattle.meaning.specs.Tree.{all-states, children, default-child, is-child, is-o, kind-of, parent-of, trans-row, var-row}
 use Rattle.meaning.specs.declared.chart.Act.{Act}
@@ -49,17 +50,20 @@ child-later c o s (suc n) e = omega (arith, child-parent c s n e, o .falls n)
 -- a child of another state than the root is one of the chart's
 pub child-inside : (c : Chart) (s y : ℕ) → 0 < s → is-child c s y ≡ true → y < length (c .states)
 child-inside c s zero h e = absurd (no-root-child c s e)
-child-inside c s (suc n) h e = ⊎-elim (λ l. absurd (omega (arith, outside-parent c (suc n) l, child-parent c s n e))) (λ l. l) (le-or-lt (length (c .states)) (suc n))
+child-inside c s (suc n) h e = ⊎-elim (λ l. absurd (omega (arith, outside-parent c (suc n) l, child-parent c s n e)))
+    (λ l. l) (le-or-lt (length (c .states)) (suc n))
 
 pub no-children : (c : Chart) (s : ℕ) → ((y : ℕ) → y < length (c .states) → is-child c s y ≡ true → ⊥) → children c s ≡ []
 unfolding children all-states
 no-children c s h = keep-none (is-child c s) 0 (length (c .states)) (λ y l u. is-false _ (h y (omega arith)))
 
-pub every-child : (c : Chart) (p : ℕ → Bool) (s : ℕ) → every p (children c s) ≡ true → (y : ℕ) → y < length (c .states) → is-child c s y ≡ true → p y ≡ true
+pub every-child : (c : Chart) (p : ℕ → Bool) (s : ℕ)
+    → every p (children c s) ≡ true → (y : ℕ) → y < length (c .states) → is-child c s y ≡ true → p y ≡ true
 unfolding children all-states
 every-child c p s e y l t = every-kept p (is-child c s) 0 (length (c .states)) e y (omega arith) (omega arith) t
 
-pub child-every : (c : Chart) (p : ℕ → Bool) (s : ℕ) → ((y : ℕ) → y < length (c .states) → is-child c s y ≡ true → p y ≡ true) → every p (children c s) ≡ true
+pub child-every : (c : Chart) (p : ℕ → Bool) (s : ℕ)
+    → ((y : ℕ) → y < length (c .states) → is-child c s y ≡ true → p y ≡ true) → every p (children c s) ≡ true
 unfolding children all-states
 child-every c p s h = kept-every p (is-child c s) 0 (length (c .states)) (λ y l u t. h y (omega arith) t)
 
@@ -80,7 +84,8 @@ pub record Sound-chart (c : Chart) : Type 0 where
   pub default : (s : ℕ) → kind-of c s ≡ kind-o → (is-child c s (default-child c s) ≡ true) × (default-child c s < length (c .states))
   -- R5
   pub rows : (v : ℕ) → v < length (c .vars)
-      → (leZ (var-row (c .vars) v .low) (var-row (c .vars) v .first) ≡ true) × (leZ (var-row (c .vars) v .first) (var-row (c .vars) v .high) ≡ true)
+      → (leZ (var-row (c .vars) v .low) (var-row (c .vars) v .first) ≡ true)
+      × (leZ (var-row (c .vars) v .first) (var-row (c .vars) v .high) ≡ true)
   -- R6
   pub transitions : (t : ℕ) → t < length (c .transitions) → Transition-facts c (trans-row c t)
   -- R7
@@ -99,7 +104,10 @@ module _ (c : Chart) (r : Rules-hold c) where
 
   fits-1 : (2 ≤ length (c .states)) × (kind-of c 0 ≡ kind-o)
   unfolding rule-1
-  fits-1 = (leb-true _ _ (and-left (leb 2 (length (c .states))) (is-o (kind-of c 0)) (r .r1)), o-of _ (and-right (leb 2 (length (c .states))) (is-o (kind-of c 0)) (r .r1)))
+  fits-1 = (
+    leb-true _ _ (and-left (leb 2 (length (c .states))) (is-o (kind-of c 0)) (r .r1)),
+    o-of _ (and-right (leb 2 (length (c .states))) (is-o (kind-of c 0)) (r .r1)),
+  )
 
   fits-3 : (s : ℕ) → s < length (c .states) → (k : Kind) → kind-of c s ≡ k → children-fit c k (children c s) ≡ true
   unfolding rule-3 all-states
@@ -125,7 +133,8 @@ module _ (c : Chart) (r : Rules-hold c) where
   a-3 : (s : ℕ) → kind-of c s ≡ kind-a → (2 ≤ length (children c s)) × (every (λ d. is-o (kind-of c d)) (children c s) ≡ true)
   unfolding children-fit
   a-3 s k = (
-    leb-true _ _ (and-left (leb 2 (length (children c s))) (every (λ d. is-o (kind-of c d)) (children c s)) (fits-3 s (a-inside c s k) kind-a k)),
+    leb-true _ _ (and-left (leb 2 (length (children c s)))
+        (every (λ d. is-o (kind-of c d)) (children c s)) (fits-3 s (a-inside c s k) kind-a k)),
     and-right (leb 2 (length (children c s))) (every (λ d. is-o (kind-of c d)) (children c s)) (fits-3 s (a-inside c s k) kind-a k),
   )
 
@@ -139,11 +148,14 @@ module _ (c : Chart) (r : Rules-hold c) where
   default-4 : (s : ℕ) → kind-of c s ≡ kind-o → (is-child c s (default-child c s) ≡ true) × (default-child c s < length (c .states))
   unfolding default-fits
   default-4 s k =
-      let e = fits-4 s (o-inside c s k) kind-o k in
-      (and-right (is-state c (default-child c s)) (is-child c s (default-child c s)) e, ltb-true _ _ (and-left (is-state c (default-child c s)) (is-child c s (default-child c s)) e))
+      let e = fits-4 s (o-inside c s k) kind-o k in (
+        and-right (is-state c (default-child c s)) (is-child c s (default-child c s)) e,
+        ltb-true _ _ (and-left (is-state c (default-child c s)) (is-child c s (default-child c s)) e),
+      )
 
   rows-5 : (v : ℕ) → v < length (c .vars)
-      → (leZ (var-row (c .vars) v .low) (var-row (c .vars) v .first) ≡ true) × (leZ (var-row (c .vars) v .first) (var-row (c .vars) v .high) ≡ true)
+      → (leZ (var-row (c .vars) v .low) (var-row (c .vars) v .first) ≡ true)
+      × (leZ (var-row (c .vars) v .first) (var-row (c .vars) v .high) ≡ true)
   unfolding rule-5 row-fits var-row
   rows-5 v l =
       let e = every-at row-fits (c .vars) (r .r5) v l no-var in
@@ -152,7 +164,8 @@ module _ (c : Chart) (r : Rules-hold c) where
 
   transitions-6 : (t : ℕ) → t < length (c .transitions) → Transition-facts c (trans-row c t)
   unfolding rule-6 trans-row
-  transitions-6 t l = transition-facts c (getD (c .transitions) t no-trans) (every-at (transition-fits c) (c .transitions) (r .r6) t l no-trans)
+  transitions-6 t l = transition-facts c (getD (c .transitions) t no-trans)
+      (every-at (transition-fits c) (c .transitions) (r .r6) t l no-trans)
 
   actions-7 : (i : ℕ) → i < length (c .actions) → action-fits c (getD (c .actions) i no-action) ≡ true
   unfolding rule-7
@@ -171,8 +184,10 @@ module _ (c : Chart) (r : Rules-hold c) where
     default = default-4;
     rows = rows-5;
     transitions = transitions-6;
-    owners = λ i l. let x = getD (c .actions) i no-action in owner-facts c (x .owner) (and-left (owner-fits c (x .owner)) (act-fits c (x .act)) (actions-7 i l));
-    acts = λ i l. let x = getD (c .actions) i no-action in act-facts c (x .act) (and-right (owner-fits c (x .owner)) (act-fits c (x .act)) (actions-7 i l));
+    owners = λ i l. let x = getD (c .actions) i no-action in
+        owner-facts c (x .owner) (and-left (owner-fits c (x .owner)) (act-fits c (x .act)) (actions-7 i l));
+    acts = λ i l. let x = getD (c .actions) i no-action in
+        act-facts c (x .act) (and-right (owner-fits c (x .owner)) (act-fits c (x .act)) (actions-7 i l));
   }
 
 -- a chart that passes the rules is sound
@@ -187,7 +202,8 @@ a-not-root c h zero k = absurd (not-o-of-a _ k (h .root-o))
 a-not-root c h (suc s) k = omega arith
 
 -- what holds of the acts of every row holds of each act that an owner has
-acts-in-each : (P : Act → Type 0) (o : Owner) (rs : List ActRow) → ((i : ℕ) → i < length rs → P (getD rs i no-action .act)) → Each P (acts-in rs o)
+acts-in-each : (P : Act → Type 0) (o : Owner) (rs : List ActRow)
+    → ((i : ℕ) → i < length rs → P (getD rs i no-action .act)) → Each P (acts-in rs o)
 unfolding acts-in
 acts-in-each P o [] h = none-left
 acts-in-each P o (r ∷ rs) h = go (same-owner o (r .owner)) (acts-in-each P o rs (λ i l. h (suc i) (omega arith)))
@@ -196,7 +212,8 @@ acts-in-each P o (r ∷ rs) h = go (same-owner o (r .owner)) (acts-in-each P o r
     go true ih = one-more (h 0 (omega arith)) ih
     go false ih = ih
 
-pub acts-each : (P : Act → Type 0) (c : Chart) → ((i : ℕ) → i < length (c .actions) → P (getD (c .actions) i no-action .act)) → (o : Owner) → Each P (acts-of c o)
+pub acts-each : (P : Act → Type 0) (c : Chart)
+    → ((i : ℕ) → i < length (c .actions) → P (getD (c .actions) i no-action .act)) → (o : Owner) → Each P (acts-of c o)
 unfolding acts-of
 acts-each P c h o = acts-in-each P o (c .actions) h
 

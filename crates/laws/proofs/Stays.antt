@@ -9,8 +9,10 @@ use Rattle.laws.specs.Facts.{Each, none-left, one-more}
 use Rattle.laws.proofs.Steps.{Holds, holds-bind}
 use Rattle.meaning.specs.Calls.{react, start-steps, take-front}
 use Rattle.meaning.specs.Chart.{Chart}
-use Rattle.meaning.specs.Effects.{act-on, act-var, acts-of, assign, enqueue, enter, leave, mark-entered, mark-left, perform, perform-all, take-queue}
-use Rattle.meaning.specs.Entry.{Visit, all-below, by-default, by-defaults, by-slots, plain, restore, restore-by, revisit, visit, visit-towards}
+use Rattle.meaning.specs.Effects.{act-on, act-var, acts-of, assign, enqueue, enter, leave, mark-entered, mark-left, perform}
+use Rattle.meaning.specs.Effects.{perform-all, take-queue}
+use Rattle.meaning.specs.Entry.{Visit, all-below, by-default, by-defaults, by-slots, plain, restore, restore-by, revisit, visit}
+use Rattle.meaning.specs.Entry.{visit-towards}
 use Rattle.meaning.specs.Reaction.{chosen, fire, fire-to, if-any, leave-active, leave-all, settle, settle-in, step}
 use Rattle.meaning.specs.Steps.{Step, _then_, each, look, require, skip, when}
 use Rattle.meaning.specs.Tree.{var-row}
@@ -19,7 +21,8 @@ use Rattle.meaning.specs.declared.State.{State}
 use Rattle.meaning.specs.declared.chart.Act.{Act}
 use Rattle.meaning.specs.declared.chart.Act.the-variants.{AddTo as add-to, Send as send, SetTo as set-to, TakeTo as take-to, Tell as tell}
 use Rattle.meaning.specs.declared.chart.Owner.{Owner}
-use Rattle.meaning.specs.declared.chart.Owner.the-variants.{DefaultOf as default-of, EntryOf as entry-of, ExitOf as exit-of, TransitionOf as transition-of}
+use Rattle.meaning.specs.declared.chart.Owner.the-variants.{DefaultOf as default-of, EntryOf as entry-of, ExitOf as exit-of}
+use Rattle.meaning.specs.declared.chart.Owner.the-variants.{TransitionOf as transition-of}
 use Rattle.meaning.specs.declared.chart.Target.{Target}
 use Rattle.meaning.specs.declared.chart.Target.the-variants.{History as history, InPlace as in-place, To as to}
 use Rattle.meaning.specs.declared.chart.VarRow.{VarRow}
@@ -36,7 +39,8 @@ module _ (P : Ctx → Type 0) where
   unfolding _then_
   then-stays F G f g k h = holds-bind P P (F k) G (f k h) g
 
-  pub each-stays : {A : Type 0} (F : A → Step Ctx) (R : A → Type 0) → ((x : A) → R x → Stays P (F x)) → (xs : List A) → Each R xs → Stays P (each F xs)
+  pub each-stays : {A : Type 0} (F : A → Step Ctx) (R : A → Type 0)
+      → ((x : A) → R x → Stays P (F x)) → (xs : List A) → Each R xs → Stays P (each F xs)
   unfolding each
   each-stays F R f [] none-left k h = h
   each-stays F R f (x ∷ xs) (one-more r rs) k h = holds-bind P P (F x k) (each F xs) (f x r k h) (each-stays F R f xs rs)
@@ -109,7 +113,8 @@ module _ (P : Ctx → Type 0) (p : Plain P) where
 
     leave-all-plain : (a : ℤ) (ss : List ℕ) → Stays P (leave-all c a ss)
     unfolding leave-all leave-active
-    leave-all-plain a ss = each-stays-all P (leave-active c a) (λ s. look-stays P _ (λ k h. when-stays P _ _ (λ e. leave-plain a s))) (reverse ss)
+    leave-all-plain a ss =
+        each-stays-all P (leave-active c a) (λ s. look-stays P _ (λ k h. when-stays P _ _ (λ e. leave-plain a s))) (reverse ss)
 
     revisit-plain : (a : ℤ) (v : Visit) → Stays P (revisit c a v)
     unfolding revisit
@@ -129,8 +134,10 @@ module _ (P : Ctx → Type 0) (p : Plain P) where
 
     fire-to-plain : (a : ℤ) (t s : ℕ) (x : Target) → Stays P (fire-to c a t s x)
     unfolding fire-to
-    fire-to-plain a t s (to d) = then-stays P _ _ (leave-all-plain a _) (then-stays P _ _ (acts-plain a _) (each-stays-all P (visit c a) (visit-plain a) _))
-    fire-to-plain a t s (history b) = then-stays P _ _ (leave-all-plain a _) (then-stays P _ _ (acts-plain a _) (each-stays-all P (visit-towards c a b) (towards-plain a b) _))
+    fire-to-plain a t s (to d) = then-stays P _ _ (leave-all-plain a _)
+        (then-stays P _ _ (acts-plain a _) (each-stays-all P (visit c a) (visit-plain a) _))
+    fire-to-plain a t s (history b) = then-stays P _ _ (leave-all-plain a _)
+        (then-stays P _ _ (acts-plain a _) (each-stays-all P (visit-towards c a b) (towards-plain a b) _))
     fire-to-plain a t s in-place = acts-plain a (transition-of t)
 
     pub fire-plain : (a : ℤ) (t : ℕ) → Stays P (fire c a t)
@@ -144,7 +151,8 @@ module _ (P : Ctx → Type 0) (p : Plain P) where
     settle-in-plain : (n : ℕ) → Stays P (settle-in c n)
     unfolding settle-in
     settle-in-plain zero = look-stays P _ (λ k h. if-any-stays P (chosen c 0 (k .state)) _ (λ j g. tt))
-    settle-in-plain (suc n) = look-stays P _ (λ k h. if-any-stays P (chosen c 0 (k .state)) _ (then-stays P _ _ (step-plain 0 (pos 0)) (settle-in-plain n)))
+    settle-in-plain (suc n) = look-stays P _
+        (λ k h. if-any-stays P (chosen c 0 (k .state)) _ (then-stays P _ _ (step-plain 0 (pos 0)) (settle-in-plain n)))
 
     pub settle-plain : Stays P (settle c)
     unfolding settle
@@ -156,4 +164,5 @@ module _ (P : Ctx → Type 0) (p : Plain P) where
 
     pub react-plain : (q : Removed) → Stays P (react c q)
     unfolding react take-front
-    react-plain q = then-stays P _ _ (then-stays P _ _ (require-stays P 8 _) (p .changes _)) (then-stays P _ _ (step-plain _ _) settle-plain)
+    react-plain q = then-stays P _ _ (then-stays P _ _ (require-stays P 8 _) (p .changes _))
+        (then-stays P _ _ (step-plain _ _) settle-plain)

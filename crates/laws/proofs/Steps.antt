@@ -17,7 +17,8 @@ unfolding each bind
 each-append f [] ys s = refl
 each-append f (x ∷ xs) ys s = bind-cong (f x s) (λ t. each-append f xs ys t) ∙ sym (bind-assoc (f x s) (each f xs) (each f ys))
 
-pub each-concat-map : {A B S : Type 0} (f : B → Step S) (g : A → List B) (xs : List A) (s : S) → each f (concat-map g xs) s ≡ each (λ x. each f (g x)) xs s
+pub each-concat-map : {A B S : Type 0} (f : B → Step S) (g : A → List B) (xs : List A) (s : S)
+    → each f (concat-map g xs) s ≡ each (λ x. each f (g x)) xs s
 unfolding each concat-map
 each-concat-map f g [] s = refl
 each-concat-map f g (x ∷ xs) s = each-append f (g x) (concat-map g xs) s ∙ bind-cong (each f (g x) s) (λ t. each-concat-map f g xs t)
@@ -31,12 +32,14 @@ abbrev pub Holds : {A : Type 0} → Res A → (A → Type 0) → Type 0
 Holds (ok a) P = P a
 Holds (refuse n) P = Unit {0}
 
-pub holds-bind : {A B : Type 0} (P : A → Type 0) (Q : B → Type 0) (r : Res A) (g : A → Res B) → Holds r P → ((a : A) → P a → Holds (g a) Q) → Holds (bind r g) Q
+pub holds-bind : {A B : Type 0} (P : A → Type 0) (Q : B → Type 0) (r : Res A) (g : A → Res B)
+    → Holds r P → ((a : A) → P a → Holds (g a) Q) → Holds (bind r g) Q
 unfolding bind
 holds-bind P Q (ok a) g h n = n a h
 holds-bind P Q (refuse e) g h n = tt
 
-pub bind-cong-where : {A B : Type 0} (P : A → Type 0) (r : Res A) (f g : A → Res B) → Holds r P → ((a : A) → P a → f a ≡ g a) → bind r f ≡ bind r g
+pub bind-cong-where : {A B : Type 0} (P : A → Type 0) (r : Res A) (f g : A → Res B)
+    → Holds r P → ((a : A) → P a → f a ≡ g a) → bind r f ≡ bind r g
 unfolding bind
 bind-cong-where P (ok a) f g h n = n a h
 bind-cong-where P (refuse e) f g h n = refl

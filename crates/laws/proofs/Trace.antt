@@ -28,13 +28,16 @@ pub record Written (n : ℕ) (k : Ctx) : Type 0 where
 pub concat-map-joined : {A B : Type 0} (f : A → List B) (xs ys : List A) → concat-map f (xs ++ ys) ≡ concat-map f xs ++ concat-map f ys
 unfolding concat-map
 concat-map-joined f [] ys = refl
-concat-map-joined f (x ∷ xs) ys = ap (λ l. f x ++ l) (concat-map-joined f xs ys) ∙ sym (append-assoc (f x) (concat-map f xs) (concat-map f ys))
+concat-map-joined f (x ∷ xs) ys = ap (λ l. f x ++ l) (concat-map-joined f xs ys)
+    ∙ sym (append-assoc (f x) (concat-map f xs) (concat-map f ys))
 
 -- one more entry
-pub numbers-more : (es : List Entry) (out : List ℤ) (e : Entry) → out ≡ concat-map numbers es → out ++ numbers e ≡ concat-map numbers (es ++ (e ∷ []))
+pub numbers-more : (es : List Entry) (out : List ℤ) (e : Entry)
+    → out ≡ concat-map numbers es → out ++ numbers e ≡ concat-map numbers (es ++ (e ∷ []))
 unfolding concat-map
 numbers-more es out e h =
-    ap (λ l. l ++ numbers e) h ∙ ap (λ l. concat-map numbers es ++ l) (sym (append-nil (numbers e))) ∙ sym (concat-map-joined numbers es (e ∷ []))
+    ap (λ l. l ++ numbers e) h ∙ ap (λ l. concat-map numbers es ++ l) (sym (append-nil (numbers e)))
+    ∙ sym (concat-map-joined numbers es (e ∷ []))
 
 pub entry-long : (e : Entry) → length (numbers e) ≡ ENTRY
 unfolding numbers
@@ -48,7 +51,8 @@ entry-long (told x) = refl
 pub numbers-long : (es : List Entry) → length (concat-map numbers es) ≡ ENTRY * length es
 unfolding concat-map
 numbers-long [] = refl
-numbers-long (e ∷ es) = length-append (numbers e) (concat-map numbers es) ∙ ap (λ i. i + length (concat-map numbers es)) (entry-long e) ∙ ap (λ i. ENTRY + i) (numbers-long es) ∙ one-more-entry (length es)
+numbers-long (e ∷ es) = length-append (numbers e) (concat-map numbers es) ∙ ap (λ i. i + length (concat-map numbers es))
+    (entry-long e) ∙ ap (λ i. ENTRY + i) (numbers-long es) ∙ one-more-entry (length es)
   where
     one-more-entry : (n : ℕ) → ENTRY + ENTRY * n ≡ ENTRY * suc n
     one-more-entry n = omega arith
@@ -63,7 +67,9 @@ written-plain n = record {
     go : (e : Entry) (k : Ctx) → Written n k → (b : Bool) → leb ENTRY (k .room) ≡ b → Holds (bind (require 11 b k) (add-numbers (numbers e))) (Written n)
     go e k h true q = record {
       entries = (h .entries .0 ++ (e ∷ []), numbers-more (h .entries .0) (k .out) e (h .entries .1));
-      room = ap (λ i. i + (k .room - ENTRY)) (length-append (k .out) (numbers e)) ∙ ap (λ i. (length (k .out) + i) + (k .room - ENTRY)) (entry-long e) ∙ left-over (length (k .out)) (k .room) (leb-true ENTRY (k .room) q) (h .room);
+      room = ap (λ i. i + (k .room - ENTRY)) (length-append (k .out) (numbers e))
+          ∙ ap (λ i. (length (k .out) + i) + (k .room - ENTRY)) (entry-long e)
+          ∙ left-over (length (k .out)) (k .room) (leb-true ENTRY (k .room) q) (h .room);
     }
       where
         left-over : (m i : ℕ) → ENTRY ≤ i → m + i ≡ n → (m + ENTRY) + (i - ENTRY) ≡ n
@@ -86,18 +92,21 @@ outcome-fits n u (refuse e) h = record { entries = ([], refl); room = omega arit
 
 pub start-fits : (c : Chart) (u : State) (n : ℕ) → Fits-room n (start c u n)
 unfolding start
-start-fits c u n = outcome-fits n u (start-steps c (begin (fresh c) n)) (start-plain (Written n) (written-plain n) c (begin (fresh c) n) (begin-written (fresh c) n))
+start-fits c u n = outcome-fits n u (start-steps c (begin (fresh c) n))
+    (start-plain (Written n) (written-plain n) c (begin (fresh c) n) (begin-written (fresh c) n))
 
 pub run-fits : (c : Chart) (u : State) (n : ℕ) → Fits-room n (run c u n)
 unfolding run tests
 run-fits c u n = outcome-fits n u ((tests c u then react c (removed (u .queue))) (begin u n))
-    (then-stays (Written n) (tests c u) (react c (removed (u .queue))) (then-stays (Written n) (require 7 (u .started)) (require 6 (own c u)) (require-stays (Written n) 7 (u .started)) (require-stays (Written n) 6 (own c u)))
+    (then-stays (Written n) (tests c u) (react c (removed (u .queue))) (then-stays (Written n) (require 7 (u .started))
+    (require 6 (own c u)) (require-stays (Written n) 7 (u .started)) (require-stays (Written n) 6 (own c u)))
     (react-plain (Written n) (written-plain n) c (removed (u .queue))) (begin u n) (begin-written u n))
 
 -- the count of entries that a call hands out is that of the entries written
 pub count-of : (n : ℕ) (o : Outcome) (f : Fits-room n o) → called o .entries ≡ length (f .entries .0)
 unfolding called
-count-of n o f = ap (λ l. length l / ENTRY) (f .entries .1) ∙ ap (λ i. i / ENTRY) (numbers-long (f .entries .0)) ∙ thirds (length (f .entries .0))
+count-of n o f = ap (λ l. length l / ENTRY) (f .entries .1)
+    ∙ ap (λ i. i / ENTRY) (numbers-long (f .entries .0)) ∙ thirds (length (f .entries .0))
   where
     thirds : (m : ℕ) → (ENTRY * m) / ENTRY ≡ m
     thirds m = omega arith

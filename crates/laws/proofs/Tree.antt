@@ -45,7 +45,8 @@ pub under-climb : (c : Chart) → Ordered c → (s f d : ℕ) → d ≤ f → Un
 unfolding climb has
 under-climb c o s zero (suc n) h u = absurd (omega arith)
 under-climb c o s (suc f) (suc n) h (child e) = or-left (eqb s (parent-of c (suc n))) _ (eq-eqb _ _ (sym e))
-under-climb c o s (suc f) (suc n) h (deeper u) = or-right (eqb s (parent-of c (suc n))) _ (under-climb c o s f (parent-of c (suc n)) (omega (arith, o .falls n)) u)
+under-climb c o s (suc f) (suc n) h (deeper u) =
+    or-right (eqb s (parent-of c (suc n))) _ (under-climb c o s f (parent-of c (suc n)) (omega (arith, o .falls n)) u)
 
 pub has-under : (c : Chart) (s d : ℕ) → has s (ancestors c d) ≡ true → Under c s d
 unfolding ancestors
@@ -69,7 +70,8 @@ unfolding keep
 keep-append p [] ys = refl
 keep-append {A} p (x ∷ xs) ys = go (p x) (keep-append p xs ys)
   where
-    go : (b : Bool) → keep p (xs ++ ys) ≡ keep p xs ++ keep p ys → cond b (x ∷ keep p (xs ++ ys)) (keep p (xs ++ ys)) ≡ cond b (x ∷ keep p xs) (keep p xs) ++ keep p ys
+    go : (b : Bool) → keep p (xs ++ ys) ≡ keep p xs ++ keep p ys
+        → cond b (x ∷ keep p (xs ++ ys)) (keep p (xs ++ ys)) ≡ cond b (x ∷ keep p xs) (keep p xs) ++ keep p ys
     go true ih = ap (λ l. x ∷ l) ih
     go false ih = ih
 
@@ -94,15 +96,18 @@ keep-first p a zero h = refl
 keep-first p a (suc n) h = go (p a) refl (keep-first p (suc a) n (λ x l g. h x (omega arith) (omega arith)))
   where
     go : (b : Bool) → p a ≡ b → keep p (from (suc a) n) ≡ from (suc a) (length (keep p (from (suc a) n)))
-        → cond b (a ∷ keep p (from (suc a) n)) (keep p (from (suc a) n)) ≡ from a (length (cond b (a ∷ keep p (from (suc a) n)) (keep p (from (suc a) n))))
+        → cond b (a ∷ keep p (from (suc a) n)) (keep p (from (suc a) n))
+        ≡ from a (length (cond b (a ∷ keep p (from (suc a) n)) (keep p (from (suc a) n))))
     go true e ih = ap (λ l. a ∷ l) ih
-    go false e ih = rw (keep-none p (suc a) n (λ x l g. let q : x ≡ a + (x - a) = omega arith in rw q (stays-false p a (a + suc n) h e (x - a) (omega arith))))
+    go false e ih = rw (keep-none p (suc a) n
+        (λ x l g. let q : x ≡ a + (x - a) = omega arith in rw q (stays-false p a (a + suc n) h e (x - a) (omega arith))))
 
 pub keep-cut : (p : ℕ → Bool) (k m : ℕ) → ((x : ℕ) → x < k → p x ≡ false) → keep p (from 0 (k + m)) ≡ keep p (from k m)
 keep-cut p k m h =
     rw (from-add, keep-append, keep-none p 0 k (λ x l g. h x (omega arith)), zero-add)
 
-pub keep-range : (p : ℕ → Bool) (k m : ℕ) → ((x : ℕ) → x < k → p x ≡ false) → Closed p k (k + m) → keep p (from 0 (k + m)) ≡ from k (length (keep p (from 0 (k + m))))
+pub keep-range : (p : ℕ → Bool) (k m : ℕ)
+    → ((x : ℕ) → x < k → p x ≡ false) → Closed p k (k + m) → keep p (from 0 (k + m)) ≡ from k (length (keep p (from 0 (k + m))))
 keep-range p k m h g = rw (keep-cut p k m h) (keep-first p k m g)
 
 -- ---- the proper descendants are a range
@@ -119,5 +124,6 @@ module _ (c : Chart) (o : Ordered c) (s : ℕ) (h : s < length (c .states)) wher
 
   pub range : descendants c s ≡ from (suc s) (length (descendants c s))
   unfolding descendants all-states
-  range = subst (λ n. Closed (λ d. has s (ancestors c d)) (suc s) n → keep (λ d. has s (ancestors c d)) (from 0 n) ≡ from (suc s) (length (keep (λ d. has s (ancestors c d)) (from 0 n))))
+  range = subst (λ n. Closed (λ d. has s (ancestors c d)) (suc s) n
+      → keep (λ d. has s (ancestors c d)) (from 0 n) ≡ from (suc s) (length (keep (λ d. has s (ancestors c d)) (from 0 n))))
       (sym size-split) (keep-range (λ d. has s (ancestors c d)) (suc s) (length (c .states) - suc s) none-up-to) down

@@ -17,7 +17,8 @@ use Rattle.meaning.specs.Lists.{chunks, every, every-from}
 use Rattle.meaning.specs.Rules.{after-rule-0, failing-rule, failing-rule-of}
 use Rattle.meaning.specs.Tree.{trans-row, var-row}
 use Rattle.meaning.specs.Value.{ACT-ROW, ACTIONS-AT, Rows, STATE-ROW, STATES-AT, TRANS-ROW, TRANSITIONS-AT, VALUE, VAR-ROW, VARS-AT, act-by}
-use Rattle.meaning.specs.Value.{action-by, action-statable, chart-by, chart-of, count-fits, counts-fit, fits, guard-by, is-absent, is-letter}
+use Rattle.meaning.specs.Value.{action-by, action-statable, chart-by, chart-of, count-fits, counts-fit, fits, guard-by, is-absent}
+use Rattle.meaning.specs.Value.{is-letter}
 use Rattle.meaning.specs.Value.{num, one-of-letters, rows-of, rows-statable, rule-0, size-by, state-by, state-statable}
 use Rattle.meaning.specs.Value.{trans-by, trans-statable, var-by, var-statable}
 use Rattle.meaning.specs.declared.chart.Act.{Act}
@@ -83,9 +84,11 @@ ref-most : (most : ℕ) (z : ℤ) → count-fits 0 most z ≡ true → ref z ≤
 ref-most most (pos n) e = leb-true n most (and-right (leb 0 n) (leb n most) e)
 ref-most most (negsuc n) e = absurd (false≢true e)
 
-module _ (a x y : ℤ) (e : (one-of-letters (bytes "saq") a && (inRange x && inRange y)) || (one-of-letters (bytes "ko") a && (inRange x && is-absent y)) ≡ true) where
+module _ (a x y : ℤ) (e : (one-of-letters (bytes "saq") a && (inRange x && inRange y))
+    || (one-of-letters (bytes "ko") a && (inRange x && is-absent y)) ≡ true) where
   -- of the letters s, a and q both numbers are in range
-  second-range : (l : ℕ) → is-letter l a ≡ true → one-of-letters (bytes "saq") (pos l) ≡ true → one-of-letters (bytes "ko") (pos l) ≡ false → inRange y ≡ true
+  second-range : (l : ℕ) → is-letter l a ≡ true
+      → one-of-letters (bytes "saq") (pos l) ≡ true → one-of-letters (bytes "ko") (pos l) ≡ false → inRange y ≡ true
   second-range l h p q = go (inRange x) (inRange y) (rw (eqZ-true a (pos l) h, p, q) at e)
     where
       go : (s t : Bool) → (s && t) || false ≡ true → t ≡ true
@@ -108,7 +111,8 @@ module _ (a x y : ℤ) (e : (one-of-letters (bytes "saq") a && (inRange x && inR
   act-range-by = go (is-letter 115 a) (is-letter 97 a) (is-letter 107 a) (is-letter 113 a) refl refl refl
     where
       go : (s p k q : Bool) → is-letter 115 a ≡ s → is-letter 97 a ≡ p → is-letter 113 a ≡ q
-          → Act-in-range (cond s (set-to (ref x) y) (cond p (add-to (ref x) y) (cond k (take-to (ref x)) (cond q (send (ref x) y) (tell x)))))
+          → Act-in-range
+          (cond s (set-to (ref x) y) (cond p (add-to (ref x) y) (cond k (take-to (ref x)) (cond q (send (ref x) y) (tell x)))))
       go true p k q hs hp hq = second-range 115 hs refl refl
       go false true k q hs hp hq = second-range 97 hp refl refl
       go false false true q hs hp hq = tt
@@ -118,7 +122,8 @@ module _ (a x y : ℤ) (e : (one-of-letters (bytes "saq") a && (inRange x && inR
 act-range : (row : List ℤ) → action-statable row ≡ true → Act-in-range (action-by row .act)
 unfolding action-statable action-by
 act-range row e =
-    let l0 = (one-of-letters (bytes "saq") (num row 2) && (inRange (num row 3) && inRange (num row 4))) || (one-of-letters (bytes "ko") (num row 2) && (inRange (num row 3) && is-absent (num row 4))) in
+    let l0 = (one-of-letters (bytes "saq") (num row 2) && (inRange (num row 3) && inRange (num row 4)))
+    || (one-of-letters (bytes "ko") (num row 2) && (inRange (num row 3) && is-absent (num row 4))) in
     act-range-by (num row 2) (num row 3) (num row 4)
     (and-right (inRange (num row 1)) l0 (and-right (one-of-letters (bytes "exdt") (num row 0)) (inRange (num row 1) && l0) e))
 
@@ -142,7 +147,8 @@ module _
     guard-range-by = go (is-letter 61 g) (is-letter 60 g) (is-letter 62 g) refl refl refl
       where
         go : (p q r : Bool) → is-letter 61 g ≡ p → is-letter 60 g ≡ q → is-letter 62 g ≡ r
-            → Guard-in-range (cond p (compares (ref v) equal x) (cond q (compares (ref v) less x) (cond r (compares (ref v) more x) always)))
+            → Guard-in-range
+            (cond p (compares (ref v) equal x) (cond q (compares (ref v) less x) (cond r (compares (ref v) more x) always)))
         go true q r hp hq hr = constant-range 61 hp refl
         go false true r hp hq hr = constant-range 60 hq refl
         go false false true hp hq hr = constant-range 62 hr refl
@@ -168,26 +174,31 @@ row-range row e =
 module _ (r : Rows) (e : rows-statable r ≡ true) where
   rest-1 : (every var-statable (r .vars) && (every trans-statable (r .transitions) && every action-statable (r .actions))) ≡ true
   unfolding rows-statable
-  rest-1 = and-right (every-from state-statable 0 (r .states)) (every var-statable (r .vars) && (every trans-statable (r .transitions) && every action-statable (r .actions))) e
+  rest-1 = and-right (every-from state-statable 0 (r .states))
+      (every var-statable (r .vars) && (every trans-statable (r .transitions) && every action-statable (r .actions))) e
 
   vars-statable : every var-statable (r .vars) ≡ true
-  vars-statable = and-left (every var-statable (r .vars)) (every trans-statable (r .transitions) && every action-statable (r .actions)) rest-1
+  vars-statable = and-left (every var-statable (r .vars))
+      (every trans-statable (r .transitions) && every action-statable (r .actions)) rest-1
 
   rest-2 : (every trans-statable (r .transitions) && every action-statable (r .actions)) ≡ true
   rest-2 = and-right (every var-statable (r .vars)) (every trans-statable (r .transitions) && every action-statable (r .actions)) rest-1
 
   rows-by : (v : ℕ) → v < length (r .vars) → Row-in-range (var-row (map var-by (r .vars)) v)
   unfolding var-row
-  rows-by v l = subst Row-in-range (sym (getD-map var-by (r .vars) v no-var [] l)) (row-range _ (every-at var-statable (r .vars) vars-statable v l []))
+  rows-by v l = subst Row-in-range (sym (getD-map var-by (r .vars) v no-var [] l))
+      (row-range _ (every-at var-statable (r .vars) vars-statable v l []))
 
   guards-by : (t : ℕ) → t < length (r .transitions) → Guard-in-range (trans-row (chart-by r) t .guard)
   unfolding trans-row chart-by
   guards-by t l = subst (λ x. Guard-in-range (x .guard)) (sym (getD-map trans-by (r .transitions) t no-trans [] l))
-      (guard-range _ (every-at trans-statable (r .transitions) (and-left (every trans-statable (r .transitions)) (every action-statable (r .actions)) rest-2) t l []))
+      (guard-range _ (every-at trans-statable (r .transitions)
+      (and-left (every trans-statable (r .transitions)) (every action-statable (r .actions)) rest-2) t l []))
 
   acts-by : (i : ℕ) → i < length (r .actions) → Act-in-range (getD (map action-by (r .actions)) i no-action .act)
   acts-by i l = subst (λ x. Act-in-range (x .act)) (sym (getD-map action-by (r .actions) i no-action [] l))
-      (act-range _ (every-at action-statable (r .actions) (and-right (every trans-statable (r .transitions)) (every action-statable (r .actions)) rest-2) i l []))
+      (act-range _ (every-at action-statable (r .actions)
+      (and-right (every trans-statable (r .transitions)) (every action-statable (r .actions)) rest-2) i l []))
 
 events-most : (v : List ℤ) → counts-fit v ≡ true → ref (num v 2) ≤ EVENTS
 unfolding counts-fit
@@ -195,7 +206,8 @@ events-most v e =
     let f = count-fits 0 TRANSITIONS (num v 3) && count-fits 0 ACTIONS (num v 4) in
     let g = count-fits 0 EVENTS (num v 2) && f in
     let h = count-fits 0 VARIABLES (num v 1) && g in
-    ref-most EVENTS (num v 2) (and-left (count-fits 0 EVENTS (num v 2)) f (and-right (count-fits 0 VARIABLES (num v 1)) g (and-right (count-fits 2 STATES (num v 0)) h e)))
+    ref-most EVENTS (num v 2) (and-left (count-fits 0 EVENTS (num v 2)) f
+    (and-right (count-fits 0 VARIABLES (num v 1)) g (and-right (count-fits 2 STATES (num v 0)) h e)))
 
 -- a value that keeps R0 states a chart of 01's sizes
 pub sized-chart : (v : List ℤ) → rule-0 v ≡ true → Sized-chart (chart-of v)
@@ -204,11 +216,15 @@ sized-chart v e =
     let f = and-right (leb VALUE (length v)) (counts-fit v && rows-statable (rows-of v)) e in
     let s = and-right (counts-fit v) (rows-statable (rows-of v)) f in
     record {
-      states = subst (λ n. n ≤ STATES) (sym (length-map (rows-of v .states) state-by ∙ length-chunks (size-by STATES (num v 0)) STATE-ROW (drop STATES-AT v))) (size-by-most STATES (num v 0));
-      vars = subst (λ n. n ≤ VARIABLES) (sym (length-map (rows-of v .vars) var-by ∙ length-chunks (size-by VARIABLES (num v 1)) VAR-ROW (drop VARS-AT v))) (size-by-most VARIABLES (num v 1));
+      states = subst (λ n. n ≤ STATES) (sym (length-map (rows-of v .states) state-by
+          ∙ length-chunks (size-by STATES (num v 0)) STATE-ROW (drop STATES-AT v))) (size-by-most STATES (num v 0));
+      vars = subst (λ n. n ≤ VARIABLES) (sym (length-map (rows-of v .vars) var-by
+          ∙ length-chunks (size-by VARIABLES (num v 1)) VAR-ROW (drop VARS-AT v))) (size-by-most VARIABLES (num v 1));
       events = events-most v (and-left (counts-fit v) (rows-statable (rows-of v)) f);
-      transitions = subst (λ n. n ≤ TRANSITIONS) (sym (length-map (rows-of v .transitions) trans-by ∙ length-chunks (size-by TRANSITIONS (num v 3)) TRANS-ROW (drop TRANSITIONS-AT v))) (size-by-most TRANSITIONS (num v 3));
-      actions = subst (λ n. n ≤ ACTIONS) (sym (length-map (rows-of v .actions) action-by ∙ length-chunks (size-by ACTIONS (num v 4)) ACT-ROW (drop ACTIONS-AT v))) (size-by-most ACTIONS (num v 4));
+      transitions = subst (λ n. n ≤ TRANSITIONS) (sym (length-map (rows-of v .transitions) trans-by
+          ∙ length-chunks (size-by TRANSITIONS (num v 3)) TRANS-ROW (drop TRANSITIONS-AT v))) (size-by-most TRANSITIONS (num v 3));
+      actions = subst (λ n. n ≤ ACTIONS) (sym (length-map (rows-of v .actions) action-by
+          ∙ length-chunks (size-by ACTIONS (num v 4)) ACT-ROW (drop ACTIONS-AT v))) (size-by-most ACTIONS (num v 4));
       rows-range = λ i l. rows-by (rows-of v) s i (subst (λ n. i < n) (length-map (rows-of v .vars) var-by) l);
       guards-range = λ i l. guards-by (rows-of v) s i (subst (λ n. i < n) (length-map (rows-of v .transitions) trans-by) l);
       acts-range = λ i l. acts-by (rows-of v) s i (subst (λ n. i < n) (length-map (rows-of v .actions) action-by) l);

@@ -21,7 +21,8 @@ use Rattle.numbers.specs.declared.Place.{Place as Slot}
 use Rattle.numbers.specs.declared.Place.the-variants.{At as holds, Empty as empty}
 
 -- the proper descendants of a state are the numbers that follow it
-pub descendants-range : (c : Chart) → Sound-chart c → (s : ℕ) → s < length (c .states) → descendants c s ≡ from (suc s) (length (descendants c s))
+pub descendants-range : (c : Chart) → Sound-chart c
+    → (s : ℕ) → s < length (c .states) → descendants c s ≡ from (suc s) (length (descendants c s))
 descendants-range c h s l = range c (h .ordered) s l
 
 -- ---- the child on the path
@@ -37,7 +38,8 @@ towards-climb c o s (suc f) (suc n) l (deeper u) =
     next : ℕ
     next = first-that (is-child c s) (parent-of c (suc n) ∷ climb c f (parent-of c (suc n)))
 
-    go : (b : Bool) → is-child c s (suc n) ≡ b → (is-child c s next ≡ true) × (next ≤ parent-of c (suc n)) → (is-child c s (cond b (suc n) next) ≡ true) × (cond b (suc n) next ≤ suc n)
+    go : (b : Bool) → is-child c s (suc n) ≡ b → (is-child c s next ≡ true) × (next ≤ parent-of c (suc n))
+        → (is-child c s (cond b (suc n) next) ≡ true) × (cond b (suc n) next ≤ suc n)
     go true e q = (e, omega arith)
     go false e q = (q .0, omega (arith, q .1, o .falls n))
 
@@ -76,7 +78,12 @@ module _ (c : Chart) (h : Sound-chart c) where
 
   pub defaults-sound : Sound c by-defaults
   unfolding by-defaults
-  defaults-sound = record { ordered = h .ordered; on = λ s d k e. absurd (on-not-defaults d e); by = λ s k e. h .default s k; leaf = h .leaf }
+  defaults-sound = record {
+    ordered = h .ordered;
+    on = λ s d k e. absurd (on-not-defaults d e);
+    by = λ s k e. h .default s k;
+    leaf = h .leaf;
+  }
 
   pub owner-sound : (b : ℕ) → b < length (c .states) → Sound c (towards-owner c b)
   unfolding towards-owner
@@ -87,7 +94,8 @@ module _ (c : Chart) (h : Sound-chart c) where
       go s d false e = towards-on b l s d e
 
   -- slots that hold children
-  pub slots-sound : (u : State) → ((s d : ℕ) → slot u s ≡ holds d → (is-child c s d ≡ true) × (d < length (c .states))) → Sound c (by-slots u)
+  pub slots-sound : (u : State) → ((s d : ℕ) → slot u s ≡ holds d → (is-child c s d ≡ true) × (d < length (c .states)))
+      → Sound c (by-slots u)
   unfolding by-slots slot-way
   slots-sound u fits = record {
     ordered = h .ordered;
@@ -115,9 +123,11 @@ module _ (c : Chart) (h : Sound-chart c) where
   defaults-pass s k = pass c by-defaults defaults-sound s k
 
   pub owner-pass : (b s : ℕ) → b < length (c .states) → s < length (c .states)
-      → all-below c (towards-owner c b) s ≡ map (visit-of c (towards-owner c b)) (keep (λ x. reach c (towards-owner c b) s x x) (descendants c s))
+      → all-below c (towards-owner c b) s
+      ≡ map (visit-of c (towards-owner c b)) (keep (λ x. reach c (towards-owner c b) s x x) (descendants c s))
   owner-pass b s l k = pass c (towards-owner c b) (owner-sound b l) s k
 
-  pub slots-pass : (u : State) (s : ℕ) → ((p d : ℕ) → slot u p ≡ holds d → (is-child c p d ≡ true) × (d < length (c .states))) → s < length (c .states)
+  pub slots-pass : (u : State) (s : ℕ) → ((p d : ℕ) → slot u p ≡ holds d → (is-child c p d ≡ true) × (d < length (c .states)))
+      → s < length (c .states)
       → all-below c (by-slots u) s ≡ map (visit-of c (by-slots u)) (keep (λ x. reach c (by-slots u) s x x) (descendants c s))
   slots-pass u s fits k = pass c (by-slots u) (slots-sound u fits) s k

@@ -22,7 +22,8 @@ ghost use Rattle.meaning.specs.Machine.{machine-start, machine-run, machine-pos
 
 // Starts a widget: 5 where the plan is not well formed; then the first refusal met. It tests neither 7 nor 6.
 pub fn start(plan: &[i32], state: State, trace: &mut [i32]) -> Called
-    ensures { λ r. ⌜ (r ≡ called (machine-start (now (plan .entry)) state (length (now (trace .entry))))) × (now (trace .exit) ≡ lent (length (now (trace .entry))) (machine-start (now (plan .entry)) state (length (now (trace .entry))))) ⌝ }
+    ensures { λ r. ⌜ (r ≡ called (machine-start (now (plan .entry)) state (length (now (trace .entry))))) × (now (trace .exit)
+        ≡ lent (length (now (trace .entry))) (machine-start (now (plan .entry)) state (length (now (trace .entry))))) ⌝ }
 {
     let verdict = examine(plan);
     if verdict.number != 0 {
@@ -33,7 +34,8 @@ pub fn start(plan: &[i32], state: State, trace: &mut [i32]) -> Called
 
 // Runs the front event: 5 where the plan is not well formed; then 7, 6, 8; then the first refusal met.
 pub fn run(plan: &[i32], state: State, trace: &mut [i32]) -> Called
-    ensures { λ r. ⌜ (r ≡ called (machine-run (now (plan .entry)) state (length (now (trace .entry))))) × (now (trace .exit) ≡ lent (length (now (trace .entry))) (machine-run (now (plan .entry)) state (length (now (trace .entry))))) ⌝ }
+    ensures { λ r. ⌜ (r ≡ called (machine-run (now (plan .entry)) state (length (now (trace .entry))))) × (now (trace .exit)
+        ≡ lent (length (now (trace .entry))) (machine-run (now (plan .entry)) state (length (now (trace .entry))))) ⌝ }
 {
     let verdict = examine(plan);
     if verdict.number != 0 {

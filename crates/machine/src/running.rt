@@ -74,7 +74,8 @@ pub fn settled(
 // "A run removes the front event and makes one step with it. Then null steps follow."
 pub fn run_examined(plan: &[i32], k: Counts, state: State, trace: &mut [i32]) -> Called
     requires { ⌜ Examined (now plan) k ⌝ }
-    ensures { λ r. ⌜ (r ≡ called (plan-run (plan-by (now (plan .entry))) state (length (now (trace .entry))))) × (now (trace .exit) ≡ lent (length (now (trace .entry))) (plan-run (plan-by (now (plan .entry))) state (length (now (trace .entry))))) ⌝ }
+    ensures { λ r. ⌜ (r ≡ called (plan-run (plan-by (now (plan .entry))) state (length (now (trace .entry))))) × (now (trace .exit)
+        ≡ lent (length (now (trace .entry))) (plan-run (plan-by (now (plan .entry))) state (length (now (trace .entry))))) ⌝ }
 {
     if !state.started {
         return refuse(NOT_STARTED, 0, state, trace);

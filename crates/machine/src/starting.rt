@@ -56,7 +56,9 @@ fn begin(
     trace: &mut [i32],
 ) -> Went
     requires { ⌜ Examined (now plan) k × (length (now picks) ≡ transitions) × Slotted (now slots) × Linked (now plan) k (now links) ⌝ }
-    ensures { λ r. ⌜ Ran (plan-start-steps (plan-by (now (plan .entry)))) (all-lent (now (active .entry)) (now (slots .entry)) (now (vars .entry)) (now (queue .entry)) (now (trace .entry))) 0 r (all-lent (now (active .exit)) (now (slots .exit)) (now (vars .exit)) (now (queue .exit)) (now (trace .exit))) ⌝ }
+    ensures { λ r. ⌜ Ran (plan-start-steps (plan-by (now (plan .entry))))
+        (all-lent (now (active .entry)) (now (slots .entry)) (now (vars .entry)) (now (queue .entry)) (now (trace .entry))) 0 r
+        (all-lent (now (active .exit)) (now (slots .exit)) (now (vars .exit)) (now (queue .exit)) (now (trace .exit))) ⌝ }
 {
     let started = run_block(plan, k, 0, k.start, 0, active, slots, vars, queue, trace, 0);
     if started.number != 0 {
@@ -79,7 +81,8 @@ fn begin(
 // "Start, with argument 0 and whatever the state held .. It tests neither 7 nor 6."
 pub fn start_examined(plan: &[i32], k: Counts, state: State, trace: &mut [i32]) -> Called
     requires { ⌜ Examined (now plan) k ⌝ }
-    ensures { λ r. ⌜ (r ≡ called (plan-start (plan-by (now (plan .entry))) state (length (now (trace .entry))))) × (now (trace .exit) ≡ lent (length (now (trace .entry))) (plan-start (plan-by (now (plan .entry))) state (length (now (trace .entry))))) ⌝ }
+    ensures { λ r. ⌜ (r ≡ called (plan-start (plan-by (now (plan .entry))) state (length (now (trace .entry))))) × (now (trace .exit)
+        ≡ lent (length (now (trace .entry))) (plan-start (plan-by (now (plan .entry))) state (length (now (trace .entry))))) ⌝ }
 {
     let mut active: [bool; STATES] = [false; STATES];
     let mut slots: [i32; STATES] = [-1; STATES];

@@ -42,7 +42,8 @@ faults (t ∷ ts) = fault-of (read t VALUE) ∷ faults ts
 
 -- n states: the root, and n - 1 children of kind b
 states : ℕ → List ℕ
-states n = ended (text-of-row s-record 0 (ABSENT ∷ pos 111 ∷ pos 1 ∷ []) ∷ map-from (text-of-row s-record) 1 (replicate (n - 1) (pos 0 ∷ pos 98 ∷ ABSENT ∷ [])))
+states n = ended (text-of-row s-record 0
+    (ABSENT ∷ pos 111 ∷ pos 1 ∷ []) ∷ map-from (text-of-row s-record) 1 (replicate (n - 1) (pos 0 ∷ pos 98 ∷ ABSENT ∷ [])))
 
 -- in the order: an empty text; its E line missing; a last line without LF; an empty last line; 32 and 33 events; 1 before 2 on one line;
 -- a leading zero; 64 states, 65, and a 65th of the wrong form; -1 as a parent, and "-"; h-1 as a target

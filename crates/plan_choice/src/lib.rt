@@ -59,7 +59,8 @@ fn enabled(
 
 // Whether the spans of two heads, whose rows begin at these places, have a state in common.
 fn meet(plan: &[i32], at: usize, other: usize) -> bool
-    requires { ⌜ (at + HEAD-ROW ≤ length (now plan)) × (other + HEAD-ROW ≤ length (now plan)) × Spanned (head-at (now plan) at) × Spanned (head-at (now plan) other) ⌝ }
+    requires { ⌜ (at + HEAD-ROW ≤ length (now plan))
+        × (other + HEAD-ROW ≤ length (now plan)) × Spanned (head-at (now plan) at) × Spanned (head-at (now plan) other) ⌝ }
     ensures { λ r. ⌜ r ≡ spans-meet (head-at (now (plan .entry)) at) (head-at (now (plan .entry)) other) ⌝ }
 {
     if known(plan, other + SPAN_LAST) < known(plan, at + SPAN_FIRST) {

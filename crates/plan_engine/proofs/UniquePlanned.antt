@@ -1,5 +1,5 @@
--- The same of the calls on a widget over a plan and of replay (01, "Promises"): each requires nothing, says its promise, and allows one result.
--- Assumes nothing.
+-- The same of the calls on a widget over a plan and of replay (01, "Promises"): each requires nothing, says its promise, and
+-- allows one result. Assumes nothing.
 use mathlib.Core.Path.{refl}
 use contract.Lifetimes.{Lfts}
 use denote.Ref.{now}

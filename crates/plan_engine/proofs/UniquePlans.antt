@@ -1,4 +1,5 @@
--- The same of the functions that make and examine plans (01, "Promises"): each requires nothing, says its promise, and allows one result. Assumes nothing.
+-- The same of the functions that make and examine plans (01, "Promises"): each requires nothing, says its promise, and allows one
+-- result. Assumes nothing.
 use mathlib.Core.Path.{refl}
 use contract.Lifetimes.{Lfts}
 use denote.Ref.{now}

@@ -1,12 +1,12 @@
 -- The plan of a chart that passes the rules (01, "The plan"): its numbers, whatever follows them, read back as the plan and are well
 -- formed. First for a chart, then for a chart handed over as a value, then for what compiling leaves in a lent slice. Assumes nothing.
 use mathlib.Core.Path.{_≡_, ap, refl, subst, sym}
-use Prim.Native.Nat.{_-_, _<_, suc, ℕ}
+use Prim.Native.Nat.{_-_, _<_, ℕ}
 use native.Mathlib.Omega.{arith}
 use mathlib.Core.Bool.{Bool, cond, false, true}
 use mathlib.Core.List.{List, [], _++_, _∷_, map}
 use mathlib.Core.Option.{Option, none, some}
-use lib.ListN.{getD, length, length-append, replicate}
+use lib.ListN.{length, length-append, replicate}
 use lib.Dec.{ltb}
 use lib.IntN.{pos, ℤ}
 use Rattle.laws.specs.Facts.{Each, none-left, one-more}
@@ -29,11 +29,6 @@ use Rattle.plan_laws.proofs.Heads.{blocks-joined, heads-fill, heads-fit
 use Rattle.plan_laws.proofs.Order.{order-each, order-many}
 use Rattle.plan_laws.proofs.Pieces.{Counts-of, block-piece, start-piece}
 use Rattle.plan_laws.proofs.ReadBack.{Sayable, counts, read-back}
-
--- what holds of the element at each place holds of each element
-each-of : {A : Type 0} (P : A → Type 0) (d : A) (xs : List A) → ((i : ℕ) → i < length xs → P (getD xs i d)) → Each P xs
-each-of P d [] h = none-left
-each-of P d (x ∷ xs) h = one-more (h 0 (omega arith)) (each-of P d xs (λ i l. h (suc i) (omega arith)))
 
 -- ---- a chart that passes the rules
 

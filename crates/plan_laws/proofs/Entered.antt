@@ -25,7 +25,7 @@ use Rattle.meaning.specs.declared.chart.Owner.the-variants.{DefaultOf as defaul
 use Rattle.meaning.specs.declared.plan.Instr.the-variants.{SkipEmpty as skip-empty}
 use Rattle.plan_laws.proofs.Lines.{enter-long, stored-lines, visits-lines, whole-state}
 use Rattle.plan_laws.proofs.Owned.{acts-many, defaults, entries}
-use Rattle.plan_laws.proofs.Totals.{keep-within, length-collected, length-from, total, total-apart, total-kept, total-mapped}
+use Rattle.plan_laws.proofs.Totals.{length-collected, length-from, total, total-apart, total-kept, total-mapped}
 use Rattle.plan_laws.proofs.Totals.{total-most, total-when, total-part, total-same, total-sum}
 
 module _ (c : Chart) (h : Sound-chart c) where

@@ -4,7 +4,7 @@ use mathlib.Core.Logic.{⊎-elim}
 use Prim.Native.Nat.{_*_, _+_, _<_, _≤_, suc, zero, ℕ}
 use native.Mathlib.Nat.{suc-mul, zero-add, zero-mul}
 use native.Mathlib.Omega.{arith}
-use mathlib.Core.Bool.{Bool, cond, false, true, true≢false}
+use mathlib.Core.Bool.{Bool, cond, false, true}
 use mathlib.Core.List.{List, [], _++_, _∷_, map, reverse, reverseAux}
 use lib.ListN.{length, length-append}
 use Rattle.laws.proofs.Lists.{same-or}
@@ -81,19 +81,6 @@ module _ {A : Type 0} where
       go true false d e ih = omega arith
       go false true d e ih = omega arith
       go false false d e ih = omega arith
-
-  -- a narrower test keeps the same of what a wider one has kept
-  pub keep-within : (p q : A → Bool) → ((x : A) → p x ≡ true → q x ≡ true) → (xs : List A) → keep p (keep q xs) ≡ keep p xs
-  unfolding keep
-  keep-within p q h [] = refl
-  keep-within p q h (x ∷ xs) = go (p x) (q x) refl refl (keep-within p q h xs)
-    where
-      go : (a b : Bool) → p x ≡ a → q x ≡ b → keep p (keep q xs) ≡ keep p xs
-          → keep p (cond b (x ∷ keep q xs) (keep q xs)) ≡ cond a (x ∷ keep p xs) (keep p xs)
-      go true true d e ih = rw d (ap (λ l. x ∷ l) ih)
-      go true false d e ih = absurd (true≢false (sym (h x d) ∙ e))
-      go false true d e ih = rw d ih
-      go false false d e ih = ih
 
   total-turned : (f : A → ℕ) (xs ys : List A) → total f (reverseAux xs ys) ≡ total f xs + total f ys
   unfolding total

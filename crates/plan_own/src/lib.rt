@@ -77,7 +77,8 @@ fn slots_fit(states: usize, slots: [i32; STATES]) -> bool
 // Whether a started state is one that the plan machine runs; else answer 6.
 pub fn own(plan: &[i32], k: Counts, state: State) -> bool
     requires { ⌜ Examined (now plan) k ⌝ }
-    ensures { λ r. ⌜ r ≡ plan-own (plan-by (now (plan .entry)) .states) (plan-by (now (plan .entry)) .vars) (plan-by (now (plan .entry)) .events) state ⌝ }
+    ensures { λ r. ⌜ r ≡ plan-own (plan-by (now (plan .entry)) .states)
+        (plan-by (now (plan .entry)) .vars) (plan-by (now (plan .entry)) .events) state ⌝ }
 {
     let active = state.active;
     if !active[0] {

@@ -1,9 +1,9 @@
-// A session over a compiled plan, for two programs: reads chart.txt, a missing one as empty, compiles it, examines the plan once, starts a
-// widget, and replays the events of standard input, lines of event, tab, argument, one a call, so that the trace of every run is seen.
-// `trace_plan` shows what the trace program shows (01, the end of "Checked by example"): a report of the start and of each line, whatever the
-// answer. `replay` stops at the first refusal, where a line of another form is answer 1, and writes one line at the end: how many events were
-// done, how many transitions their runs took, and the answer that stopped it, if any; and every 100,000 events a line of progress on
-// standard error.
+// A session over a compiled plan, for two programs: reads chart.txt, a missing one as empty, compiles it, examines the plan once,
+// starts a widget, and replays the events of standard input, lines of event, tab, argument, one a call, so that the trace of
+// every run is seen. `trace_plan` shows what the trace program shows (01, the end of "Checked by example"): a report of the start
+// and of each line, whatever the answer. `replay` stops at the first refusal, where a line of another form is answer 1, and
+// writes one line at the end: how many events were done, how many transitions their runs took, and the answer that stopped it, if
+// any; and every 100,000 events a line of progress on standard error.
 use console::LF;
 use console::Scan;
 use console::put;

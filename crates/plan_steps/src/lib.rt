@@ -44,7 +44,9 @@ fn fire(
     at: usize,
 ) -> Went
     requires { ⌜ Examined (now plan) k × (h < k .heads) × Slotted (now slots) × (at ≤ length (now trace)) ⌝ }
-    ensures { λ r. ⌜ Ran (fire-head (plan-by (now (plan .entry))) arg (head-of (now (plan .entry)) (heads-at k) h)) (all-lent (now (active .entry)) (now (slots .entry)) (now (vars .entry)) (now (queue .entry)) (now (trace .entry))) at r (all-lent (now (active .exit)) (now (slots .exit)) (now (vars .exit)) (now (queue .exit)) (now (trace .exit))) ⌝ }
+    ensures { λ r. ⌜ Ran (fire-head (plan-by (now (plan .entry))) arg (head-of (now (plan .entry)) (heads-at k) h))
+        (all-lent (now (active .entry)) (now (slots .entry)) (now (vars .entry)) (now (queue .entry)) (now (trace .entry))) at r
+        (all-lent (now (active .exit)) (now (slots .exit)) (now (vars .exit)) (now (queue .exit)) (now (trace .exit))) ⌝ }
 {
     let base = heads_at(k);
     let row = base + h * HEAD_ROW;
@@ -84,7 +86,10 @@ fn fire_all(
     at: usize,
 ) -> Went
     requires { ⌜ Examined (now plan) k × Picks (k .heads) count (now picks) × Slotted (now slots) × (at ≤ length (now trace)) ⌝ }
-    ensures { λ r. ⌜ Ran (each (fire-head (plan-by (now (plan .entry))) arg) (picked (now (plan .entry)) (heads-at k) count (now (picks .entry)))) (all-lent (now (active .entry)) (now (slots .entry)) (now (vars .entry)) (now (queue .entry)) (now (trace .entry))) at r (all-lent (now (active .exit)) (now (slots .exit)) (now (vars .exit)) (now (queue .exit)) (now (trace .exit))) ⌝ }
+    ensures { λ r. ⌜ Ran
+        (each (fire-head (plan-by (now (plan .entry))) arg) (picked (now (plan .entry)) (heads-at k) count (now (picks .entry))))
+        (all-lent (now (active .entry)) (now (slots .entry)) (now (vars .entry)) (now (queue .entry)) (now (trace .entry))) at r
+        (all-lent (now (active .exit)) (now (slots .exit)) (now (vars .exit)) (now (queue .exit)) (now (trace .exit))) ⌝ }
 {
     let mut next = at;
     let mut j: usize = 0;
@@ -118,8 +123,11 @@ pub fn step(
     trace: &mut [i32],
     at: usize,
 ) -> Went
-    requires { ⌜ Examined (now plan) k × (length (now picks) ≡ transitions) × Slotted (now slots) × (at ≤ length (now trace)) × Linked (now plan) k (now links) ⌝ }
-    ensures { λ r. ⌜ Ran (plan-step (plan-by (now (plan .entry))) event arg) (all-lent (now (active .entry)) (now (slots .entry)) (now (vars .entry)) (now (queue .entry)) (now (trace .entry))) at r (all-lent (now (active .exit)) (now (slots .exit)) (now (vars .exit)) (now (queue .exit)) (now (trace .exit))) × (length (now (picks .exit)) ≡ transitions) ⌝ }
+    requires { ⌜ Examined (now plan) k × (length (now picks) ≡ transitions)
+        × Slotted (now slots) × (at ≤ length (now trace)) × Linked (now plan) k (now links) ⌝ }
+    ensures { λ r. ⌜ Ran (plan-step (plan-by (now (plan .entry))) event arg) (all-lent (now (active .entry)) (now (slots .entry))
+        (now (vars .entry)) (now (queue .entry)) (now (trace .entry))) at r (all-lent (now (active .exit)) (now (slots .exit))
+        (now (vars .exit)) (now (queue .exit)) (now (trace .exit))) × (length (now (picks .exit)) ≡ transitions) ⌝ }
 {
     let count = choose(plan, k, links, event, active, vars, picks);
     fire_all(
@@ -150,8 +158,11 @@ pub fn settle(
     trace: &mut [i32],
     at: usize,
 ) -> Went
-    requires { ⌜ Examined (now plan) k × (length (now picks) ≡ transitions) × Slotted (now slots) × (at ≤ length (now trace)) × Linked (now plan) k (now links) ⌝ }
-    ensures { λ r. ⌜ Ran (plan-settle (plan-by (now (plan .entry)))) (all-lent (now (active .entry)) (now (slots .entry)) (now (vars .entry)) (now (queue .entry)) (now (trace .entry))) at r (all-lent (now (active .exit)) (now (slots .exit)) (now (vars .exit)) (now (queue .exit)) (now (trace .exit))) × (length (now (picks .exit)) ≡ transitions) ⌝ }
+    requires { ⌜ Examined (now plan) k × (length (now picks) ≡ transitions)
+        × Slotted (now slots) × (at ≤ length (now trace)) × Linked (now plan) k (now links) ⌝ }
+    ensures { λ r. ⌜ Ran (plan-settle (plan-by (now (plan .entry)))) (all-lent (now (active .entry)) (now (slots .entry))
+        (now (vars .entry)) (now (queue .entry)) (now (trace .entry))) at r (all-lent (now (active .exit)) (now (slots .exit))
+        (now (vars .exit)) (now (queue .exit)) (now (trace .exit))) × (length (now (picks .exit)) ≡ transitions) ⌝ }
 {
     let mut next = at;
     let mut turns: usize = 0;

@@ -1,8 +1,8 @@
-// Plans run and compared (01, "The plan"): the arguments name files of data/. NAME.plan is a plan, one number a line: the program prints its
-// name and the answer that its examination gives. NAME.txt is a chart, and NAME.num, the next argument, the plan that it must give: the program
-// prints the name; answer and count of compiling it; `same` or `differs`, number by number; and the answer with one number less lent than
-// the plan has. A file that cannot be opened prints a dash. The file `stdout` has what must be printed: the table of damaged plans in its
-// order, plans at the edge of each rule, then charts, K of 01 among them.
+// Plans run and compared (01, "The plan"): the arguments name files of data/. NAME.plan is a plan, one number a line: the program
+// prints its name and the answer that its examination gives. NAME.txt is a chart, and NAME.num, the next argument, the plan that
+// it must give: the program prints the name; answer and count of compiling it; `same` or `differs`, number by number; and the
+// answer with one number less lent than the plan has. A file that cannot be opened prints a dash. The file `stdout` has what must
+// be printed: the table of damaged plans in its order, plans at the edge of each rule, then charts, K of 01 among them.
 mod charts;
 mod lines;
 

@@ -9,7 +9,8 @@ use native.Mathlib.Omega.{arith}
 use borrow.Author.Tests.{ltb-true, ltb-false}
 use lib.Dec.{ltb, eqb}
 use lib.IntN.{ℤ}
-use lib.ListN.{length, take, drop, getD, set, replicate, length-drop, length-append, length-set, length-replicate, replicate-append-replicate, take-append-drop}
+use lib.ListN.{length, take, drop, getD, set, replicate, length-drop, length-append, length-set, length-replicate}
+use lib.ListN.{replicate-append-replicate, take-append-drop}
 use lib.Seq.{set-append-seam, append-snoc, take-append-seam, length-take-le}
 use Rattle.sizes.specs.Sizes.{QUEUE}
 use Rattle.queue.specs.declared.Item.{Item}
@@ -44,7 +45,8 @@ appended-of w e a h =
       stored w (item e a) no-item (QUEUE - length w) (QUEUE - (length w + 1)) (omega arith),
     )
 
-pub appended-of-full : (w : List Item) (e a : ℤ) → QUEUE ≤ length w → appended (queue-of w) e a ≡ record { done = false; queue = queue-of w }
+pub appended-of-full : (w : List Item) (e a : ℤ)
+    → QUEUE ≤ length w → appended (queue-of w) e a ≡ record { done = false; queue = queue-of w }
 unfolding queue-of
 appended-of-full w e a h = appended-full (queue-of w) e a h
 

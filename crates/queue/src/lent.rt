@@ -81,7 +81,9 @@ pub fn held(numbers: &[i32; QUEUE_NUMBERS]) -> Queue
 
 // 01: post appends an event with an argument; whether there was room.
 pub fn append(numbers: &mut [i32; QUEUE_NUMBERS], event: i32, arg: i32) -> bool
-    ensures { λ r. ⌜ (r ≡ appended (queue-by (now (numbers .entry))) event arg .done) × (length (now (numbers .exit)) ≡ length (now (numbers .entry))) × (length (now (numbers .entry)) ≡ all → queue-by (now (numbers .exit)) ≡ appended (queue-by (now (numbers .entry))) event arg .queue) ⌝ }
+    ensures { λ r. ⌜ (r ≡ appended (queue-by (now (numbers .entry))) event arg .done)
+        × (length (now (numbers .exit)) ≡ length (now (numbers .entry))) × (length (now (numbers .entry)) ≡ all
+        → queue-by (now (numbers .exit)) ≡ appended (queue-by (now (numbers .entry))) event arg .queue) ⌝ }
 {
     let len = reference(numbers[0]);
     if QUEUE <= len {
@@ -97,7 +99,9 @@ pub fn append(numbers: &mut [i32; QUEUE_NUMBERS], event: i32, arg: i32) -> bool
 // 01: discard removes the front one; each place takes what the next one held, and the last is free.
 pub fn remove_front(numbers: &mut [i32; QUEUE_NUMBERS]) -> Taken
     requires { ⌜ length (now numbers) ≡ all ⌝ }
-    ensures { λ r. ⌜ (r .done ≡ removed (queue-by (now (numbers .entry))) .done) × (r .front ≡ removed (queue-by (now (numbers .entry))) .front) × (queue-by (now (numbers .exit)) ≡ removed (queue-by (now (numbers .entry))) .queue) ⌝ }
+    ensures { λ r. ⌜ (r .done ≡ removed (queue-by (now (numbers .entry))) .done)
+        × (r .front ≡ removed (queue-by (now (numbers .entry))) .front)
+        × (queue-by (now (numbers .exit)) ≡ removed (queue-by (now (numbers .entry))) .queue) ⌝ }
 {
     let len = reference(numbers[0]);
     let none = Item { event: 0, arg: 0 };

@@ -85,7 +85,8 @@ module _ (c : Chart) (u : State) where
       module _ (o : own c u ≡ true) {n : ℕ} (k : n ≡ c .events) where
         pub post-10 : event-fits n e a ≡ false → called (refused 10 0 u) ≡ called (post c u e a)
         unfolding post rest
-        post-10 f = refusing u (tests-on c u rest (begin u 0) s o ∙ require-no 10 (enqueue e a) (begin u 0) (ap (λ x. event-fits x e a) (sym k) ∙ f))
+        post-10 f = refusing u
+            (tests-on c u rest (begin u 0) s o ∙ require-no 10 (enqueue e a) (begin u 0) (ap (λ x. event-fits x e a) (sym k) ∙ f))
 
         module _ (f : event-fits n e a ≡ true) {q : Queued} (g : q ≡ appended (u .queue) e a) where
           to-queue : (tests c u then rest) (begin u 0) ≡ take-queue q (begin u 0)

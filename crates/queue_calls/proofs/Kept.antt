@@ -52,7 +52,8 @@ module _ (q p : ℕ → Bool) (n : ℕ) where
     counted-skip h e =
         let s = kept-skip q n d h e in
         let s₁ : length (keep q (drop d (from 0 n))) ≡ length (keep q (drop (d + 1) (from 0 n))) = ap length s in
-        let s₂ : length (keep p (keep q (drop d (from 0 n)))) ≡ length (keep p (keep q (drop (d + 1) (from 0 n)))) = ap (λ l. length (keep p l)) s in
+        let s₂ : length (keep p (keep q (drop d (from 0 n)))) ≡ length (keep p (keep q (drop (d + 1) (from 0 n)))) =
+        ap (λ l. length (keep p l)) s in
         record { low = omega arith; most = omega arith; fewer = omega arith; alls = omega arith; ons = omega arith }
 
     pub counted-on : d < n → q d ≡ true → p d ≡ true → Counted (d + 1) (all + 1) (on + 1)
@@ -60,7 +61,8 @@ module _ (q p : ℕ → Bool) (n : ℕ) where
     counted-on h e g =
         let s = kept-take q n d h e in
         let s₁ : length (keep q (drop d (from 0 n))) ≡ suc (length (keep q (drop (d + 1) (from 0 n)))) = ap length s in
-        let s₂ : length (keep p (keep q (drop d (from 0 n)))) ≡ suc (length (keep p (keep q (drop (d + 1) (from 0 n))))) = ap (λ l. length (keep p l)) s ∙ rw g in
+        let s₂ : length (keep p (keep q (drop d (from 0 n)))) ≡ suc (length (keep p (keep q (drop (d + 1) (from 0 n))))) =
+        ap (λ l. length (keep p l)) s ∙ rw g in
         record { low = omega arith; most = omega arith; fewer = omega arith; alls = omega arith; ons = omega arith }
 
     pub counted-off : d < n → q d ≡ true → p d ≡ false → Counted (d + 1) (all + 1) on
@@ -68,7 +70,8 @@ module _ (q p : ℕ → Bool) (n : ℕ) where
     counted-off h e g =
         let s = kept-take q n d h e in
         let s₁ : length (keep q (drop d (from 0 n))) ≡ suc (length (keep q (drop (d + 1) (from 0 n)))) = ap length s in
-        let s₂ : length (keep p (keep q (drop d (from 0 n)))) ≡ length (keep p (keep q (drop (d + 1) (from 0 n)))) = ap (λ l. length (keep p l)) s ∙ rw g in
+        let s₂ : length (keep p (keep q (drop d (from 0 n)))) ≡ length (keep p (keep q (drop (d + 1) (from 0 n)))) =
+        ap (λ l. length (keep p l)) s ∙ rw g in
         record { low = omega arith; most = omega arith; fewer = omega arith; alls = omega arith; ons = omega arith }
 
     pub counted-all : n ≤ d → all ≡ length (keep q (from 0 n))
@@ -77,7 +80,8 @@ module _ (q p : ℕ → Bool) (n : ℕ) where
 
     pub counted-on-all : n ≤ d → on ≡ length (keep p (keep q (from 0 n)))
     unfolding keep
-    counted-on-all h = let z : length (keep p (keep q (drop d (from 0 n)))) ≡ 0 = ap (λ l. length (keep p l)) (kept-none q n d h) in omega arith
+    counted-on-all h = let z : length (keep p (keep q (drop d (from 0 n)))) ≡ 0 =
+        ap (λ l. length (keep p l)) (kept-none q n d h) in omega arith
 
 -- ---- a second test of each that is kept; g is what the whole test says
 
@@ -85,7 +89,8 @@ module _ (p q : ℕ → Bool) (n d : ℕ) {g : Bool} where
   pub pass-skip : every p (keep q (drop d (from 0 n))) ≡ g → d < n → q d ≡ false → every p (keep q (drop (d + 1) (from 0 n))) ≡ g
   pass-skip e h t = ap (every p) (sym (kept-skip q n d h t)) ∙ e
 
-  pub pass-more : every p (keep q (drop d (from 0 n))) ≡ g → d < n → q d ≡ true → p d ≡ true → every p (keep q (drop (d + 1) (from 0 n))) ≡ g
+  pub pass-more : every p (keep q (drop d (from 0 n))) ≡ g
+      → d < n → q d ≡ true → p d ≡ true → every p (keep q (drop (d + 1) (from 0 n))) ≡ g
   unfolding every
   pass-more e h t k = ap (λ b. b && every p (keep q (drop (d + 1) (from 0 n)))) (sym k) ∙ ap (every p) (sym (kept-take q n d h t)) ∙ e
 
@@ -122,7 +127,8 @@ module _ {A : Type 0} (p : A → Bool) where
   none-counted [] = refl
   none-counted (x ∷ xs) = go (p x) (none-counted xs)
     where
-      go : (b : Bool) → eqb (length (keep p xs)) 0 ≡ every (λ y. not (p y)) xs → eqb (length (cond b (x ∷ keep p xs) (keep p xs))) 0 ≡ (not b && every (λ y. not (p y)) xs)
+      go : (b : Bool) → eqb (length (keep p xs)) 0 ≡ every (λ y. not (p y)) xs
+          → eqb (length (cond b (x ∷ keep p xs) (keep p xs))) 0 ≡ (not b && every (λ y. not (p y)) xs)
       go true h = ne-eqb (suc (length (keep p xs))) 0 (λ z. omega arith)
       go false h = h
 
@@ -132,6 +138,7 @@ module _ {A : Type 0} (p : A → Bool) where
   all-counted [] = refl
   all-counted (x ∷ xs) = go (p x) (all-counted xs) (kept-most xs)
     where
-      go : (b : Bool) → eqb (length (keep p xs)) (length xs) ≡ every p xs → length (keep p xs) ≤ length xs → eqb (length (cond b (x ∷ keep p xs) (keep p xs))) (suc (length xs)) ≡ (b && every p xs)
+      go : (b : Bool) → eqb (length (keep p xs)) (length xs) ≡ every p xs → length (keep p xs) ≤ length xs
+          → eqb (length (cond b (x ∷ keep p xs) (keep p xs))) (suc (length xs)) ≡ (b && every p xs)
       go true h m = eqb-suc (length (keep p xs)) (length xs) ∙ h
       go false h m = ne-eqb (length (keep p xs)) (suc (length xs)) (λ z. omega arith)

@@ -21,7 +21,8 @@ use Rattle.meaning.specs.Widget.{is-active}
 use Rattle.meaning.specs.Foreign.{children-legal, legal-at, legal}
 use Rattle.queue_calls.specs.declared.own.Tally.{Tally}
 use Rattle.queue_calls.specs.Parts.{tally-of, Tallied}
-use Rattle.queue_calls.proofs.Kept.{Counted, counted-start, counted-skip, counted-on, counted-off, counted-all, counted-on-all, none-counted, all-counted}
+use Rattle.queue_calls.proofs.Kept.{Counted, counted-start, counted-skip, counted-on, counted-off, counted-all}
+use Rattle.queue_calls.proofs.Kept.{counted-on-all, none-counted, all-counted}
 
 same-or : (a b : ℕ) → (a ≡ b) ⊎ (a ≡ b → ⊥)
 same-or a b = go (eqb a b) refl

@@ -34,11 +34,14 @@ module _ (rs : List VarRow) (v : ℕ) (x : ℤ) {n : ℕ} (l : n ≡ length rs) 
 -- ---- from v on
 
 module _ (rs : List VarRow) (xs : List ℤ) (v : ℕ) where
-  values-at : v < length xs → values-fit (drop v rs) (drop v xs) ≡ (value-fits rs v (getD xs v (pos 0)) && values-fit (drop (v + 1) rs) (drop (v + 1) xs))
+  values-at : v < length xs → values-fit (drop v rs) (drop v xs)
+      ≡ (value-fits rs v (getD xs v (pos 0)) && values-fit (drop (v + 1) rs) (drop (v + 1) xs))
   unfolding values-fit value-fits var-row every
   values-at h = go (ltb v (length rs)) refl
     where
-      go : (b : Bool) → ltb v (length rs) ≡ b → values-fit (drop v rs) (drop v xs) ≡ (cond b (within-row (getD rs v no-var) (getD xs v (pos 0))) (eqZ (pos 0) (getD xs v (pos 0))) && values-fit (drop (v + 1) rs) (drop (v + 1) xs))
+      go : (b : Bool) → ltb v (length rs) ≡ b
+          → values-fit (drop v rs) (drop v xs) ≡ (cond b (within-row (getD rs v no-var) (getD xs v (pos 0)))
+          (eqZ (pos 0) (getD xs v (pos 0))) && values-fit (drop (v + 1) rs) (drop (v + 1) xs))
       go true e = rw (add-one v, drop-cons xs v (pos 0) h, drop-cons rs v no-var (ltb-true v (length rs) e))
       go false e =
           let m : length rs ≤ v = ltb-false v (length rs) e in

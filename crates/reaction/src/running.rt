@@ -40,8 +40,11 @@ fn react(
     queue: &mut [i32; QUEUE_NUMBERS],
     trace: &mut [i32],
 ) -> Went
-    requires { ⌜ Ready (now chart) (all-lent (now active) (now slots) (now vars) (now queue) (now trace)) 0 × Indexed (chart-of (now chart)) (now index) ⌝ }
-    ensures { λ r. ⌜ Did (one-step (chart-of (now (chart .entry))) event arg then settles (chart-of (now (chart .entry)))) (all-lent (now (active .entry)) (now (slots .entry)) (now (vars .entry)) (now (queue .entry)) (now (trace .entry))) 0 r (all-lent (now (active .exit)) (now (slots .exit)) (now (vars .exit)) (now (queue .exit)) (now (trace .exit))) ⌝ }
+    requires { ⌜ Ready (now chart) (all-lent (now active) (now slots) (now vars) (now queue) (now trace)) 0
+        × Indexed (chart-of (now chart)) (now index) ⌝ }
+    ensures { λ r. ⌜ Did (one-step (chart-of (now (chart .entry))) event arg then settles (chart-of (now (chart .entry))))
+        (all-lent (now (active .entry)) (now (slots .entry)) (now (vars .entry)) (now (queue .entry)) (now (trace .entry))) 0 r
+        (all-lent (now (active .exit)) (now (slots .exit)) (now (vars .exit)) (now (queue .exit)) (now (trace .exit))) ⌝ }
 {
     let went = step(
         chart,
@@ -64,7 +67,8 @@ fn react(
 // "A run removes the front event and makes one step with it. Then null steps follow."
 pub fn run_ruled(chart: &[i32], state: State, trace: &mut [i32]) -> Called
     requires { ⌜ Ruled (now chart) ⌝ }
-    ensures { λ r. ⌜ (r ≡ called (runs (chart-of (now (chart .entry))) state (length (now (trace .entry))))) × (now (trace .exit) ≡ lent (length (now (trace .entry))) (runs (chart-of (now (chart .entry))) state (length (now (trace .entry))))) ⌝ }
+    ensures { λ r. ⌜ (r ≡ called (runs (chart-of (now (chart .entry))) state (length (now (trace .entry))))) × (now (trace .exit)
+        ≡ lent (length (now (trace .entry))) (runs (chart-of (now (chart .entry))) state (length (now (trace .entry))))) ⌝ }
 {
     if !state.started {
         return refuse(NOT_STARTED, 0, state, trace);

@@ -52,8 +52,11 @@ fn begin(
     queue: &mut [i32; QUEUE_NUMBERS],
     trace: &mut [i32],
 ) -> Went
-    requires { ⌜ Ready (now chart) (all-lent (now active) (now slots) (now vars) (now queue) (now trace)) 0 × Indexed (chart-of (now chart)) (now index) ⌝ }
-    ensures { λ r. ⌜ Did (start-steps (chart-of (now (chart .entry)))) (all-lent (now (active .entry)) (now (slots .entry)) (now (vars .entry)) (now (queue .entry)) (now (trace .entry))) 0 r (all-lent (now (active .exit)) (now (slots .exit)) (now (vars .exit)) (now (queue .exit)) (now (trace .exit))) ⌝ }
+    requires { ⌜ Ready (now chart) (all-lent (now active) (now slots) (now vars) (now queue) (now trace)) 0
+        × Indexed (chart-of (now chart)) (now index) ⌝ }
+    ensures { λ r. ⌜ Did (start-steps (chart-of (now (chart .entry))))
+        (all-lent (now (active .entry)) (now (slots .entry)) (now (vars .entry)) (now (queue .entry)) (now (trace .entry))) 0 r
+        (all-lent (now (active .exit)) (now (slots .exit)) (now (vars .exit)) (now (queue .exit)) (now (trace .exit))) ⌝ }
 {
     let root = enter(chart, index, 0, 0, active, vars, queue, trace, 0);
     if root.number != 0 {
@@ -69,7 +72,8 @@ fn begin(
 // "Start, with argument 0 and whatever the state held .. It tests neither 7 nor 6."
 pub fn start_ruled(chart: &[i32], state: State, trace: &mut [i32]) -> Called
     requires { ⌜ Ruled (now chart) ⌝ }
-    ensures { λ r. ⌜ (r ≡ called (starts (chart-of (now (chart .entry))) state (length (now (trace .entry))))) × (now (trace .exit) ≡ lent (length (now (trace .entry))) (starts (chart-of (now (chart .entry))) state (length (now (trace .entry))))) ⌝ }
+    ensures { λ r. ⌜ (r ≡ called (starts (chart-of (now (chart .entry))) state (length (now (trace .entry))))) × (now (trace .exit)
+        ≡ lent (length (now (trace .entry))) (starts (chart-of (now (chart .entry))) state (length (now (trace .entry))))) ⌝ }
 {
     let mut active: [bool; STATES] = [false; STATES];
     let mut slots: [i32; STATES] = [-1; STATES];

@@ -31,8 +31,11 @@ fn fire_all(
     trace: &mut [i32],
     at: usize,
 ) -> Went
-    requires { ⌜ Ready (now chart) (all-lent (now active) (now slots) (now vars) (now queue) (now trace)) at × Fires (chart-of (now chart)) count (now picks) × Indexed (chart-of (now chart)) (now index) ⌝ }
-    ensures { λ r. ⌜ Did (each (fires (chart-of (now (chart .entry))) arg) (picked count (now (picks .entry)))) (all-lent (now (active .entry)) (now (slots .entry)) (now (vars .entry)) (now (queue .entry)) (now (trace .entry))) at r (all-lent (now (active .exit)) (now (slots .exit)) (now (vars .exit)) (now (queue .exit)) (now (trace .exit))) ⌝ }
+    requires { ⌜ Ready (now chart) (all-lent (now active) (now slots) (now vars) (now queue) (now trace)) at
+        × Fires (chart-of (now chart)) count (now picks) × Indexed (chart-of (now chart)) (now index) ⌝ }
+    ensures { λ r. ⌜ Did (each (fires (chart-of (now (chart .entry))) arg) (picked count (now (picks .entry))))
+        (all-lent (now (active .entry)) (now (slots .entry)) (now (vars .entry)) (now (queue .entry)) (now (trace .entry))) at r
+        (all-lent (now (active .exit)) (now (slots .exit)) (now (vars .exit)) (now (queue .exit)) (now (trace .exit))) ⌝ }
 {
     let mut next = at;
     let mut j: usize = 0;
@@ -75,8 +78,11 @@ pub fn step(
     trace: &mut [i32],
     at: usize,
 ) -> Went
-    requires { ⌜ Ready (now chart) (all-lent (now active) (now slots) (now vars) (now queue) (now trace)) at × Indexed (chart-of (now chart)) (now index) ⌝ }
-    ensures { λ r. ⌜ Did (one-step (chart-of (now (chart .entry))) event arg) (all-lent (now (active .entry)) (now (slots .entry)) (now (vars .entry)) (now (queue .entry)) (now (trace .entry))) at r (all-lent (now (active .exit)) (now (slots .exit)) (now (vars .exit)) (now (queue .exit)) (now (trace .exit))) ⌝ }
+    requires { ⌜ Ready (now chart) (all-lent (now active) (now slots) (now vars) (now queue) (now trace)) at
+        × Indexed (chart-of (now chart)) (now index) ⌝ }
+    ensures { λ r. ⌜ Did (one-step (chart-of (now (chart .entry))) event arg)
+        (all-lent (now (active .entry)) (now (slots .entry)) (now (vars .entry)) (now (queue .entry)) (now (trace .entry))) at r
+        (all-lent (now (active .exit)) (now (slots .exit)) (now (vars .exit)) (now (queue .exit)) (now (trace .exit))) ⌝ }
 {
     let mut picks = [0; TRANSITIONS];
     let count = choose(chart, event, active, vars, &mut picks);
@@ -106,8 +112,11 @@ pub fn settle(
     trace: &mut [i32],
     at: usize,
 ) -> Went
-    requires { ⌜ Ready (now chart) (all-lent (now active) (now slots) (now vars) (now queue) (now trace)) at × Indexed (chart-of (now chart)) (now index) ⌝ }
-    ensures { λ r. ⌜ Did (settles (chart-of (now (chart .entry)))) (all-lent (now (active .entry)) (now (slots .entry)) (now (vars .entry)) (now (queue .entry)) (now (trace .entry))) at r (all-lent (now (active .exit)) (now (slots .exit)) (now (vars .exit)) (now (queue .exit)) (now (trace .exit))) ⌝ }
+    requires { ⌜ Ready (now chart) (all-lent (now active) (now slots) (now vars) (now queue) (now trace)) at
+        × Indexed (chart-of (now chart)) (now index) ⌝ }
+    ensures { λ r. ⌜ Did (settles (chart-of (now (chart .entry))))
+        (all-lent (now (active .entry)) (now (slots .entry)) (now (vars .entry)) (now (queue .entry)) (now (trace .entry))) at r
+        (all-lent (now (active .exit)) (now (slots .exit)) (now (vars .exit)) (now (queue .exit)) (now (trace .exit))) ⌝ }
 {
     let mut next = at;
     let mut turns: usize = 0;

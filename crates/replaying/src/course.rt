@@ -39,8 +39,11 @@ pub fn go_through(
     queue: &mut [i32; QUEUE_NUMBERS],
     trace: &mut [i32],
 ) -> Gone
-    requires { ⌜ Examined (now plan) k × (2 * count ≤ length (now events)) × Owned (plan-by (now plan)) (all-lent (now active) (now slots) (now vars) (now queue) (now trace)) × Linked (now plan) k (now links) ⌝ }
-    ensures { λ r. ⌜ Gone-through (plan-by (now (plan .entry))) (take count (items-of (now (events .entry)))) (all-lent (now (active .entry)) (now (slots .entry)) (now (vars .entry)) (now (queue .entry)) (now (trace .entry))) r (all-lent (now (active .exit)) (now (slots .exit)) (now (vars .exit)) (now (queue .exit)) (now (trace .exit))) ⌝ }
+    requires { ⌜ Examined (now plan) k × (2 * count ≤ length (now events)) × Owned (plan-by (now plan))
+        (all-lent (now active) (now slots) (now vars) (now queue) (now trace)) × Linked (now plan) k (now links) ⌝ }
+    ensures { λ r. ⌜ Gone-through (plan-by (now (plan .entry))) (take count (items-of (now (events .entry))))
+        (all-lent (now (active .entry)) (now (slots .entry)) (now (vars .entry)) (now (queue .entry)) (now (trace .entry))) r
+        (all-lent (now (active .exit)) (now (slots .exit)) (now (vars .exit)) (now (queue .exit)) (now (trace .exit))) ⌝ }
 {
     let mut picks: [usize; TRANSITIONS] = [0; TRANSITIONS];
     let mut done: usize = 0;

@@ -22,6 +22,7 @@ use queue::lent::QUEUE_NUMBERS;
 use queue::lent::append;
 use queue::lent::held;
 use queue::lent::lend;
+use sizes::ENTRY;
 use sizes::STATES;
 use sizes::VARIABLES;
 use widget::clear_from;
@@ -38,9 +39,7 @@ ghost use Rattle.plan_invariants.specs.Replay.{replay-examined as once};
 ghost use Rattle.promises.specs.Replay.{course as went, items-of, replay as defined};
 ghost use Rattle.replaying.specs.Course.{Told, Starts, Broken};
 
-// How many numbers an entry has, and an event with its argument.
-const ENTRY: usize = 3;
-
+// How many numbers an event with its argument has.
 const EVENT: usize = 2;
 
 // Stopped before the first event: the state is as it was, and the lent trace is 0.
@@ -72,7 +71,8 @@ fn told(
     trace: &mut [i32],
 ) -> Replayed
     requires { ⌜ at ≤ length (now trace) ⌝ }
-    ensures { λ r. ⌜ Told (went done number (said-by (all-lent active slots vars queue (now (trace .entry)))) (take at (now (trace .entry)))) (now (trace .entry)) r (now (trace .exit)) ⌝ }
+    ensures { λ r. ⌜ Told (went done number (said-by (all-lent active slots vars queue (now (trace .entry))))
+        (take at (now (trace .entry)))) (now (trace .entry)) r (now (trace .exit)) ⌝ }
 {
     clear_from(trace, at);
     let answer = Answer {
@@ -106,8 +106,10 @@ fn as_posted(
     number: usize,
     trace: &mut [i32],
 ) -> Replayed
-    requires { ⌜ Examined (now plan) k × Starts (plan-by (now plan)) state × Broken (plan-by (now plan)) (length (now trace)) (items-of (now events)) state done number × Linked (now plan) k (now links) ⌝ }
-    ensures { λ r. ⌜ Told (once (plan-by (now (plan .entry))) state (items-of (now (events .entry))) (length (now (trace .entry)))) (now (trace .entry)) r (now (trace .exit)) ⌝ }
+    requires { ⌜ Examined (now plan) k × Starts (plan-by (now plan)) state × Broken (plan-by (now plan))
+        (length (now trace)) (items-of (now events)) state done number × Linked (now plan) k (now links) ⌝ }
+    ensures { λ r. ⌜ Told (once (plan-by (now (plan .entry))) state (items-of (now (events .entry))) (length (now (trace .entry))))
+        (now (trace .entry)) r (now (trace .exit)) ⌝ }
 {
     let mut active = state.active;
     let mut slots = state.slots;
@@ -141,7 +143,8 @@ pub fn replay_examined(
     trace: &mut [i32],
 ) -> Replayed
     requires { ⌜ Examined (now plan) k ⌝ }
-    ensures { λ r. ⌜ Told (once (plan-by (now (plan .entry))) state (items-of (now (events .entry))) (length (now (trace .entry)))) (now (trace .entry)) r (now (trace .exit)) ⌝ }
+    ensures { λ r. ⌜ Told (once (plan-by (now (plan .entry))) state (items-of (now (events .entry))) (length (now (trace .entry))))
+        (now (trace .entry)) r (now (trace .exit)) ⌝ }
 {
     if !state.started {
         return stopped(NOT_STARTED, state, trace);
@@ -194,7 +197,8 @@ pub fn replay_examined(
 // Replay on numbers that were examined: without an event no call is made.
 pub fn replay_planned(plan: &[i32], state: State, events: &[i32], trace: &mut [i32]) -> Replayed
     requires { ⌜ well-formed (now plan) ≡ true ⌝ }
-    ensures { λ r. ⌜ Told (defined (now (plan .entry)) state (items-of (now (events .entry))) (length (now (trace .entry)))) (now (trace .entry)) r (now (trace .exit)) ⌝ }
+    ensures { λ r. ⌜ Told (defined (now (plan .entry)) state (items-of (now (events .entry))) (length (now (trace .entry))))
+        (now (trace .entry)) r (now (trace .exit)) ⌝ }
 {
     if events.len() < EVENT {
         return stopped(0, state, trace);
@@ -204,7 +208,8 @@ pub fn replay_planned(plan: &[i32], state: State, events: &[i32], trace: &mut [i
 
 // Replay over any numbers: with an event, 5 where the plan is not well formed.
 pub fn replay(plan: &[i32], state: State, events: &[i32], trace: &mut [i32]) -> Replayed
-    ensures { λ r. ⌜ Told (defined (now (plan .entry)) state (items-of (now (events .entry))) (length (now (trace .entry)))) (now (trace .entry)) r (now (trace .exit)) ⌝ }
+    ensures { λ r. ⌜ Told (defined (now (plan .entry)) state (items-of (now (events .entry))) (length (now (trace .entry))))
+        (now (trace .entry)) r (now (trace .exit)) ⌝ }
 {
     if events.len() < EVENT {
         return stopped(0, state, trace);

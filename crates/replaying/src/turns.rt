@@ -104,8 +104,11 @@ pub fn post_and_run(
     queue: &mut [i32; QUEUE_NUMBERS],
     trace: &mut [i32],
 ) -> Turn
-    requires { ⌜ Examined (now plan) k × (length (now picks) ≡ transitions) × Slotted (now slots) × (length (now queue) ≡ all) × Free (now queue) × Linked (now plan) k (now links) ⌝ }
-    ensures { λ r. ⌜ Turned (plan-by (now (plan .entry))) (item event arg) (all-lent (now (active .entry)) (now (slots .entry)) (now (vars .entry)) (now (queue .entry)) (now (trace .entry))) r (all-lent (now (active .exit)) (now (slots .exit)) (now (vars .exit)) (now (queue .exit)) (now (trace .exit))) × (length (now (picks .exit)) ≡ transitions) ⌝ }
+    requires { ⌜ Examined (now plan) k × (length (now picks) ≡ transitions)
+        × Slotted (now slots) × (length (now queue) ≡ all) × Free (now queue) × Linked (now plan) k (now links) ⌝ }
+    ensures { λ r. ⌜ Turned (plan-by (now (plan .entry))) (item event arg) (all-lent (now (active .entry)) (now (slots .entry))
+        (now (vars .entry)) (now (queue .entry)) (now (trace .entry))) r (all-lent (now (active .exit)) (now (slots .exit))
+        (now (vars .exit)) (now (queue .exit)) (now (trace .exit))) × (length (now (picks .exit)) ≡ transitions) ⌝ }
 {
     if !active[0] {
         return Turn {

@@ -158,7 +158,8 @@ module _ (c : Chart) (n : ℕ) (counts : List ℕ) (plain : List Bool) (before :
   family-far z far = family-skip (λ s h. child-below c s n z ∙ ne-eqb (parent-of c n) s (λ e. omega arith))
 
   -- a child is counted at its parent p
-  module _ (p : ℕ) (r : Bool) (z : n ≡ 0 → ⊥) (e : p ≡ parent-of c n) (h : p < STATES) (g : r ≡ getD plain p false && is-o (kind-of c n)) where
+  module _ (p : ℕ) (r : Bool) (z : n ≡ 0 → ⊥) (e : p ≡ parent-of c n)
+      (h : p < STATES) (g : r ≡ getD plain p false && is-o (kind-of c n)) where
     mine : is-child c p n ≡ true
     mine = child-below c p n z ∙ eq-eqb (parent-of c n) p (sym e)
 

@@ -32,14 +32,17 @@ kind-is k d = go (is-letter 111 k) refl
     go false e = rw e
 
 pub state-is : (n : ℕ) (row : List ℤ) → state-statable n row
-    ≡ number-if (not (eqb n 0)) (num row 0) && (one-of-letters (111 ∷ 97 ∷ 98 ∷ []) (num row 1) && number-if (is-letter 111 (num row 1)) (num row 2))
+    ≡ number-if (not (eqb n 0)) (num row 0)
+    && (one-of-letters (111 ∷ 97 ∷ 98 ∷ []) (num row 1) && number-if (is-letter 111 (num row 1)) (num row 2))
 unfolding state-statable
 state-is zero row = ap (λ (b : Bool). is-absent (num row 0) && b) (kind-is (num row 1) (num row 2))
-state-is (suc n) row = rw (ne-eqb (suc n) 0 (λ e. omega arith)) (ap (λ (b : Bool). inRange (num row 0) && b) (kind-is (num row 1) (num row 2)))
+state-is (suc n) row =
+    rw (ne-eqb (suc n) 0 (λ e. omega arith)) (ap (λ (b : Bool). inRange (num row 0) && b) (kind-is (num row 1) (num row 2)))
 
 -- ---- T
 
-target-is : (h s : ℤ) → (is-absent h && is-absent s) || ((is-letter 104 h && inRange s) || (is-letter 0 h && inRange s)) ≡ target-statable h s
+target-is : (h s : ℤ)
+    → (is-absent h && is-absent s) || ((is-letter 104 h && inRange s) || (is-letter 0 h && inRange s)) ≡ target-statable h s
 unfolding target-statable
 target-is h s = ap (λ (b : Bool). (is-absent h && is-absent s) || b) (go (is-letter 0 h) (is-letter 104 h) (inRange s))
   where
@@ -66,11 +69,13 @@ guard-and true false c d e f t = and-three d e f t
 guard-and false b c d e f t = and-three d e f t
 
 pub trans-is : (row : List ℤ) → trans-statable row
-    ≡ inRange (num row 0) && (inRange (num row 1) && (guard-statable (num row 2) (num row 3) (num row 4) && target-statable (num row 5) (num row 6)))
+    ≡ inRange (num row 0)
+    && (inRange (num row 1) && (guard-statable (num row 2) (num row 3) (num row 4) && target-statable (num row 5) (num row 6)))
 unfolding trans-statable guard-statable
 trans-is row = ap (λ (b : Bool). inRange (num row 0) && (inRange (num row 1) && b))
     (rw (target-is (num row 5) (num row 6))
-    (guard-and (is-absent (num row 2)) (is-absent (num row 3)) (is-absent (num row 4)) (inRange (num row 2)) (one-of-letters (61 ∷ 60 ∷ 62 ∷ []) (num row 3))
+    (guard-and (is-absent (num row 2)) (is-absent (num row 3))
+    (is-absent (num row 4)) (inRange (num row 2)) (one-of-letters (61 ∷ 60 ∷ 62 ∷ []) (num row 3))
     (inRange (num row 4)) (target-statable (num row 5) (num row 6))))
 
 -- ---- A
@@ -93,7 +98,9 @@ act-is a x y = go (is-letter 115 a) (is-letter 97 a) (is-letter 113 a) refl refl
     go false false false hs hp hq = rw (hs, hp, hq)
 
 pub action-is : (row : List ℤ) → action-statable row
-    ≡ one-of-letters (101 ∷ 120 ∷ 100 ∷ 116 ∷ []) (num row 0) && (inRange (num row 1) && (one-of-letters (115 ∷ 97 ∷ 107 ∷ 113 ∷ 111 ∷ []) (num row 2)
+    ≡ one-of-letters (101 ∷ 120 ∷ 100 ∷ 116 ∷ []) (num row 0)
+    && (inRange (num row 1) && (one-of-letters (115 ∷ 97 ∷ 107 ∷ 113 ∷ 111 ∷ []) (num row 2)
     && (inRange (num row 3) && number-if (one-of-letters (115 ∷ 97 ∷ 113 ∷ []) (num row 2)) (num row 4))))
 unfolding action-statable
-action-is row = ap (λ (b : Bool). one-of-letters (101 ∷ 120 ∷ 100 ∷ 116 ∷ []) (num row 0) && (inRange (num row 1) && b)) (act-is (num row 2) (num row 3) (num row 4))
+action-is row = ap (λ (b : Bool). one-of-letters (101 ∷ 120 ∷ 100 ∷ 116 ∷ []) (num row 0) && (inRange (num row 1) && b))
+    (act-is (num row 2) (num row 3) (num row 4))

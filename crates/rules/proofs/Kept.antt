@@ -8,7 +8,8 @@ use native.Mathlib.Omega.{arith}
 use lib.IntN.{ℤ}
 use Rattle.meaning.specs.Chart.{Chart}
 use Rattle.meaning.specs.Value.{rule-0, chart-of}
-use Rattle.meaning.specs.Rules.{rule-1, rule-2, rule-3, rule-4, rule-5, rule-6, rule-7, first-failing, failing-rule, after-rule-0, failing-rule-of}
+use Rattle.meaning.specs.Rules.{rule-1, rule-2, rule-3, rule-4, rule-5, rule-6, rule-7, first-failing, failing-rule, after-rule-0}
+use Rattle.meaning.specs.Rules.{failing-rule-of}
 
 -- R1 to R7 hold
 pub record Kept (c : Chart) : Type 0 where

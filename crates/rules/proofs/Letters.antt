@@ -25,9 +25,15 @@ row-of n k a v i h = chunk-at n k (drop a v) i h ∙ ap (take k) (drop-drop (i *
 module _ (v : List ℤ) (b : ℕ) where
   pub state-read : (n : ℕ) → state-statable n (take STATE-ROW (drop b v))
       ≡ number-if (not (eqb n 0)) (getD v b (pos 0))
-      && (one-of-letters (111 ∷ 97 ∷ 98 ∷ []) (getD v (b + 1) (pos 0)) && number-if (is-letter 111 (getD v (b + 1) (pos 0))) (getD v (b + 2) (pos 0)))
+      && (one-of-letters (111 ∷ 97 ∷ 98 ∷ []) (getD v (b + 1) (pos 0))
+      && number-if (is-letter 111 (getD v (b + 1) (pos 0))) (getD v (b + 2) (pos 0)))
   state-read n =
-      rw (state-is n (take STATE-ROW (drop b v)), num-first STATE-ROW b v (omega arith), num-at STATE-ROW b v 1 (omega arith), num-at STATE-ROW b v 2 (omega arith))
+      rw (
+        state-is n (take STATE-ROW (drop b v)),
+        num-first STATE-ROW b v (omega arith),
+        num-at STATE-ROW b v 1 (omega arith),
+        num-at STATE-ROW b v 2 (omega arith),
+      )
 
   pub var-read : var-statable (take VAR-ROW (drop b v))
       ≡ inRange (getD v b (pos 0)) && (inRange (getD v (b + 1) (pos 0)) && inRange (getD v (b + 2) (pos 0)))

@@ -29,7 +29,8 @@ ghost use Prim.Native.Nat.{_<_};
 ghost use lib.ListN.{length, getD};
 ghost use Rattle.meaning.specs.Chart.{no-action};
 ghost use Rattle.meaning.specs.Tree.{trans-row};
-ghost use Rattle.meaning.specs.Rules.{is-var, row-fits, guard-fits, target-fits, transition-fits, owner-fits, within-row, act-fits, action-fits};
+ghost use Rattle.meaning.specs.Rules.{is-var, row-fits, guard-fits, target-fits, transition-fits, owner-fits, within-row};
+ghost use Rattle.meaning.specs.Rules.{act-fits, action-fits};
 ghost use Rattle.meaning.specs.Rules.{rule-5, rule-6, rule-7};
 ghost use Rattle.meaning.specs.Value.{chart-of};
 

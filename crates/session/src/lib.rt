@@ -2,7 +2,6 @@
 // each line. The widget and the line under way go by value, and a whole line hands the widget on: the bytes inside a line change the line
 // under way only. What is printed is written into a lent slice, and what the engine writes of a call into lent numbers, with room for 1,000
 // entries, the same for the whole session.
-use console::ENTRY;
 use console::HEAD;
 use console::LINE;
 use console::Scan;
@@ -10,6 +9,7 @@ use console::collect;
 use meaning::Input;
 use meaning::State;
 use meaning::answers::WRONG_LINE;
+use sizes::ENTRY;
 ghost use mathlib.Core.Path.{_≡_};
 ghost use lib.ListN.{length};
 ghost use Rattle.promises.specs.Promises.{Accepted};
@@ -166,7 +166,8 @@ fn line_ends(
     trace: &mut [i32],
 ) -> Under
     requires { ⌜ Accepted (now chart) × (length (now trace) ≡ Room) ⌝ }
-    ensures { λ r. ⌜ Passes (ended (turn-of (chart-of (now (chart .entry))) state (line-at scan))) (now (out .entry)) at (now (out .exit)) r ⌝ }
+    ensures { λ r. ⌜ Passes (ended (turn-of (chart-of (now (chart .entry))) state (line-at scan)))
+        (now (out .entry)) at (now (out .exit)) r ⌝ }
 {
     let ended = turn(chart, state, scan.line(), out, at, trace);
     let after = ended.state;
@@ -199,7 +200,8 @@ pub fn walk(
     trace: &mut [i32],
 ) -> Walked
     requires { ⌜ Accepted (now chart) × (length (now trace) ≡ Room) ⌝ }
-    ensures { λ r. ⌜ Walks (turn-of (chart-of (now (chart .entry)))) (now (part .entry)) from (seen under) (now (out .entry)) (under .at) (now (out .exit)) r ⌝ }
+    ensures { λ r. ⌜ Walks (turn-of (chart-of (now (chart .entry))))
+        (now (part .entry)) from (seen under) (now (out .entry)) (under .at) (now (out .exit)) r ⌝ }
 {
     let mut now = under;
     let mut i = from;
@@ -233,7 +235,8 @@ pub fn walk(
 // The end of the input: "The last line may lack its LF".
 pub fn finish(chart: &[i32], under: Under, out: &mut [u8], trace: &mut [i32]) -> Under
     requires { ⌜ Accepted (now chart) × (length (now trace) ≡ Room) ⌝ }
-    ensures { λ r. ⌜ Passes (finished (turn-of (chart-of (now (chart .entry)))) (seen under)) (now (out .entry)) (under .at) (now (out .exit)) r ⌝ }
+    ensures { λ r. ⌜ Passes (finished (turn-of (chart-of (now (chart .entry)))) (seen under))
+        (now (out .entry)) (under .at) (now (out .exit)) r ⌝ }
 {
     let state = under.state;
     let scan = under.scan;

@@ -16,6 +16,8 @@ pub const QUEUE: usize = 16;
 pub const NULL_STEPS: usize = 32;
 
 pub const TEXT: usize = 32768;
+// A trace entry ("One reaction") is three numbers.
+pub const ENTRY: usize = 3;
 // Every constant, argument and range end lies within plus or minus this.
 pub const MOST: i32 = 1000000000;
 // "The plan": at most so many instructions.

@@ -61,7 +61,8 @@ module _ (c : Chart) (o : Ordered c) (s : ℕ) (h : s < length (c .states)) wher
 
   -- ---- one step of the loop
 
-  pub end-more : (d : ℕ) → s < d → d < length (c .states) → d ≤ suc s + length (descendants c s) → s ≤ parent-of c d → suc d ≤ suc s + length (descendants c s)
+  pub end-more : (d : ℕ) → s < d → d < length (c .states)
+      → d ≤ suc s + length (descendants c s) → s ≤ parent-of c d → suc d ≤ suc s + length (descendants c s)
   end-more zero l g m p = absurd (omega arith)
   end-more (suc x) l g m p = ⊎-elim
       (λ e. absurd (outside (suc x) (omega arith) g (next-inside x (omega arith) g last p)))

@@ -48,20 +48,23 @@ module _ (v : List ℤ) (r : Ruled v) where
     path-end h = let z : x ≡ 0 = omega arith in sym (ap (path-child (chart-of v) s) z ∙ path-none (chart-of v) (sound v r .ordered) s) ∙ inv
 
   module _ (s t x : ℕ) (inv : scope (chart-of v) x t ≡ scope (chart-of v) s t) where
-    pub scope-found : 0 < x → (p : ℕ) → p ≡ parent-of (chart-of v) x → (k : Kind) → k ≡ kind-of (chart-of v) p → (b d : Bool) → b ≡ is-o k → b ≡ true
+    pub scope-found : 0 < x → (p : ℕ) → p ≡ parent-of (chart-of v) x
+        → (k : Kind) → k ≡ kind-of (chart-of v) p → (b d : Bool) → b ≡ is-o k → b ≡ true
         → d ≡ has p (ancestors (chart-of v) t) → d ≡ true → p ≡ scope (chart-of v) s t
     scope-found h p e k f b d g bt i dt =
         let o : is-o (kind-of (chart-of v) (parent-of (chart-of v) x)) ≡ true = rw (← e, ← f, ← g) bt in
         let a : has (parent-of (chart-of v) x) (ancestors (chart-of v) t) ≡ true = rw (← e, ← i) dt in
         e ∙ sym (scope-here (chart-of v) (sound v r .ordered) x t h o a) ∙ inv
 
-    pub scope-on-kind : 0 < x → (p : ℕ) → p ≡ parent-of (chart-of v) x → (k : Kind) → k ≡ kind-of (chart-of v) p → (b : Bool) → b ≡ is-o k → b ≡ false
+    pub scope-on-kind : 0 < x → (p : ℕ) → p ≡ parent-of (chart-of v) x
+        → (k : Kind) → k ≡ kind-of (chart-of v) p → (b : Bool) → b ≡ is-o k → b ≡ false
         → scope (chart-of v) p t ≡ scope (chart-of v) s t
     scope-on-kind h p e k f b g bt =
         let o : is-o (kind-of (chart-of v) (parent-of (chart-of v) x)) ≡ false = rw (← e, ← f, ← g) bt in
         ap (λ y. scope (chart-of v) y t) e ∙ scope-up-kind (chart-of v) (sound v r .ordered) x t h o ∙ inv
 
-    pub scope-on : 0 < x → (p : ℕ) → p ≡ parent-of (chart-of v) x → (k : Kind) → k ≡ kind-of (chart-of v) p → (b d : Bool) → b ≡ is-o k → b ≡ true
+    pub scope-on : 0 < x → (p : ℕ) → p ≡ parent-of (chart-of v) x
+        → (k : Kind) → k ≡ kind-of (chart-of v) p → (b d : Bool) → b ≡ is-o k → b ≡ true
         → d ≡ has p (ancestors (chart-of v) t) → d ≡ false → scope (chart-of v) p t ≡ scope (chart-of v) s t
     scope-on h p e k f b d g bt i dt =
         let o : is-o (kind-of (chart-of v) (parent-of (chart-of v) x)) ≡ true = rw (← e, ← f, ← g) bt in
@@ -69,14 +72,17 @@ module _ (v : List ℤ) (r : Ruled v) where
         ap (λ y. scope (chart-of v) y t) e ∙ scope-up (chart-of v) (sound v r .ordered) x t h o a ∙ inv
 
     pub scope-end : x ≤ 0 → 0 ≡ scope (chart-of v) s t
-    scope-end h = let z : x ≡ 0 = omega arith in sym (ap (λ y. scope (chart-of v) y t) z ∙ scope-root (chart-of v) (sound v r .ordered) t) ∙ inv
+    scope-end h = let z : x ≡ 0 = omega arith in
+        sym (ap (λ y. scope (chart-of v) y t) z ∙ scope-root (chart-of v) (sound v r .ordered) t) ∙ inv
 
   module _ (s : ℕ) (h : s < length (chart-of v .states)) (d : ℕ) (i : (s < d) × (d ≤ suc s + length (descendants (chart-of v) s))) where
     pub end-found : (p : ℕ) → p ≡ parent-of (chart-of v) d → p < s → d ≡ suc s + length (descendants (chart-of v) s)
     end-found p e l = end-here (chart-of v) (sound v r .ordered) s h d (i .0) (i .1) (omega arith)
 
-    pub end-on : (n : ℕ) → n ≡ length (chart-of v .states) → d < n → (p : ℕ) → p ≡ parent-of (chart-of v) d → s ≤ p → (s < d + 1) × (d + 1 ≤ suc s + length (descendants (chart-of v) s))
-    end-on n f g p e l = (omega arith, omega (arith, end-more (chart-of v) (sound v r .ordered) s h d (i .0) (omega arith) (i .1) (omega arith)))
+    pub end-on : (n : ℕ) → n ≡ length (chart-of v .states) → d < n
+        → (p : ℕ) → p ≡ parent-of (chart-of v) d → s ≤ p → (s < d + 1) × (d + 1 ≤ suc s + length (descendants (chart-of v) s))
+    end-on n f g p e l =
+        (omega arith, omega (arith, end-more (chart-of v) (sound v r .ordered) s h d (i .0) (omega arith) (i .1) (omega arith)))
 
     pub end-all : (n : ℕ) → n ≡ length (chart-of v .states) → n ≤ d → d ≡ suc s + length (descendants (chart-of v) s)
     end-all n f g = end-last (chart-of v) (sound v r .ordered) s h d (i .1) (omega arith)

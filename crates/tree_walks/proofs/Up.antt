@@ -36,7 +36,8 @@ module _ (c : Chart) (o : Ordered c) where
   pub ancestors-up : (x : ℕ) → 0 < x → ancestors c x ≡ parent-of c x ∷ ancestors c (parent-of c x)
   unfolding ancestors climb
   ancestors-up zero h = absurd (omega arith)
-  ancestors-up (suc n) h = ap (λ l. parent-of c (suc n) ∷ l) (climb-enough n (parent-of c (suc n)) (parent-of c (suc n)) (o .falls n) (omega arith))
+  ancestors-up (suc n) h =
+      ap (λ l. parent-of c (suc n) ∷ l) (climb-enough n (parent-of c (suc n)) (parent-of c (suc n)) (o .falls n) (omega arith))
 
   pub parent-falls : (x : ℕ) → 0 < x → parent-of c x < x
   parent-falls zero h = absurd (omega arith)
@@ -67,7 +68,8 @@ module _ (c : Chart) (o : Ordered c) where
   unfolding scope first-that
   scope-root t = rw ancestors-root refl
 
-  pub scope-here : (s t : ℕ) → 0 < s → is-o (kind-of c (parent-of c s)) ≡ true → has (parent-of c s) (ancestors c t) ≡ true → scope c s t ≡ parent-of c s
+  pub scope-here : (s t : ℕ) → 0 < s → is-o (kind-of c (parent-of c s)) ≡ true
+      → has (parent-of c s) (ancestors c t) ≡ true → scope c s t ≡ parent-of c s
   unfolding scope first-that
   scope-here s t h k a = rw (ancestors-up s h, k, a) refl
 
@@ -75,6 +77,7 @@ module _ (c : Chart) (o : Ordered c) where
   unfolding scope first-that
   scope-up-kind s t h k = sym (rw (ancestors-up s h, k) refl)
 
-  pub scope-up : (s t : ℕ) → 0 < s → is-o (kind-of c (parent-of c s)) ≡ true → has (parent-of c s) (ancestors c t) ≡ false → scope c (parent-of c s) t ≡ scope c s t
+  pub scope-up : (s t : ℕ) → 0 < s → is-o (kind-of c (parent-of c s)) ≡ true
+      → has (parent-of c s) (ancestors c t) ≡ false → scope c (parent-of c s) t ≡ scope c s t
   unfolding scope first-that
   scope-up s t h k a = sym (rw (ancestors-up s h, k, a) refl)

@@ -18,7 +18,8 @@ use Rattle.meaning.specs.declared.chart.Act.{Act}
 use Rattle.meaning.specs.declared.chart.Act.the-variants.{SetTo as set-to, AddTo as add-to, TakeTo as take-to, Send as send, Tell as tell}
 use Rattle.meaning.specs.Effects.{held, assign, act-on, take-queue, enqueue, store-in, mark-left, mark-entered}
 use Rattle.widget.specs.declared.Went.{Went}
-use Rattle.widget.specs.View.{Lent, Whole, with-active, with-slots, with-vars, with-queue, with-trace, tracing, ctx, said, went, Noted, Did}
+use Rattle.widget.specs.View.{Lent, Whole, with-active, with-slots, with-vars, with-queue, with-trace, tracing, ctx, said}
+use Rattle.widget.specs.View.{went, Noted, Did}
 use Rattle.widget.specs.Acts.{stored, adding, sending}
 use Rattle.widget.proofs.Noting.{emit-notes}
 use Rattle.widget.proofs.Going.{then-on, then-stop, same-step, said-ok}
@@ -91,7 +92,8 @@ module _ {k : Lent} {at : ℕ} {w : Went} {t′ : List ℤ} where
   unfolding mark-left numbers change set-active store-in ctx tracing
   left-alone {p} {i} d z e = notes-on (left i) (change (λ u. store-in p i (set-active i false u))) d z refl refl (λ l. rw e)
 
-  pub left-in : {p : Slot} {o i : ℕ} {x : ℤ} → Noted (pos 2 ∷ pos i ∷ pos 0 ∷ []) (k .trace) at w t′ → w .number ≡ 0 → p ≡ holds o → x ≡ pos i
+  pub left-in : {p : Slot} {o i : ℕ} {x : ℤ}
+      → Noted (pos 2 ∷ pos i ∷ pos 0 ∷ []) (k .trace) at w t′ → w .number ≡ 0 → p ≡ holds o → x ≡ pos i
       → Did (mark-left p i) k at w (with-active (set (k .active) i false) (with-slots (set (k .slots) o x) (with-trace t′ k)))
   unfolding mark-left numbers change set-active set-slot store-in ctx tracing
   left-in {p} {o} {i} d z e f = notes-on (left i) (change (λ u. store-in p i (set-active i false u))) d z refl refl (λ l. rw (e, f))

@@ -1,5 +1,5 @@
--- The laws of Going for a step for each of a list, a step under a test and a step chosen by the state. A loop keeps `Owes D .. (each f (drop i
--- xs)) ..` as its invariant, or with a list of its own in place of `drop i xs`. Assumes nothing.
+-- The laws of Going for a step for each of a list, a step under a test and a step chosen by the state. A loop keeps `Owes D ..
+-- (each f (drop i xs)) ..` as its invariant, or with a list of its own in place of `drop i xs`. Assumes nothing.
 use mathlib.Core.Path.{_≡_, refl, sym, ap, _∙_}
 use Prim.Native.Nat.{ℕ, suc, _+_, _≤_, _<_}
 use mathlib.Core.Bool.{Bool, true, false}

@@ -14,6 +14,7 @@ use numbers::number;
 use numbers::wide;
 use queue::lent::QUEUE_NUMBERS;
 use queue::lent::append;
+use sizes::ENTRY;
 use sizes::STATES;
 use sizes::VARIABLES;
 ghost use mathlib.Core.Path.{_≡_};
@@ -27,9 +28,6 @@ ghost use Rattle.meaning.specs.Widget.{emit as emits, taken, told};
 ghost use Rattle.meaning.specs.Effects.{assign as assigns, act-on, mark-left, mark-entered};
 ghost use Rattle.widget.specs.View.{Lent, with-active, with-slots, with-vars, with-queue, with-trace, Noted, Within, Did};
 ghost use Rattle.widget.specs.Acts.{stored, adding, sending, Named, Below};
-
-// How many numbers an entry has.
-const ENTRY: usize = 3;
 
 // How a step went: 0 to go on, else the refusal met; and the trace's next free place.
 pub struct Went {
@@ -72,7 +70,8 @@ pub fn clear_from(trace: &mut [i32], at: usize)
 // 01, "Trace": 1, transition taken.
 pub fn mark_taken(t: usize, trace: &mut [i32], at: usize) -> Went
     requires { ⌜ (t < NOWHERE) × (at ≤ length (now trace)) ⌝ }
-    ensures { λ r. ⌜ Within (now (trace .entry)) r (now (trace .exit)) × ((k : Lent) → Did (emits (taken t)) (with-trace (now (trace .entry)) k) at r (with-trace (now (trace .exit)) k)) ⌝ }
+    ensures { λ r. ⌜ Within (now (trace .entry)) r (now (trace .exit))
+        × ((k : Lent) → Did (emits (taken t)) (with-trace (now (trace .entry)) k) at r (with-trace (now (trace .exit)) k)) ⌝ }
 {
     let named = number(t);
     emit(trace, at, 1, named, 0)
@@ -81,7 +80,8 @@ pub fn mark_taken(t: usize, trace: &mut [i32], at: usize) -> Went
 // 01, "Trace": 6, number told.
 pub fn tell(x: i32, trace: &mut [i32], at: usize) -> Went
     requires { ⌜ at ≤ length (now trace) ⌝ }
-    ensures { λ r. ⌜ Within (now (trace .entry)) r (now (trace .exit)) × ((k : Lent) → Did (emits (told x)) (with-trace (now (trace .entry)) k) at r (with-trace (now (trace .exit)) k)) ⌝ }
+    ensures { λ r. ⌜ Within (now (trace .entry)) r (now (trace .exit))
+        × ((k : Lent) → Did (emits (told x)) (with-trace (now (trace .entry)) k) at r (with-trace (now (trace .exit)) k)) ⌝ }
 {
     emit(trace, at, 6, x, 0)
 }
@@ -95,7 +95,9 @@ pub fn store(
     at: usize,
 ) -> Went
     requires { ⌜ (v < variables) × (at ≤ length (now trace)) ⌝ }
-    ensures { λ r. ⌜ Within (now (trace .entry)) r (now (trace .exit)) × ((k : Lent) → Did (stored v value) (with-vars (now (vars .entry)) (with-trace (now (trace .entry)) k)) at r (with-vars (now (vars .exit)) (with-trace (now (trace .exit)) k))) ⌝ }
+    ensures { λ r. ⌜ Within (now (trace .entry)) r (now (trace .exit))
+        × ((k : Lent) → Did (stored v value) (with-vars (now (vars .entry)) (with-trace (now (trace .entry)) k)) at r
+        (with-vars (now (vars .exit)) (with-trace (now (trace .exit)) k))) ⌝ }
 {
     let named = number(v);
     let wrote = emit(trace, at, 4, named, value);
@@ -115,7 +117,9 @@ pub fn send(
     at: usize,
 ) -> Went
     requires { ⌜ (e < NOWHERE) × (at ≤ length (now trace)) ⌝ }
-    ensures { λ r. ⌜ Within (now (trace .entry)) r (now (trace .exit)) × ((k : Lent) → Did (sending e x) (with-queue (now (queue .entry)) (with-trace (now (trace .entry)) k)) at r (with-queue (now (queue .exit)) (with-trace (now (trace .exit)) k))) ⌝ }
+    ensures { λ r. ⌜ Within (now (trace .entry)) r (now (trace .exit))
+        × ((k : Lent) → Did (sending e x) (with-queue (now (queue .entry)) (with-trace (now (trace .entry)) k)) at r
+        (with-queue (now (queue .exit)) (with-trace (now (trace .exit)) k))) ⌝ }
 {
     let event = number(e);
     let wrote = emit(trace, at, 5, event, x);
@@ -141,7 +145,9 @@ pub fn assign(
     at: usize,
 ) -> Went
     requires { ⌜ (v < variables) × (at ≤ length (now trace)) ⌝ }
-    ensures { λ r. ⌜ Within (now (trace .entry)) r (now (trace .exit)) × ((k : Lent) → Did (assigns row v x) (with-vars (now (vars .entry)) (with-trace (now (trace .entry)) k)) at r (with-vars (now (vars .exit)) (with-trace (now (trace .exit)) k))) ⌝ }
+    ensures { λ r. ⌜ Within (now (trace .entry)) r (now (trace .exit))
+        × ((k : Lent) → Did (assigns row v x) (with-vars (now (vars .entry)) (with-trace (now (trace .entry)) k)) at r
+        (with-vars (now (vars .exit)) (with-trace (now (trace .exit)) k))) ⌝ }
 {
     let value = hold(wide(x), row.low, row.high);
     store(v, value, vars, trace, at)
@@ -157,7 +163,9 @@ pub fn add(
     at: usize,
 ) -> Went
     requires { ⌜ (v < variables) × (at ≤ length (now trace)) ⌝ }
-    ensures { λ r. ⌜ Within (now (trace .entry)) r (now (trace .exit)) × ((k : Lent) → Did (adding row v x) (with-vars (now (vars .entry)) (with-trace (now (trace .entry)) k)) at r (with-vars (now (vars .exit)) (with-trace (now (trace .exit)) k))) ⌝ }
+    ensures { λ r. ⌜ Within (now (trace .entry)) r (now (trace .exit))
+        × ((k : Lent) → Did (adding row v x) (with-vars (now (vars .entry)) (with-trace (now (trace .entry)) k)) at r
+        (with-vars (now (vars .exit)) (with-trace (now (trace .exit)) k))) ⌝ }
 {
     let value = add_held(vars[v], x, row.low, row.high);
     store(v, value, vars, trace, at)
@@ -174,7 +182,9 @@ pub fn perform(
     at: usize,
 ) -> Went
     requires { ⌜ Named act × (at ≤ length (now trace)) ⌝ }
-    ensures { λ r. ⌜ Within (now (trace .entry)) r (now (trace .exit)) × ((k : Lent) → Did (act-on row arg act) (with-vars (now (vars .entry)) (with-queue (now (queue .entry)) (with-trace (now (trace .entry)) k))) at r (with-vars (now (vars .exit)) (with-queue (now (queue .exit)) (with-trace (now (trace .exit)) k)))) ⌝ }
+    ensures { λ r. ⌜ Within (now (trace .entry)) r (now (trace .exit)) × ((k : Lent) → Did (act-on row arg act)
+        (with-vars (now (vars .entry)) (with-queue (now (queue .entry)) (with-trace (now (trace .entry)) k))) at r
+        (with-vars (now (vars .exit)) (with-queue (now (queue .exit)) (with-trace (now (trace .exit)) k)))) ⌝ }
 {
     match act {
         Act::SetTo(v, x) => assign(row, v, x, vars, trace, at),
@@ -195,7 +205,9 @@ pub fn mark_left(
     at: usize,
 ) -> Went
     requires { ⌜ Below states p × (s < states) × (at ≤ length (now trace)) ⌝ }
-    ensures { λ r. ⌜ Within (now (trace .entry)) r (now (trace .exit)) × ((k : Lent) → Did (mark-left p s) (with-active (now (active .entry)) (with-slots (now (slots .entry)) (with-trace (now (trace .entry)) k))) at r (with-active (now (active .exit)) (with-slots (now (slots .exit)) (with-trace (now (trace .exit)) k)))) ⌝ }
+    ensures { λ r. ⌜ Within (now (trace .entry)) r (now (trace .exit)) × ((k : Lent) → Did (mark-left p s)
+        (with-active (now (active .entry)) (with-slots (now (slots .entry)) (with-trace (now (trace .entry)) k))) at r
+        (with-active (now (active .exit)) (with-slots (now (slots .exit)) (with-trace (now (trace .exit)) k)))) ⌝ }
 {
     let named = number(s);
     let went = emit(trace, at, 2, named, 0);
@@ -213,7 +225,9 @@ pub fn mark_left(
 // 01, "Trace": 3, state entered.
 pub fn mark_entered(s: usize, active: &mut [bool; STATES], trace: &mut [i32], at: usize) -> Went
     requires { ⌜ (s < states) × (at ≤ length (now trace)) ⌝ }
-    ensures { λ r. ⌜ Within (now (trace .entry)) r (now (trace .exit)) × ((k : Lent) → Did (mark-entered s) (with-active (now (active .entry)) (with-trace (now (trace .entry)) k)) at r (with-active (now (active .exit)) (with-trace (now (trace .exit)) k))) ⌝ }
+    ensures { λ r. ⌜ Within (now (trace .entry)) r (now (trace .exit))
+        × ((k : Lent) → Did (mark-entered s) (with-active (now (active .entry)) (with-trace (now (trace .entry)) k)) at r
+        (with-active (now (active .exit)) (with-trace (now (trace .exit)) k))) ⌝ }
 {
     let named = number(s);
     let went = emit(trace, at, 3, named, 0);

@@ -25,6 +25,5 @@ unfolding act-var
 returns-5 c = rw (c .before .act5 .given .1)
 
 pub act-var-spec : {M : Type 1} → statement M
-act-var-spec =
-    tie.close (tie.spec (λ c. search needs) (λ c. search needs) (λ c. search needs) (λ c. search needs)
-    (λ c. search needs) returns returns-2 returns-3 returns-4 returns-5)
+act-var-spec = tie.close (tie.spec (λ c. search needs) (λ c. search needs)
+    (λ c. search needs) (λ c. search needs) (λ c. search needs) returns returns-2 returns-3 returns-4 returns-5)

@@ -31,6 +31,5 @@ returns-2 c =
     (rw (toZ-ofZ (o-parent-from-trace2 c .before .fits .arg)) at (c .before .perform-all .ensures))
 
 pub leave-spec : {M : Type 1} → statement M
-leave-spec =
-    tie.close (tie.spec (λ c κs. search needs) mark-left-requires (λ c. search needs) returns
-    (λ c κs. search needs) (λ c. search needs) returns-2)
+leave-spec = tie.close (tie.spec (λ c κs. search needs)
+    mark-left-requires (λ c. search needs) returns (λ c κs. search needs) (λ c. search needs) returns-2)

@@ -86,22 +86,6 @@ returns-2 c =
     (omega (arith, c .loop-test .left, k .before .before .action-count .ensures)))
 
 pub perform-all-spec : {M : Type 1} → statement M
-perform-all-spec =
-    tie.close
-    (tie.spec
-    Inv-loop
-    μ-loop
-    (λ c κs. search needs)
-    (λ c κs. search needs)
-    loop-holds
-    (λ c κs. search needs)
-    (λ c κs. search needs)
-    (λ c κs. search needs)
-    perform-requires
-    (λ c. search needs)
-    returns
-    next-row-requires
-    loop-less
-    loop-again
-    (λ c. search needs)
-    returns-2)
+perform-all-spec = tie.close (tie.spec Inv-loop μ-loop
+    (λ c κs. search needs) (λ c κs. search needs) loop-holds (λ c κs. search needs) (λ c κs. search needs) (λ c κs. search needs)
+    perform-requires (λ c. search needs) returns next-row-requires loop-less loop-again (λ c. search needs) returns-2)

@@ -1,4 +1,5 @@
--- `put_towards` puts each child that is due on the way to the goal, with what is below it. The measure is how many states are left. Assumes nothing.
+-- `put_towards` puts each child that is due on the way to the goal, with what is below it. The measure is how many states are
+-- left. Assumes nothing.
 use Rattle.chart_rows.proofs.Rows.{states-most}
 use mathlib.Core.Path.{_∙_, refl, sym}
 use Prim.Native.Nat.{_-_}
@@ -261,10 +262,8 @@ put-towards-returns :
 put-towards-returns t c = going-end _ _ _ _ _ _ _ _ _ _ (c .before .loop .inv) (c .loop-test .left)
 
 pub +put-towards-spec : {M : Type 1} → statement M
-+put-towards-spec =
-    close μ-put-towards λ t. put-towards-lts.spec (put-towards-knows t) (put-towards-at t) put-towards.Post
-    put-towards-Inv-loop put-towards-μ-loop (put-towards-next-of-requires t) (put-towards-kids-within-requires t)
-    (put-towards-loop-holds t) (λ c κs. search needs) (put-towards-add-d t) (put-towards-loop-less t)
-    (put-towards-loop-again t) (put-towards-put-arrival-requires t) (put-towards-sub-put-towards t)
-    (put-towards-put-towards-requires t) (put-towards-add-d-2 t) (put-towards-loop-less-2 t)
-    (put-towards-loop-again-2 t) (put-towards-same-length t) (put-towards-returns t)
++put-towards-spec = close μ-put-towards λ t. put-towards-lts.spec (put-towards-knows t) (put-towards-at t)
+    put-towards.Post put-towards-Inv-loop put-towards-μ-loop (put-towards-next-of-requires t) (put-towards-kids-within-requires t)
+    (put-towards-loop-holds t) (λ c κs. search needs) (put-towards-add-d t) (put-towards-loop-less t) (put-towards-loop-again t)
+    (put-towards-put-arrival-requires t) (put-towards-sub-put-towards t) (put-towards-put-towards-requires t) (put-towards-add-d-2 t)
+    (put-towards-loop-less-2 t) (put-towards-loop-again-2 t) (put-towards-same-length t) (put-towards-returns t)

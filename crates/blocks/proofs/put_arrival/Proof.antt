@@ -79,6 +79,5 @@ returns-3 c =
     (c .before .put-arms .ensures)
 
 pub put-arrival-spec : {M : Type 1} → statement M
-put-arrival-spec =
-    tie.close (tie.spec next-of-requires put-visit-requires (λ c. search needs) (λ c. search needs)
-    (λ c. search needs) returns (λ c. search needs) returns-2 put-arms-requires (λ c. search needs) returns-3)
+put-arrival-spec = tie.close (tie.spec next-of-requires put-visit-requires (λ c. search needs)
+    (λ c. search needs) (λ c. search needs) returns (λ c. search needs) returns-2 put-arms-requires (λ c. search needs) returns-3)

@@ -123,7 +123,6 @@ returns-3 c =
     (c .before .before .before .enum-told .given .1)) (c .before .put-acts .ensures)
 
 pub put-block-spec : {M : Type 1} → statement M
-put-block-spec =
-    tie.close (tie.spec (λ c κs. search needs) (λ c. search needs) scope-requires put-move-requires
-    (λ c. search needs) scope-requires-2 put-move-requires-2 (λ c. search needs) put-acts-requires
-    (λ c. search needs) returns (λ c. search needs) returns-2 (λ c. search needs) returns-3)
+put-block-spec = tie.close (tie.spec (λ c κs. search needs)
+    (λ c. search needs) scope-requires put-move-requires (λ c. search needs) scope-requires-2 put-move-requires-2
+    (λ c. search needs) put-acts-requires (λ c. search needs) returns (λ c. search needs) returns-2 (λ c. search needs) returns-3)

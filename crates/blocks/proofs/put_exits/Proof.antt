@@ -81,6 +81,5 @@ returns : tie.Need-returns Inv-loop μ-loop
 returns c = falling-end (c .before .loop .inv .1) (omega (arith, c .loop-test .left))
 
 pub put-exits-spec : {M : Type 1} → statement M
-put-exits-spec =
-    tie.close (tie.spec Inv-loop μ-loop end-below-requires loop-holds add-loop (λ c. search needs)
-    put-exit-requires loop-less loop-again same-length returns)
+put-exits-spec = tie.close (tie.spec Inv-loop
+    μ-loop end-below-requires loop-holds add-loop (λ c. search needs) put-exit-requires loop-less loop-again same-length returns)

@@ -89,6 +89,5 @@ returns c =
     (put-both _ _ _ (put-acts-from-plan3 c .put-acts .ensures) (c .before .put-towards .ensures)))
 
 pub put-move-spec : {M : Type 1} → statement M
-put-move-spec =
-    tie.close (tie.spec (λ c κs. search needs) put-exits-requires put-acts-requires put-towards-requires
-    (λ c. search needs) returns)
+put-move-spec = tie.close
+    (tie.spec (λ c κs. search needs) put-exits-requires put-acts-requires put-towards-requires (λ c. search needs) returns)

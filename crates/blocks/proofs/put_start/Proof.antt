@@ -68,6 +68,4 @@ returns c =
     (put-both _ _ _ (c .before .before .before .before .put-enter .ensures) (c .before .put-defaults .ensures))
 
 pub put-start-spec : {M : Type 1} → statement M
-put-start-spec =
-    tie.close
-    (tie.spec (λ c κs. search needs) put-enter-requires put-defaults-requires (λ c. search needs) returns)
+put-start-spec = tie.close (tie.spec (λ c κs. search needs) put-enter-requires put-defaults-requires (λ c. search needs) returns)

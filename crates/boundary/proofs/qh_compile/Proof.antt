@@ -17,5 +17,4 @@ returns c = record {
 }
 
 pub qh-compile-spec : {M : Type 1} → statement M
-qh-compile-spec =
-    tie.close (tie.spec (λ c κs. search needs) (λ c κs. search needs) (λ c. search needs) returns)
+qh-compile-spec = tie.close (tie.spec (λ c κs. search needs) (λ c κs. search needs) (λ c. search needs) returns)

@@ -23,6 +23,4 @@ returns c =
     (back32 _ (c .before .end .ok)) (c .before .end .ensures)
 
 pub qh-plan-post-spec : {M : Type 1} → statement M
-qh-plan-post-spec =
-    tie.close (tie.spec (λ c κs. search needs) (λ c κs. search needs) (λ c κs. search needs)
-    (λ c. search needs) returns)
+qh-plan-post-spec = tie.close (tie.spec (λ c κs. search needs) (λ c κs. search needs) (λ c κs. search needs) (λ c. search needs) returns)

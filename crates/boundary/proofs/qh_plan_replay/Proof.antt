@@ -26,6 +26,5 @@ returns c =
     }
 
 pub qh-plan-replay-spec : {M : Type 1} → statement M
-qh-plan-replay-spec =
-    tie.close (tie.spec (λ c κs. search needs) (λ c κs. search needs) (λ c κs. search needs) (λ c. search needs)
-    (λ c. search needs) returns)
+qh-plan-replay-spec = tie.close (tie.spec (λ c κs. search needs)
+    (λ c κs. search needs) (λ c κs. search needs) (λ c. search needs) (λ c. search needs) returns)

@@ -19,6 +19,5 @@ returns c =
     (back32 _ (c .before .end .ok)) (c .before .end .ensures)
 
 pub qh-plan-run-spec : {M : Type 1} → statement M
-qh-plan-run-spec =
-    tie.close (tie.spec (λ c κs. search needs) (λ c κs. search needs) (λ c κs. search needs)
-    (λ c. search needs) (λ c. search needs) returns)
+qh-plan-run-spec = tie.close (tie.spec (λ c κs. search needs)
+    (λ c κs. search needs) (λ c κs. search needs) (λ c. search needs) (λ c. search needs) returns)

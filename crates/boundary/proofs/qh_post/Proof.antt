@@ -23,6 +23,4 @@ returns c =
     (back32 _ (c .before .end .ok)) (c .before .end .ensures)
 
 pub qh-post-spec : {M : Type 1} → statement M
-qh-post-spec =
-    tie.close (tie.spec (λ c κs. search needs) (λ c κs. search needs) (λ c κs. search needs)
-    (λ c. search needs) returns)
+qh-post-spec = tie.close (tie.spec (λ c κs. search needs) (λ c κs. search needs) (λ c κs. search needs) (λ c. search needs) returns)

@@ -24,6 +24,5 @@ returns-2 c =
     (c .before .end2 .ensures)
 
 pub qh-unstarted-spec : {M : Type 1} → statement M
-qh-unstarted-spec =
-    tie.close (tie.spec (λ c κs. search needs) (λ c κs. search needs) (λ c. search needs) returns
-    (λ c κs. search needs) (λ c. search needs) returns-2)
+qh-unstarted-spec = tie.close (tie.spec (λ c κs. search needs)
+    (λ c κs. search needs) (λ c. search needs) returns (λ c κs. search needs) (λ c. search needs) returns-2)

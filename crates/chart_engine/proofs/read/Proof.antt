@@ -24,6 +24,5 @@ returns-3 c =
     (λ n. absurd (n (c .if2 .left))) (λ _. refl))
 
 pub read-spec : {M : Type 1} → statement M
-read-spec =
-    tie.close (tie.spec (λ c κs. search needs) (λ c. search needs) returns (λ c κs. search needs) (λ c κs. search needs)
-    (λ c. search needs) returns-2 (λ c. search needs) returns-3)
+read-spec = tie.close (tie.spec (λ c κs. search needs) (λ c. search needs)
+    returns (λ c κs. search needs) (λ c κs. search needs) (λ c. search needs) returns-2 (λ c. search needs) returns-3)

@@ -16,6 +16,5 @@ returns-2 : tie.Need-returns-2
 returns-2 c = c .before .run-checked .ensures
 
 pub run-spec : {M : Type 1} → statement M
-run-spec =
-    tie.close (tie.spec (λ c κs. search needs) (λ c κs. search needs) (λ c. search needs) returns run-checked-requires
-    (λ c. search needs) returns-2)
+run-spec = tie.close (tie.spec (λ c κs. search needs)
+    (λ c κs. search needs) (λ c. search needs) returns run-checked-requires (λ c. search needs) returns-2)

@@ -16,6 +16,5 @@ returns-2 : tie.Need-returns-2
 returns-2 c = c .before .start-checked .ensures
 
 pub start-spec : {M : Type 1} → statement M
-start-spec =
-    tie.close (tie.spec (λ c κs. search needs) (λ c κs. search needs) (λ c. search needs) returns start-checked-requires
-    (λ c. search needs) returns-2)
+start-spec = tie.close (tie.spec (λ c κs. search needs)
+    (λ c κs. search needs) (λ c. search needs) returns start-checked-requires (λ c. search needs) returns-2)

@@ -18,6 +18,5 @@ returns-2 : tie.Need-returns-2
 returns-2 c = writes (c .before .before .write-passed .ensures)
 
 pub write-spec : {M : Type 1} → statement M
-write-spec =
-    tie.close (tie.spec (λ c κs. search needs) (λ c κs. search needs) (λ c. search needs) returns write-passed-requires
-    (λ c. search needs) returns-2)
+write-spec = tie.close (tie.spec (λ c κs. search needs)
+    (λ c κs. search needs) (λ c. search needs) returns write-passed-requires (λ c. search needs) returns-2)

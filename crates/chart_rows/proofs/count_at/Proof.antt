@@ -10,14 +10,9 @@ use borrow.Author.Needs.{needs}
 use Rattle.chart_rows.proofs.count_at.Statement.{statement}
 use Rattle.chart_rows.proofs.count_at.Tie as tie
 
-named : (c : tie.After-reference) → c .reference .result ≡ ref (getD (c .before .before .args .chart .now) (c .before .before .args .i) (pos 0))
+named : (c : tie.After-reference)
+    → c .reference .result ≡ ref (getD (c .before .before .args .chart .now) (c .before .before .args .i) (pos 0))
 named c = said-of ref (c .before .number-at .ok) (c .before .number-at .ensures) (c .reference .ensures)
-
-number-at-requires : tie.Need-number-at-requires
-number-at-requires c κs = search needs
-
-reference-requires : tie.Need-reference-requires
-reference-requires c κs = search needs
 
 returns : tie.Need-returns
 unfolding size-by
@@ -28,4 +23,4 @@ unfolding size-by
 returns-2 c = rw (← named (c .before), lt-leb _ _ (c .if1 .left))
 
 pub count-at-spec : {M : Type 1} → statement M
-count-at-spec = tie.close (tie.spec number-at-requires reference-requires returns returns-2)
+count-at-spec = tie.close (tie.spec (λ c κs. search needs) (λ c κs. search needs) returns returns-2)

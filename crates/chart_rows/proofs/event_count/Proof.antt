@@ -6,15 +6,9 @@ use borrow.Author.Needs.{needs}
 use Rattle.chart_rows.proofs.event_count.Statement.{statement}
 use Rattle.chart_rows.proofs.event_count.Tie as tie
 
-number-at-requires : tie.Need-number-at-requires
-number-at-requires c κs = search needs
-
-reference-requires : tie.Need-reference-requires
-reference-requires c κs = search needs
-
 returns : tie.Need-returns
 unfolding chart-of chart-by rows-of
 returns c = said-of ref (c .before .number-at .ok) (c .before .number-at .ensures) (c .reference .ensures)
 
 pub event-count-spec : {M : Type 1} → statement M
-event-count-spec = tie.close (tie.spec number-at-requires reference-requires returns)
+event-count-spec = tie.close (tie.spec (λ c κs. search needs) (λ c κs. search needs) returns)

@@ -9,29 +9,17 @@ use borrow.Author.Needs.{needs}
 use Rattle.chart_rows.proofs.var_row.Statement.{statement}
 use Rattle.chart_rows.proofs.var_row.Tie as tie
 
-var-count-requires : tie.Need-var-count-requires
-var-count-requires c κs = search needs
-
 mul-at : tie.Need-mul-at
 mul-at c = omega (arith, vars-most (c .before .before .args .chart .now))
 
 add-at : tie.Need-add-at
 add-at c = omega (arith, vars-most (c .before .before .args .chart .now))
 
-number-at-requires : tie.Need-number-at-requires
-number-at-requires c κs = search needs
-
 add-number-at : tie.Need-add-number-at
 add-number-at c = omega (arith, vars-most (c .before .before .before .args .chart .now))
 
-number-at-requires-2 : tie.Need-number-at-requires-2
-number-at-requires-2 c κs = search needs
-
 add-number-at-2 : tie.Need-add-number-at-2
 add-number-at-2 c = omega (arith, vars-most (c .before .before .before .before .args .chart .now))
-
-number-at-requires-3 : tie.Need-number-at-requires-3
-number-at-requires-3 c κs = search needs
 
 returns : tie.Need-returns
 returns c =
@@ -47,16 +35,5 @@ returns-2 : tie.Need-returns-2
 returns-2 c = sym (var-none (chart-of (c .before .before .args .chart .now)) (c .before .before .args .v) (omega arith))
 
 pub var-row-spec : {M : Type 1} → statement M
-var-row-spec =
-    tie.close
-    (tie.spec
-    var-count-requires
-    mul-at
-    add-at
-    number-at-requires
-    add-number-at
-    number-at-requires-2
-    add-number-at-2
-    number-at-requires-3
-    returns
-    returns-2)
+var-row-spec = tie.close (tie.spec (λ c κs. search needs) mul-at
+    add-at (λ c κs. search needs) add-number-at (λ c κs. search needs) add-number-at-2 (λ c κs. search needs) returns returns-2)

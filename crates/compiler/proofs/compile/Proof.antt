@@ -27,6 +27,5 @@ returns-2 c =
     (c .before .clear-from .ensures)
 
 pub compile-spec : {M : Type 1} → statement M
-compile-spec =
-    tie.close (tie.spec (λ c κs. search needs) compile-passed-requires (λ c. search needs) returns
-    (λ c κs. omega arith) (λ c. search needs) returns-2)
+compile-spec = tie.close (tie.spec (λ c κs. search needs)
+    compile-passed-requires (λ c. search needs) returns (λ c κs. omega arith) (λ c. search needs) returns-2)

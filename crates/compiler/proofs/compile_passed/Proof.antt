@@ -301,7 +301,6 @@ returns-2 c =
 
 pub compile-passed-spec : {M : Type 1} → statement M
 compile-passed-spec =
-    tie.close (tie.spec index-of-requires order-of-requires start-length-requires code-length-requires
-    (λ c κs. search needs) mul-length add-length mul-length-2 add-length-2 mul-length-3 add-length-3
-    (λ c κs. omega arith) (λ c. search needs) returns put-six-requires put-vars-requires put-heads-requires
-    put-code-requires clear-from-requires-2 (λ c. search needs) returns-2)
+    tie.close (tie.spec index-of-requires order-of-requires start-length-requires code-length-requires (λ c κs. search needs)
+    mul-length add-length mul-length-2 add-length-2 mul-length-3 add-length-3 (λ c κs. omega arith) (λ c. search needs) returns
+    put-six-requires put-vars-requires put-heads-requires put-code-requires clear-from-requires-2 (λ c. search needs) returns-2)

@@ -65,6 +65,5 @@ returns : tie.Need-returns Inv-loop μ-loop
 returns c = blocking-end (c .before .before .pre .1) (c .before .loop .inv) (c .loop-test .left)
 
 pub put-blocks-spec : {M : Type 1} → statement M
-put-blocks-spec =
-    tie.close (tie.spec Inv-loop μ-loop loop-holds mul-t element-copy-out-t put-block-requires add-j loop-less
-    loop-again same-length returns)
+put-blocks-spec = tie.close (tie.spec Inv-loop
+    μ-loop loop-holds mul-t element-copy-out-t put-block-requires add-j loop-less loop-again same-length returns)

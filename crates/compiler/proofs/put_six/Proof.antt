@@ -78,7 +78,8 @@ returns : tie.Need-returns
 returns c =
     six-put (chart-of (c .before .before .before .before .before .before .before .before .before .before .before .before
     .before .before .before .args .chart .now)) _ _ _ _ _ _
-    (c .before .before .before .before .before .before .before .before .before .before .before .before .before .before .state-count .ensures)
+    (c .before .before .before .before .before
+    .before .before .before .before .before .before .before .before .before .state-count .ensures)
     (c .before .before .before .before .before .before .before .before .before .before .before .before .before .var-count .ensures)
     (c .before .before .before .before .before .before .before .before .before .before .before .before .event-count .ensures)
     (c .before .before .before .before .before .before .before .before .before .before .before .before .before .before .before .pre .1)
@@ -107,7 +108,6 @@ returns c =
     ) at (c .before .put-three2 .ensures))
 
 pub put-six-spec : {M : Type 1} → statement M
-put-six-spec =
-    tie.close (tie.spec (λ c κs. search needs) (λ c κs. search needs) (λ c κs. search needs) number-requires
-    number-requires-2 number-requires-3 (λ c κs. omega arith) number-requires-4 number-requires-5
-    number-requires-6 put-three-requires-2 (λ c. search needs) returns)
+put-six-spec = tie.close (tie.spec (λ c κs. search needs)
+    (λ c κs. search needs) (λ c κs. search needs) number-requires number-requires-2 number-requires-3
+    (λ c κs. omega arith) number-requires-4 number-requires-5 number-requires-6 put-three-requires-2 (λ c. search needs) returns)

@@ -77,6 +77,5 @@ returns : tie.Need-returns Inv-loop μ-loop
 returns c = ranging-end (c .before .loop .inv) (omega (arith, c .loop-test .left, c .before .before .var-count .ensures))
 
 pub put-vars-spec : {M : Type 1} → statement M
-put-vars-spec =
-    tie.close (tie.spec Inv-loop μ-loop (λ c κs. search needs) loop-holds (λ c κs. search needs)
-    put-three-requires add-v loop-less loop-again same-length returns)
+put-vars-spec = tie.close (tie.spec Inv-loop μ-loop
+    (λ c κs. search needs) loop-holds (λ c κs. search needs) put-three-requires add-v loop-less loop-again same-length returns)

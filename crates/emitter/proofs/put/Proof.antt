@@ -10,6 +10,4 @@ returns-2 : tie.Need-returns-2
 returns-2 c = sym (set-out (c .before .args .plan .now) (c .before .args .at) (c .before .args .z) (omega arith))
 
 pub put-spec : {M : Type 1} → statement M
-put-spec =
-    tie.close
-    (tie.spec (λ c. search needs) (λ c. search needs) (λ c. search needs) (λ c. search needs) returns-2)
+put-spec = tie.close (tie.spec (λ c. search needs) (λ c. search needs) (λ c. search needs) (λ c. search needs) returns-2)

@@ -69,9 +69,7 @@ returns-5 c =
     (emits-one _ _ (rw (toZ-ofZ fx) at (c .before .put-four4 .ensures)))
 
 pub put-act-spec : {M : Type 1} → statement M
-put-act-spec =
-    tie.close (tie.spec (λ c. search needs) number-requires (λ c κs. search needs) (λ c. search needs)
-    number-requires-2 (λ c κs. search needs) (λ c. search needs) put-plain-requires (λ c. search needs)
-    number-requires-3 (λ c κs. search needs) (λ c. search needs) (λ c κs. search needs) (λ c. search needs)
-    returns (λ c. search needs) returns-2 (λ c. search needs) returns-3 (λ c. search needs) returns-4
-    (λ c. search needs) returns-5)
+put-act-spec = tie.close (tie.spec (λ c. search needs) number-requires (λ c κs. search needs)
+    (λ c. search needs) number-requires-2 (λ c κs. search needs) (λ c. search needs) put-plain-requires (λ c. search needs)
+    number-requires-3 (λ c κs. search needs) (λ c. search needs) (λ c κs. search needs) (λ c. search needs) returns
+    (λ c. search needs) returns-2 (λ c. search needs) returns-3 (λ c. search needs) returns-4 (λ c. search needs) returns-5)

@@ -22,7 +22,5 @@ returns c =
     (rw (toZ-ofZ (start-from-plan4 c .fits .d)) at (c .before .put4 .ensures))
 
 pub put-four-spec : {M : Type 1} → statement M
-put-four-spec =
-    tie.close (tie.spec (λ c κs. search needs) (λ c. search needs) (λ c κs. search needs) (λ c. search needs)
-    (λ c κs. search needs) (λ c. search needs) (λ c κs. search needs) (λ c. search needs) (λ c. search needs)
-    returns)
+put-four-spec = tie.close (tie.spec (λ c κs. search needs) (λ c. search needs) (λ c κs. search needs) (λ c. search needs)
+    (λ c κs. search needs) (λ c. search needs) (λ c κs. search needs) (λ c. search needs) (λ c. search needs) returns)

@@ -69,10 +69,8 @@ returns-7 : tie.Need-returns-7
 returns-7 c = rw (c .before .before .before .before .instr7 .given .1) (c .before .put-act .ensures)
 
 pub put-instr-spec : {M : Type 1} → statement M
-put-instr-spec =
-    tie.close (tie.spec (λ c. search needs) put-plain-requires (λ c. search needs) put-out-requires
-    (λ c. search needs) put-plain-requires-2 (λ c. search needs) put-plain-requires-3 (λ c. search needs)
-    put-plain-requires-4 (λ c. search needs) put-plain-requires-5 (λ c. search needs) put-act-requires
-    (λ c. search needs) returns (λ c. search needs) returns-2 (λ c. search needs) returns-3
-    (λ c. search needs) returns-4 (λ c. search needs) returns-5 (λ c. search needs) returns-6
-    (λ c. search needs) returns-7)
+put-instr-spec = tie.close
+    (tie.spec (λ c. search needs) put-plain-requires (λ c. search needs) put-out-requires (λ c. search needs) put-plain-requires-2
+    (λ c. search needs) put-plain-requires-3 (λ c. search needs) put-plain-requires-4 (λ c. search needs) put-plain-requires-5
+    (λ c. search needs) put-act-requires (λ c. search needs) returns (λ c. search needs) returns-2 (λ c. search needs) returns-3
+    (λ c. search needs) returns-4 (λ c. search needs) returns-5 (λ c. search needs) returns-6 (λ c. search needs) returns-7)

@@ -26,6 +26,5 @@ unfolding instr-numbers slot-number
 returns-2 c = rw (c .before .before .before .before .p .given .1) (emits-one _ _ (c .before .put-plain .ensures))
 
 pub put-out-spec : {M : Type 1} → statement M
-put-out-spec =
-    tie.close (tie.spec (λ c. search needs) (λ c κs. search needs) (λ c κs. search needs) (λ c. search needs)
-    put-plain-requires (λ c. search needs) returns (λ c. search needs) returns-2)
+put-out-spec = tie.close (tie.spec (λ c. search needs) (λ c κs. search needs)
+    (λ c κs. search needs) (λ c. search needs) put-plain-requires (λ c. search needs) returns (λ c. search needs) returns-2)

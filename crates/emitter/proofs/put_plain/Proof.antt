@@ -20,6 +20,5 @@ returns c =
     ) at (c .before .put-four .ensures)
 
 pub put-plain-spec : {M : Type 1} → statement M
-put-plain-spec =
-    tie.close (tie.spec (λ c κs. search needs) (λ c κs. search needs) (λ c κs. search needs)
-    (λ c κs. search needs) (λ c κs. search needs) (λ c. search needs) returns)
+put-plain-spec = tie.close (tie.spec (λ c κs. search needs)
+    (λ c κs. search needs) (λ c κs. search needs) (λ c κs. search needs) (λ c κs. search needs) (λ c. search needs) returns)

@@ -20,6 +20,5 @@ returns c =
     (rw (toZ-ofZ (start-from-plan3 c .fits .c)) at (c .before .put3 .ensures))
 
 pub put-three-spec : {M : Type 1} → statement M
-put-three-spec =
-    tie.close (tie.spec (λ c κs. search needs) (λ c. search needs) (λ c κs. search needs) (λ c. search needs)
-    (λ c κs. search needs) (λ c. search needs) (λ c. search needs) returns)
+put-three-spec = tie.close (tie.spec (λ c κs. search needs) (λ c. search needs)
+    (λ c κs. search needs) (λ c. search needs) (λ c κs. search needs) (λ c. search needs) (λ c. search needs) returns)

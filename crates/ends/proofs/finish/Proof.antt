@@ -17,6 +17,5 @@ returns-2 c =
     (c .held .ensures) refl (c .before .before .before .clear-from .ensures)
 
 pub finish-spec : {M : Type 1} → statement M
-finish-spec =
-    tie.close (tie.spec (λ c κs. search needs) (λ c. search needs) returns (λ c κs. search needs)
-    (λ c κs. search needs) (λ c. search needs) returns-2)
+finish-spec = tie.close (tie.spec (λ c κs. search needs)
+    (λ c. search needs) returns (λ c κs. search needs) (λ c κs. search needs) (λ c. search needs) returns-2)

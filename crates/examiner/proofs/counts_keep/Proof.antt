@@ -94,21 +94,6 @@ returns-5 c =
     (instructions c))))
 
 pub counts-keep-spec : {M : Type 1} → statement M
-counts-keep-spec =
-    tie.close
-    (tie.spec
-    (λ c κs. search needs)
-    (λ c κs. search needs)
-    returns
-    (λ c κs. search needs)
-    (λ c κs. search needs)
-    returns-2
-    (λ c κs. search needs)
-    (λ c κs. search needs)
-    returns-3
-    (λ c κs. search needs)
-    (λ c κs. search needs)
-    returns-4
-    (λ c κs. search needs)
-    (λ c κs. search needs)
-    returns-5)
+counts-keep-spec = tie.close (tie.spec (λ c κs. search needs) (λ c κs. search needs)
+    returns (λ c κs. search needs) (λ c κs. search needs) returns-2 (λ c κs. search needs) (λ c κs. search needs)
+    returns-3 (λ c κs. search needs) (λ c κs. search needs) returns-4 (λ c κs. search needs) (λ c κs. search needs) returns-5)

@@ -42,14 +42,5 @@ returns-4 c =
     (held (b .blocks-fill .ensures) (c .before .if3 .left))
 
 pub rows-well-formed-spec : {M : Type 1} → statement M
-rows-well-formed-spec =
-    tie.close
-    (tie.spec
-    (λ c κs. search needs)
-    returns
-    (λ c κs. search needs)
-    returns-2
-    (λ c κs. search needs)
-    returns-3
-    code-fits-requires
-    returns-4)
+rows-well-formed-spec = tie.close (tie.spec (λ c κs. search needs)
+    returns (λ c κs. search needs) returns-2 (λ c κs. search needs) returns-3 code-fits-requires returns-4)

@@ -32,13 +32,5 @@ returns-3 c =
     ∙ well-rows (s .before .args .plan .now) (held (s .counts-keep .ensures) (k .before .if1 .left)) (omega arith)
 
 pub well-formed-spec : {M : Type 1} → statement M
-well-formed-spec =
-    tie.close
-    (tie.spec
-    (λ c κs. search needs)
-    returns
-    (λ c κs. search needs)
-    plan-end-requires
-    returns-2
-    (λ c κs. search needs)
-    returns-3)
+well-formed-spec = tie.close
+    (tie.spec (λ c κs. search needs) returns (λ c κs. search needs) plan-end-requires returns-2 (λ c κs. search needs) returns-3)

@@ -29,6 +29,5 @@ returns-2 c =
     (c .before .before .if1 .left)))
 
 pub discard-spec : {M : Type 1} → statement M
-discard-spec =
-    tie.close (tie.spec (λ c κs. search needs) (λ c κs. search needs) returns (λ c κs. search needs)
-    discard-examined-requires returns-2)
+discard-spec = tie.close
+    (tie.spec (λ c κs. search needs) (λ c κs. search needs) returns (λ c κs. search needs) discard-examined-requires returns-2)

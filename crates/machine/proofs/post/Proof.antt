@@ -31,6 +31,5 @@ returns-2 c =
     (c .before .before .if1 .left) (a .event) (a .arg)))
 
 pub post-spec : {M : Type 1} → statement M
-post-spec =
-    tie.close (tie.spec (λ c κs. search needs) (λ c κs. search needs) returns (λ c κs. search needs)
-    post-examined-requires returns-2)
+post-spec = tie.close
+    (tie.spec (λ c κs. search needs) (λ c κs. search needs) returns (λ c κs. search needs) post-examined-requires returns-2)

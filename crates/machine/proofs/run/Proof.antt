@@ -31,6 +31,5 @@ returns-2 c =
     (c .before .before .before .before .if1 .left) _) (c .before .run-examined .ensures)
 
 pub run-spec : {M : Type 1} → statement M
-run-spec =
-    tie.close (tie.spec (λ c κs. search needs) (λ c κs. search needs) (λ c. search needs) returns
-    (λ c κs. search needs) run-examined-requires (λ c. search needs) returns-2)
+run-spec = tie.close (tie.spec (λ c κs. search needs)
+    (λ c κs. search needs) (λ c. search needs) returns (λ c κs. search needs) run-examined-requires (λ c. search needs) returns-2)

@@ -31,6 +31,5 @@ returns-2 c =
     (c .before .before .before .before .if1 .left) _) (c .before .start-examined .ensures)
 
 pub start-spec : {M : Type 1} → statement M
-start-spec =
-    tie.close (tie.spec (λ c κs. search needs) (λ c κs. search needs) (λ c. search needs) returns
-    (λ c κs. search needs) start-examined-requires (λ c. search needs) returns-2)
+start-spec = tie.close (tie.spec (λ c κs. search needs) (λ c κs. search needs)
+    (λ c. search needs) returns (λ c κs. search needs) start-examined-requires (λ c. search needs) returns-2)

@@ -5,12 +5,6 @@ use borrow.Author.Needs.{needs}
 use Rattle.numbers.proofs.add_held.Statement.{statement}
 use Rattle.numbers.proofs.add_held.Tie as tie
 
-sum-requires : tie.Need-sum-requires
-sum-requires c κs = search needs
-
-hold-requires : tie.Need-hold-requires
-hold-requires c κs = search needs
-
 returns : tie.Need-returns
 returns c =
     let a = c .before .before in
@@ -26,4 +20,4 @@ returns c =
     )
 
 pub add-held-spec : {M : Type 1} → statement M
-add-held-spec = tie.close (tie.spec sum-requires hold-requires returns)
+add-held-spec = tie.close (tie.spec (λ c κs. search needs) (λ c κs. search needs) returns)

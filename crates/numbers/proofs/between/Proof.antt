@@ -11,7 +11,8 @@ use Rattle.numbers.proofs.between.Tie as tie
 use Rattle.numbers.proofs.Ranges.{not-le-of-lt, le-of-not-lt}
 
 -- the test, of the numbers themselves
-below : (c : tie.Start) {b : Bool} → ltZ (toZ w32 (ofZ w32 (c .args .x))) (toZ w32 (ofZ w32 (c .args .low))) ≡ b → ltZ (c .args .x) (c .args .low) ≡ b
+below : (c : tie.Start) {b : Bool} → ltZ (toZ w32 (ofZ w32 (c .args .x))) (toZ w32 (ofZ w32 (c .args .low))) ≡ b
+    → ltZ (c .args .x) (c .args .low) ≡ b
 below c t = rw (toZ-ofZ (c .fits .x), toZ-ofZ (c .fits .low)) at t
 
 returns : tie.Need-returns

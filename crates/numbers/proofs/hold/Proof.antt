@@ -11,31 +11,39 @@ use mir.Facts.{toZ-ofZ}
 use mir.Syntax.{w32, w64}
 use mir.Val.{SFits, toZ, ofZ}
 
-wide-requires : tie.Need-wide-requires
-wide-requires c κs = search needs
-
 -- the tests, of the numbers themselves
 below : (c : tie.After-wide) {b : Bool}
     → ltZ (toZ w64 (ofZ w64 (c .before .args .value))) (toZ w64 (ofZ w64 (c .wide .result))) ≡ b
     → ltZ (c .before .args .value) (c .before .args .low) ≡ b
-below c t = rw (toZ-ofZ (c .before .fits .value), back64 (c .wide .result) (c .wide .ok), c .wide .ensures, toZ-ofZ (c .before .fits .low)) at t
+below c t = rw (
+  toZ-ofZ (c .before .fits .value),
+  back64 (c .wide .result) (c .wide .ok),
+  c .wide .ensures,
+  toZ-ofZ (c .before .fits .low),
+) at t
 
 above : (c : tie.After-wide2) {b : Bool}
     → ltZ (toZ w64 (ofZ w64 (c .wide2 .result))) (toZ w64 (ofZ w64 (c .before .before .before .args .value))) ≡ b
     → ltZ (c .before .before .before .args .high) (c .before .before .before .args .value) ≡ b
-above c t = rw (toZ-ofZ (c .before .before .before .fits .value), back64 (c .wide2 .result) (c .wide2 .ok), c .wide2 .ensures, toZ-ofZ (c .before .before .before .fits .high)) at t
+above c t = rw (
+  toZ-ofZ (c .before .before .before .fits .value),
+  back64 (c .wide2 .result) (c .wide2 .ok),
+  c .wide2 .ensures,
+  toZ-ofZ (c .before .before .before .fits .high),
+) at t
 
 returns : tie.Need-returns
 unfolding holdZ
 returns c = rw (toZ-ofZ (c .before .before .fits .low), below (c .before) (c .if1 .taken))
 
-wide-requires-2 : tie.Need-wide-requires-2
-wide-requires-2 c κs = search needs
-
 returns-2 : tie.Need-returns-2
 unfolding holdZ
 returns-2 c =
-    rw (toZ-ofZ (c .before .before .before .before .fits .high), below (c .before .before .before) (c .before .before .if1 .left), above (c .before) (c .if2 .taken))
+    rw (
+      toZ-ofZ (c .before .before .before .before .fits .high),
+      below (c .before .before .before) (c .before .before .if1 .left),
+      above (c .before) (c .if2 .taken),
+    )
 
 -- between the ends, the value fits
 within : (c : tie.Else2) → SFits w32 (c .before .before .before .before .args .value)
@@ -49,7 +57,12 @@ cast-result c = rw (toZ-ofZ (c .before .before .before .before .fits .value)) (w
 returns-3 : tie.Need-returns-3
 unfolding holdZ
 returns-3 c =
-    rw (toZ-ofZ (c .before .before .before .before .fits .value), toZ-ofZ (within c), below (c .before .before .before) (c .before .before .if1 .left), above (c .before) (c .if2 .left))
+    rw (
+      toZ-ofZ (c .before .before .before .before .fits .value),
+      toZ-ofZ (within c),
+      below (c .before .before .before) (c .before .before .if1 .left),
+      above (c .before) (c .if2 .left),
+    )
 
 pub hold-spec : {M : Type 1} → statement M
-hold-spec = tie.close (tie.spec wide-requires returns wide-requires-2 returns-2 cast-result returns-3)
+hold-spec = tie.close (tie.spec (λ c κs. search needs) returns (λ c κs. search needs) returns-2 cast-result returns-3)

@@ -6,15 +6,9 @@ use Rattle.numbers.specs.Range.{inRange}
 use Rattle.numbers.proofs.in_range.Statement.{statement}
 use Rattle.numbers.proofs.in_range.Tie as tie
 
-sub-between : tie.Need-sub-between
-sub-between c = search needs
-
-between-requires : tie.Need-between-requires
-between-requires c κs = search needs
-
 returns : tie.Need-returns
 unfolding inRange
 returns c = c .between .ensures ∙ rw (toZ-ofZ (c .before .fits .x))
 
 pub in-range-spec : {M : Type 1} → statement M
-in-range-spec = tie.close (tie.spec sub-between between-requires returns)
+in-range-spec = tie.close (tie.spec (λ c. search needs) (λ c κs. search needs) returns)

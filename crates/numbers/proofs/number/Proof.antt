@@ -5,11 +5,8 @@ use borrow.Author.Needs.{needs}
 use Rattle.numbers.proofs.number.Statement.{statement}
 use Rattle.numbers.proofs.number.Tie as tie
 
-cast-result : tie.Need-cast-result
-cast-result c = search needs
-
 returns : tie.Need-returns
 returns c = toZ-pos w32 (c .pre)
 
 pub number-spec : {M : Type 1} → statement M
-number-spec = tie.close (tie.spec cast-result returns)
+number-spec = tie.close (tie.spec (λ c. search needs) returns)

@@ -6,12 +6,6 @@ use Rattle.numbers.proofs.sum.Tie as tie
 use Rattle.numbers.proofs.Laws.{fits-sum, back64}
 use mir.Facts.{toZ-ofZ}
 
-wide-requires : tie.Need-wide-requires
-wide-requires c κs = search needs
-
-wide-requires-2 : tie.Need-wide-requires-2
-wide-requires-2 c κs = search needs
-
 -- what each call gives is its argument
 first : (c : tie.After-wide2) → c .before .wide .result ≡ c .before .before .args .x
 first c = c .before .wide .ensures ∙ toZ-ofZ (c .before .before .fits .x)
@@ -30,4 +24,4 @@ returns c =
     (toZ-ofZ (fits-sum (c .before .before .fits .x) (c .before .before .fits .y)))
 
 pub sum-spec : {M : Type 1} → statement M
-sum-spec = tie.close (tie.spec wide-requires wide-requires-2 add-result returns)
+sum-spec = tie.close (tie.spec (λ c κs. search needs) (λ c κs. search needs) add-result returns)

@@ -40,6 +40,5 @@ returns-2 c =
     (c .known4 .ensures)
 
 pub meet-spec : {M : Type 1} → statement M
-meet-spec =
-    tie.close (tie.spec (λ c. search needs) known-requires (λ c. search needs) known-requires-2 returns (λ c. search needs)
-    known-requires-3 (λ c. search needs) known-requires-4 returns-2)
+meet-spec = tie.close (tie.spec (λ c. search needs) known-requires (λ c. search needs)
+    known-requires-2 returns (λ c. search needs) known-requires-3 (λ c. search needs) known-requires-4 returns-2)

@@ -42,8 +42,8 @@ names n j l h = (omega (arith, its-row n .whole, l), h)
 
 -- ---- IN, OUT
 
-index-requires : tie.Need-index-requires
-index-requires c κs =
+known-requires : tie.Need-known-requires
+known-requires c κs =
     let n = c .before in
     names n 1 (omega arith) (omega (arith, in-names (its-row n) (says n (c .match .keys1))))
 
@@ -51,10 +51,10 @@ mark-entered-requires : tie.Need-mark-entered-requires
 mark-entered-requires c κs =
     let m = c .before .before .before in
     let n = m .before in
-    (rw (c .before .before .index .ensures) (in-names (its-row n) (says n (m .match .keys1))), n .before .pre .2)
+    (rw (c .before .before .known .ensures) (in-names (its-row n) (says n (m .match .keys1))), n .before .pre .2)
 
-index-requires-2 : tie.Need-index-requires-2
-index-requires-2 c κs =
+known-requires-2 : tie.Need-known-requires-2
+known-requires-2 c κs =
     let m = c .before .before in
     let n = m .before in
     names n 1 (omega arith) (omega (arith, out-names (its-row n) (says n (m .match .keys2)) .0))
@@ -67,7 +67,7 @@ mark-left-requires c κs =
     let r = i .before .before .read in
     let o = out-names (its-row n) (says n (m .match .keys2)) in (
       subst (Below STATES) (sym (said-of placeOf (r .ok) (r .ensures) (i .before .place-of .ensures))) (o .1),
-      rw (i .index2 .ensures) (o .0),
+      rw (i .known2 .ensures) (o .0),
       n .before .pre .2,
     )
 
@@ -77,7 +77,7 @@ returns c =
     let m = i .before in
     let n = m .before in
     let a = n .before .args in
-    enters (c .onward .ensures) (is-in (its-row n) (i .index .ensures) (says n (m .match .keys1)))
+    enters (c .onward .ensures) (is-in (its-row n) (i .known .ensures) (says n (m .match .keys1)))
     (c .before .before .mark-entered .ensures .1
     (all-lent (a .active .now) (a .slots .now) (a .vars .now) (a .queue .now) (a .trace .now))) refl
 
@@ -89,7 +89,7 @@ returns-2 c =
     let a = n .before .args in
     let r = i .before .before .read in
     leaves (c .onward2 .ensures)
-    (is-out (its-row n) (i .index2 .ensures) (says n (m .match .keys2))
+    (is-out (its-row n) (i .known2 .ensures) (says n (m .match .keys2))
     (said-of placeOf (r .ok) (r .ensures) (i .before .place-of .ensures)))
     (c .before .before .mark-left .ensures .1
     (all-lent (a .active .now) (a .slots .now) (a .vars .now) (a .queue .now) (a .trace .now)))
@@ -97,8 +97,8 @@ returns-2 c =
 
 -- ---- SKIPOUT, SKIPEMPTY, SKIPFULL, SKIPNOT
 
-index-requires-3 : tie.Need-index-requires-3
-index-requires-3 c κs =
+known-requires-3 : tie.Need-known-requires-3
+known-requires-3 c κs =
     let m = c .before in
     let n = m .before in
     names n 1 (omega arith) (omega (arith, skip-out-names (its-row n) (says n (m .match .keys3)) .0))
@@ -107,7 +107,7 @@ is-active-requires : tie.Need-is-active-requires
 is-active-requires c κs =
     let m = c .before .before in
     let n = m .before in
-    rw (c .index3 .ensures) (skip-out-names (its-row n) (says n (m .match .keys3)) .0)
+    rw (c .known3 .ensures) (skip-out-names (its-row n) (says n (m .match .keys3)) .0)
 
 unless-requires : tie.Need-unless-requires
 unless-requires c κs =
@@ -115,8 +115,8 @@ unless-requires c κs =
     let n = m .before in
     names n 2 (omega arith) (omega (arith, skip-out-names (its-row n) (says n (m .match .keys3)) .1))
 
-index-requires-4 : tie.Need-index-requires-4
-index-requires-4 c κs =
+known-requires-4 : tie.Need-known-requires-4
+known-requires-4 c κs =
     let m = c .before in
     let n = m .before in
     names n 1 (omega arith) (omega (arith, skip-empty-names (its-row n) (says n (m .match .keys4)) .0))
@@ -125,7 +125,7 @@ slot-requires : tie.Need-slot-requires
 slot-requires c κs =
     let m = c .before .before in
     let n = m .before in
-    rw (c .index4 .ensures) (skip-empty-names (its-row n) (says n (m .match .keys4)) .0)
+    rw (c .known4 .ensures) (skip-empty-names (its-row n) (says n (m .match .keys4)) .0)
 
 unless-requires-2 : tie.Need-unless-requires-2
 unless-requires-2 c κs =
@@ -133,8 +133,8 @@ unless-requires-2 c κs =
     let n = m .before in
     names n 2 (omega arith) (omega (arith, skip-empty-names (its-row n) (says n (m .match .keys4)) .1))
 
-index-requires-5 : tie.Need-index-requires-5
-index-requires-5 c κs =
+known-requires-5 : tie.Need-known-requires-5
+known-requires-5 c κs =
     let m = c .before in
     let n = m .before in
     names n 1 (omega arith) (omega (arith, skip-full-names (its-row n) (says n (m .match .keys5)) .0))
@@ -143,7 +143,7 @@ slot-requires-2 : tie.Need-slot-requires-2
 slot-requires-2 c κs =
     let m = c .before .before in
     let n = m .before in
-    rw (c .index5 .ensures) (skip-full-names (its-row n) (says n (m .match .keys5)) .0)
+    rw (c .known5 .ensures) (skip-full-names (its-row n) (says n (m .match .keys5)) .0)
 
 unless-requires-3 : tie.Need-unless-requires-3
 unless-requires-3 c κs =
@@ -151,8 +151,8 @@ unless-requires-3 c κs =
     let n = m .before in
     names n 2 (omega arith) (omega (arith, skip-full-names (its-row n) (says n (m .match .keys5)) .1))
 
-index-requires-6 : tie.Need-index-requires-6
-index-requires-6 c κs =
+known-requires-6 : tie.Need-known-requires-6
+known-requires-6 c κs =
     let m = c .before in
     let n = m .before in
     names n 1 (omega arith) (omega (arith, skip-not-names (its-row n) (says n (m .match .keys6)) .0))
@@ -161,10 +161,10 @@ slot-requires-3 : tie.Need-slot-requires-3
 slot-requires-3 c κs =
     let m = c .before .before in
     let n = m .before in
-    rw (c .index6 .ensures) (skip-not-names (its-row n) (says n (m .match .keys6)) .0)
+    rw (c .known6 .ensures) (skip-not-names (its-row n) (says n (m .match .keys6)) .0)
 
-index-requires-7 : tie.Need-index-requires-7
-index-requires-7 c κs =
+known-requires-7 : tie.Need-known-requires-7
+known-requires-7 c κs =
     let m = c .before .before .before in
     let n = m .before in
     names n 2 (omega arith) (omega (arith, skip-not-names (its-row n) (says n (m .match .keys6)) .1))
@@ -182,7 +182,7 @@ returns-3 c =
     let n = m .before in
     let e = says n (m .match .keys3) in
     skips-out (c .unless .ensures) (n .before .pre .2) (skip-out-names (its-row n) e .1)
-    (is-skip-out (its-row n) (i .index3 .ensures) e) (c .before .is-active .ensures)
+    (is-skip-out (its-row n) (i .known3 .ensures) e) (c .before .is-active .ensures)
 
 returns-4 : tie.Need-returns-4
 returns-4 c =
@@ -192,8 +192,8 @@ returns-4 c =
     let e = says n (m .match .keys4) in
     let s = c .before .before .slot in
     let k = skip-empty-names (its-row n) e in
-    skips-empty (c .unless2 .ensures) (n .before .pre .2) (k .1) (is-skip-empty (its-row n) (i .index4 .ensures) e)
-    (rw (i .index4 .ensures) (k .0)) (n .before .pre .1)
+    skips-empty (c .unless2 .ensures) (n .before .pre .2) (k .1) (is-skip-empty (its-row n) (i .known4 .ensures) e)
+    (rw (i .known4 .ensures) (k .0)) (n .before .pre .1)
     (said-of (λ z. is-filled (placeOf z)) (s .ok) (s .ensures) (c .before .filled .ensures))
 
 returns-5 : tie.Need-returns-5
@@ -204,8 +204,8 @@ returns-5 c =
     let e = says n (m .match .keys5) in
     let s = c .before .before .slot2 in
     let k = skip-full-names (its-row n) e in
-    skips-full (c .unless3 .ensures) (n .before .pre .2) (k .1) (is-skip-full (its-row n) (i .index5 .ensures) e)
-    (rw (i .index5 .ensures) (k .0)) (n .before .pre .1) refl
+    skips-full (c .unless3 .ensures) (n .before .pre .2) (k .1) (is-skip-full (its-row n) (i .known5 .ensures) e)
+    (rw (i .known5 .ensures) (k .0)) (n .before .pre .1) refl
     (said-of (λ z. is-filled (placeOf z)) (s .ok) (s .ensures) (c .before .filled2 .ensures))
 
 returns-6 : tie.Need-returns-6
@@ -218,8 +218,8 @@ returns-6 c =
     let s = d .before .slot3 in
     let k = skip-not-names (its-row n) e in
     skips-not (c .unless4 .ensures) (n .before .pre .2) (k .2)
-    (is-skip-not (its-row n) (i .index6 .ensures) e (d .index7 .ensures)) (rw (i .index6 .ensures) (k .0)) (n .before .pre .1)
-    (said-of (λ z. holds-it (d .index7 .result) (placeOf z)) (s .ok) (s .ensures) (c .before .holds .ensures))
+    (is-skip-not (its-row n) (i .known6 .ensures) e (d .known7 .ensures)) (rw (i .known6 .ensures) (k .0)) (n .before .pre .1)
+    (said-of (λ z. holds-it (d .known7 .result) (placeOf z)) (s .ok) (s .ensures) (c .before .holds .ensures))
 
 -- ---- SET, ADD, TAKE, SEND, TELL
 
@@ -229,41 +229,41 @@ varied : (n : tie.After-named)
     → Names (n .before .args .plan .now) (n .before .args .row + 1)
 varied n v = names n 1 (omega arith) (omega (arith, sized (n .before .args .plan .now) .vars, v .1))
 
-index-requires-8 : tie.Need-index-requires-8
-index-requires-8 c κs = let n = c .before in varied n (set-names (its-row n) (says n (c .match .keys7)))
+known-requires-8 : tie.Need-known-requires-8
+known-requires-8 c κs = let n = c .before in varied n (set-names (its-row n) (says n (c .match .keys7)))
 
 set-requires : tie.Need-set-requires
 set-requires c κs =
     let i = c .before .before .before in
     let n = i .before .before in
-    (rw (i .index8 .ensures) (set-names (its-row n) (says n (i .before .match .keys7))), n .before .pre .2)
+    (rw (i .known8 .ensures) (set-names (its-row n) (says n (i .before .match .keys7))), n .before .pre .2)
 
-index-requires-9 : tie.Need-index-requires-9
-index-requires-9 c κs = let n = c .before in varied n (add-names (its-row n) (says n (c .match .keys8)))
+known-requires-9 : tie.Need-known-requires-9
+known-requires-9 c κs = let n = c .before in varied n (add-names (its-row n) (says n (c .match .keys8)))
 
 add-to-requires : tie.Need-add-to-requires
 add-to-requires c κs =
     let i = c .before .before .before in
     let n = i .before .before in
-    (rw (i .index9 .ensures) (add-names (its-row n) (says n (i .before .match .keys8))), n .before .pre .2)
+    (rw (i .known9 .ensures) (add-names (its-row n) (says n (i .before .match .keys8))), n .before .pre .2)
 
-index-requires-10 : tie.Need-index-requires-10
-index-requires-10 c κs = let n = c .before in varied n (take-names (its-row n) (says n (c .match .keys9)))
+known-requires-10 : tie.Need-known-requires-10
+known-requires-10 c κs = let n = c .before in varied n (take-names (its-row n) (says n (c .match .keys9)))
 
 set-requires-2 : tie.Need-set-requires-2
 set-requires-2 c κs =
     let i = c .before .before in
     let n = i .before .before in
-    (rw (i .index10 .ensures) (take-names (its-row n) (says n (i .before .match .keys9))), n .before .pre .2)
+    (rw (i .known10 .ensures) (take-names (its-row n) (says n (i .before .match .keys9))), n .before .pre .2)
 
-index-requires-11 : tie.Need-index-requires-11
-index-requires-11 c κs = let n = c .before in names n 1 (omega arith) (send-names (its-row n) (says n (c .match .keys10)))
+known-requires-11 : tie.Need-known-requires-11
+known-requires-11 c κs = let n = c .before in names n 1 (omega arith) (send-names (its-row n) (says n (c .match .keys10)))
 
 send-requires : tie.Need-send-requires
 send-requires c κs =
     let i = c .before .before .before in
     let n = i .before .before in
-    (rw (i .index11 .ensures) (send-names (its-row n) (says n (i .before .match .keys10))), n .before .pre .2)
+    (rw (i .known11 .ensures) (send-names (its-row n) (says n (i .before .match .keys10))), n .before .pre .2)
 
 returns-7 : tie.Need-returns-7
 returns-7 c =
@@ -271,8 +271,8 @@ returns-7 c =
     let i = r .before in
     let n = i .before .before in
     let a = n .before .args in
-    sets (c .onward3 .ensures) (i .index8 .result) (r .read2 .result)
-    (is-set (its-row n) (i .index8 .ensures) (says n (i .before .match .keys7)) (r .read2 .ensures))
+    sets (c .onward3 .ensures) (i .known8 .result) (r .read2 .result)
+    (is-set (its-row n) (i .known8 .ensures) (says n (i .before .match .keys7)) (r .read2 .ensures))
     (rw (back32 (r .read2 .result) (r .read2 .ok)) at
     (c .before .before .set .ensures .1
     (all-lent (a .active .now) (a .slots .now) (a .vars .now) (a .queue .now) (a .trace .now)))) refl
@@ -283,8 +283,8 @@ returns-8 c =
     let i = r .before in
     let n = i .before .before in
     let a = n .before .args in
-    adds (c .onward4 .ensures) (i .index9 .result) (r .read3 .result)
-    (is-add (its-row n) (i .index9 .ensures) (says n (i .before .match .keys8)) (r .read3 .ensures))
+    adds (c .onward4 .ensures) (i .known9 .result) (r .read3 .result)
+    (is-add (its-row n) (i .known9 .ensures) (says n (i .before .match .keys8)) (r .read3 .ensures))
     (rw (back32 (r .read3 .result) (r .read3 .ok)) at
     (c .before .before .add-to .ensures .1
     (all-lent (a .active .now) (a .slots .now) (a .vars .now) (a .queue .now) (a .trace .now)))) refl
@@ -294,7 +294,7 @@ returns-9 c =
     let i = c .before .before .before .before .before in
     let n = i .before .before in
     let a = n .before .args in
-    takes (c .onward5 .ensures) (i .index10 .result) (is-take (its-row n) (i .index10 .ensures) (says n (i .before .match .keys9)))
+    takes (c .onward5 .ensures) (i .known10 .result) (is-take (its-row n) (i .known10 .ensures) (says n (i .before .match .keys9)))
     (rw (toZ-ofZ (n .before .fits .arg)) at
     (c .before .before .set2 .ensures .1
     (all-lent (a .active .now) (a .slots .now) (a .vars .now) (a .queue .now) (a .trace .now)))) refl
@@ -305,8 +305,8 @@ returns-10 c =
     let i = r .before in
     let n = i .before .before in
     let a = n .before .args in
-    sends (c .onward6 .ensures) (i .index11 .result) (r .read4 .result)
-    (is-send (its-row n) (i .index11 .ensures) (says n (i .before .match .keys10)) (r .read4 .ensures))
+    sends (c .onward6 .ensures) (i .known11 .result) (r .read4 .result)
+    (is-send (its-row n) (i .known11 .ensures) (says n (i .before .match .keys10)) (r .read4 .ensures))
     (rw (back32 (r .read4 .result) (r .read4 .ok)) at
     (c .before .before .send .ensures .1
     (all-lent (a .active .now) (a .slots .now) (a .vars .now) (a .queue .now) (a .trace .now)))) refl
@@ -326,16 +326,13 @@ returns-11 c =
     (all-lent (a .active .now) (a .slots .now) (a .vars .now) (a .queue .now) (a .trace .now)))) refl
 
 pub exec-spec : {M : Type 1} → statement M
-exec-spec =
-    tie.close (tie.spec (λ c. search needs) (λ c κs. search needs) (λ c. search needs) (λ c. search needs)
-    index-requires mark-entered-requires (λ c κs. search needs) (λ c κs. search needs) (λ c κs. search needs)
-    index-requires-2 mark-left-requires (λ c κs. search needs) index-requires-3 is-active-requires unless-requires
-    index-requires-4 slot-requires (λ c κs. search needs) unless-requires-2 index-requires-5 slot-requires-2
-    (λ c κs. search needs) unless-requires-3 index-requires-6 slot-requires-3 index-requires-7
-    (λ c κs. search needs) (λ c. search needs) unless-requires-4 index-requires-8 (λ c κs. search needs)
-    set-requires (λ c κs. search needs) index-requires-9 (λ c κs. search needs) add-to-requires
-    (λ c κs. search needs) index-requires-10 set-requires-2 (λ c κs. search needs) index-requires-11
-    (λ c κs. search needs) send-requires (λ c κs. search needs) (λ c κs. search needs) (λ c κs. search needs)
-    (λ c κs. search needs) (λ c. search needs) returns (λ c. search needs) returns-2 returns-3 returns-4 returns-5
-    returns-6 (λ c. search needs) returns-7 (λ c. search needs) returns-8 (λ c. search needs) returns-9
-    (λ c. search needs) returns-10 (λ c. search needs) returns-11)
+exec-spec = tie.close (tie.spec (λ c. search needs) (λ c κs. search needs) (λ c. search needs) (λ c. search needs)
+    known-requires mark-entered-requires (λ c κs. search needs) (λ c κs. search needs) (λ c κs. search needs) known-requires-2
+    mark-left-requires (λ c κs. search needs) known-requires-3 is-active-requires unless-requires known-requires-4 slot-requires
+    (λ c κs. search needs) unless-requires-2 known-requires-5 slot-requires-2 (λ c κs. search needs) unless-requires-3
+    known-requires-6 slot-requires-3 known-requires-7 (λ c κs. search needs) (λ c. search needs) unless-requires-4 known-requires-8
+    (λ c κs. search needs) set-requires (λ c κs. search needs) known-requires-9 (λ c κs. search needs) add-to-requires
+    (λ c κs. search needs) known-requires-10 set-requires-2 (λ c κs. search needs) known-requires-11 (λ c κs. search needs)
+    send-requires (λ c κs. search needs) (λ c κs. search needs) (λ c κs. search needs) (λ c κs. search needs) (λ c. search needs)
+    returns (λ c. search needs) returns-2 returns-3 returns-4 returns-5 returns-6 (λ c. search needs) returns-7
+    (λ c. search needs) returns-8 (λ c. search needs) returns-9 (λ c. search needs) returns-10 (λ c. search needs) returns-11)

@@ -19,5 +19,4 @@ returns-2 c =
     c .enum-told2 .given .1)
 
 pub filled-spec : {M : Type 1} → statement M
-filled-spec =
-    tie.close (tie.spec (λ c κs. search needs) (λ c. search needs) (λ c. search needs) returns returns-2)
+filled-spec = tie.close (tie.spec (λ c κs. search needs) (λ c. search needs) (λ c. search needs) returns returns-2)

@@ -18,5 +18,4 @@ returns-2 c =
     (c .before .before .before .place-of .ensures)) ∙ c .before .s .given .1)
 
 pub holds-spec : {M : Type 1} → statement M
-holds-spec =
-    tie.close (tie.spec (λ c κs. search needs) (λ c. search needs) (λ c. search needs) returns returns-2)
+holds-spec = tie.close (tie.spec (λ c κs. search needs) (λ c. search needs) (λ c. search needs) returns returns-2)

@@ -65,17 +65,17 @@ asks x = skip-out-names (its-row (in-loop x)) (code x) .0
 over : (x : Skips) → ref (nth x 2) ≤ INSTRUCTIONS
 over x = skip-out-names (its-row (in-loop x)) (code x) .1
 
-index-requires : tie.Need-index-requires Inv-loop μ-loop
-index-requires c κs = (omega (arith, its-row (in-loop c) .whole), omega (arith, asks c))
+known-requires : tie.Need-known-requires Inv-loop μ-loop
+known-requires c κs = (omega (arith, its-row (in-loop c) .whole), omega (arith, asks c))
 
 element-copy-out-if2 : tie.Need-element-copy-out-if2 Inv-loop μ-loop
-element-copy-out-if2 c = omega (arith, asks (c .before), c .index .ensures)
+element-copy-out-if2 c = omega (arith, asks (c .before), c .known .ensures)
 
 -- its row says so
-says : (x : tie.After-index Inv-loop μ-loop)
+says : (x : tie.After-known Inv-loop μ-loop)
     → instr-from (at-start (in-loop (x .before)) .args .plan .now) (in-loop (x .before) .before .loop .row)
-    ≡ skip-out (x .index .result) (ref (nth (x .before) 2))
-says x = is-skip-out (its-row (in-loop (x .before))) (x .index .ensures) (code (x .before))
+    ≡ skip-out (x .known .result) (ref (nth (x .before) 2))
+says x = is-skip-out (its-row (in-loop (x .before))) (x .known .ensures) (code (x .before))
 
 returns-2 : tie.Need-returns-2 Inv-loop μ-loop
 returns-2 c =
@@ -83,14 +83,14 @@ returns-2 c =
     let i = in-loop (x .before) in
     passed-active (at-start i .pre) (i .before .loop .inv) (i .loop-test .taken) (says x) (c .if2 .taken)
 
-index-requires-2 : tie.Need-index-requires-2 Inv-loop μ-loop
-index-requires-2 c κs =
+known-requires-2 : tie.Need-known-requires-2 Inv-loop μ-loop
+known-requires-2 c κs =
     let x = c .before .before .before in
     (omega (arith, its-row (in-loop x) .whole), omega (arith, over x))
 
 -- it passes over no more than a plan has
-near : (x : tie.After-index2 Inv-loop μ-loop) → x .index2 .result ≤ INSTRUCTIONS
-near x = omega (arith, over (x .before .before .before .before), x .index2 .ensures)
+near : (x : tie.After-known2 Inv-loop μ-loop) → x .known2 .result ≤ INSTRUCTIONS
+near x = omega (arith, over (x .before .before .before .before), x .known2 .ensures)
 
 add-row : tie.Need-add-row Inv-loop μ-loop
 add-row c = omega (arith, near c)
@@ -99,7 +99,7 @@ mul-row : tie.Need-mul-row Inv-loop μ-loop
 mul-row c = omega (arith, near c)
 
 add-row-2 : tie.Need-add-row-2 Inv-loop μ-loop
-add-row-2 c = further (in-loop (c .before .before .before .before)) (c .index2 .result) (near c)
+add-row-2 c = further (in-loop (c .before .before .before .before)) (c .known2 .result) (near c)
 
 loop-less : tie.Need-loop-less Inv-loop μ-loop
 loop-less c = omega (arith, in-loop (c .before .before .before .before) .loop-test .taken)
@@ -108,12 +108,11 @@ loop-again : tie.Need-loop-again Inv-loop μ-loop
 loop-again c =
     let x = c .before .before .before in
     let i = in-loop (x .before) in
-    passed-idle (at-start i .pre) (i .before .loop .inv) (i .loop-test .taken) (says x) (c .index2 .ensures) (c .before .if2 .left)
+    passed-idle (at-start i .pre) (i .before .loop .inv) (i .loop-test .taken) (says x) (c .known2 .ensures) (c .before .if2 .left)
 
 pub pass-skips-spec : {M : Type 1} → statement M
-pass-skips-spec =
-    tie.close (tie.spec Inv-loop μ-loop (λ c. passed-begin) (λ c. omega (arith, further c 0 (omega arith))) read-requires returns
-    (λ c. omega (arith, further (in-loop c) 0 (omega arith))) index-requires element-copy-out-if2
-    (λ c. further (in-loop (c .before .before .before)) 0 (omega arith)) returns-2
-    (λ c. omega (arith, further (in-loop (c .before .before .before)) 0 (omega arith))) index-requires-2
-    add-row mul-row add-row-2 loop-less loop-again (λ c. c .before .loop .inv))
+pass-skips-spec = tie.close (tie.spec Inv-loop μ-loop (λ c. passed-begin) (λ c. omega (arith, further c 0 (omega arith)))
+    read-requires returns (λ c. omega (arith, further (in-loop c) 0 (omega arith)))
+    known-requires element-copy-out-if2 (λ c. further (in-loop (c .before .before .before)) 0 (omega arith))
+    returns-2 (λ c. omega (arith, further (in-loop (c .before .before .before)) 0 (omega arith)))
+    known-requires-2 add-row mul-row add-row-2 loop-less loop-again (λ c. c .before .loop .inv))

@@ -91,8 +91,7 @@ returns-6 c =
     (events-is (start-from-queue-fits c .pre)) (c .queue-fits .ensures)
 
 pub own-spec : {M : Type 1} → statement M
-own-spec =
-    tie.close (tie.spec (λ c. search needs) returns (λ c κs. search needs) returns-2
-    (λ c κs. c .before .before .before .before .before .pre) returns-3
-    (λ c κs. counts-sized (c .before .before .before .before .before .before .before .before .pre) .states)
+own-spec = tie.close (tie.spec (λ c. search needs)
+    returns (λ c κs. search needs) returns-2 (λ c κs. c .before .before .before .before .before .pre)
+    returns-3 (λ c κs. counts-sized (c .before .before .before .before .before .before .before .before .pre) .states)
     returns-4 (λ c κs. search needs) returns-5 (λ c κs. search needs) returns-6)

@@ -87,7 +87,5 @@ returns-2 c =
     (c .before .loop .inv .1) (omega (arith, taken (c .before .before), c .loop-test .left))
 
 pub slots-fit-spec : {M : Type 1} → statement M
-slots-fit-spec =
-    tie.close (tie.spec Inv-loop μ-loop (λ c. (omega arith, refl)) mul in-array (λ c κs. search needs) returns
-    (λ c. omega (arith, c .before .before .before .before .before .pre)) (λ c. omega arith) loop-again
-    returns-2)
+slots-fit-spec = tie.close (tie.spec Inv-loop μ-loop (λ c. (omega arith, refl)) mul in-array (λ c κs. search needs)
+    returns (λ c. omega (arith, c .before .before .before .before .before .pre)) (λ c. omega arith) loop-again returns-2)

@@ -41,5 +41,4 @@ returns-2 c =
     (plan-by (a .plan .now) .vars) (a .v) (a .x) (vars-many (start-from-same c .pre)) (c .before .if1 .left)
 
 pub value-fits-spec : {M : Type 1} → statement M
-value-fits-spec =
-    tie.close (tie.spec var-row-requires (λ c κs. search needs) returns (λ c κs. search needs) returns-2)
+value-fits-spec = tie.close (tie.spec var-row-requires (λ c κs. search needs) returns (λ c κs. search needs) returns-2)

@@ -63,6 +63,5 @@ returns-2 c =
     (omega (arith, vars-many (c .before .before .pre), counts-sized (c .before .before .pre) .vars))
 
 pub values-fit-spec : {M : Type 1} → statement M
-values-fit-spec =
-    tie.close (tie.spec Inv-loop μ-loop (λ c. (search needs, refl)) (λ c. search needs) (λ c. search needs)
-    value-fits-requires returns (λ c. search needs) (λ c. search needs) loop-again returns-2)
+values-fit-spec = tie.close (tie.spec Inv-loop μ-loop (λ c. (search needs, refl)) (λ c. search needs)
+    (λ c. search needs) value-fits-requires returns (λ c. search needs) (λ c. search needs) loop-again returns-2)

@@ -17,14 +17,5 @@ returns c =
     ∙ sym (guard-of (a .plan .now) (a .at))
 
 pub guard-at-spec : {M : Type 1} → statement M
-guard-at-spec =
-    tie.close
-    (tie.spec
-    (λ c. search needs)
-    (λ c κs. search needs)
-    (λ c. search needs)
-    (λ c κs. search needs)
-    (λ c. search needs)
-    (λ c κs. search needs)
-    (λ c κs. search needs)
-    returns)
+guard-at-spec = tie.close (tie.spec (λ c. search needs) (λ c κs. search needs)
+    (λ c. search needs) (λ c κs. search needs) (λ c. search needs) (λ c κs. search needs) (λ c κs. search needs) returns)

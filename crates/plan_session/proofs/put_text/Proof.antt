@@ -13,6 +13,5 @@ abbrev μ-loop : tie.MeasureT-loop
 μ-loop text out₀ at p₀ i₀ out p i = length text - i
 
 pub put-text-spec : {M : Type 1} → statement M
-put-text-spec =
-    tie.close (tie.spec Inv-loop μ-loop (λ c. search needs) (λ c. search needs) (λ c κs. search needs) (λ c. search needs)
-    (λ c. search needs) (λ c. search needs) (λ c. search needs) (λ c. search needs))
+put-text-spec = tie.close (tie.spec Inv-loop μ-loop (λ c. search needs) (λ c. search needs)
+    (λ c κs. search needs) (λ c. search needs) (λ c. search needs) (λ c. search needs) (λ c. search needs) (λ c. search needs))

@@ -131,7 +131,5 @@ returns-2 c =
     (rw (toZ-ofZ (start-from-trace2 c .fits .arg)) at (c .before .run-block .ensures)))
 
 pub fire-spec : {M : Type 1} → statement M
-fire-spec =
-    tie.close (tie.spec heads-at-requires mul-row add-row add-known known-requires mark-taken-requires
-    (λ c. search needs) returns add-known-2 known-requires-2 add-known-3 known-requires-3 run-block-requires
-    (λ c. search needs) returns-2)
+fire-spec = tie.close (tie.spec heads-at-requires mul-row add-row add-known known-requires mark-taken-requires (λ c. search needs)
+    returns add-known-2 known-requires-2 add-known-3 known-requires-3 run-block-requires (λ c. search needs) returns-2)

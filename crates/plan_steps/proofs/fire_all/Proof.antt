@@ -89,6 +89,5 @@ returns-2 c =
     (omega (arith, fires-long (a .plan .now) (heads-at (a .k)) (c .before .before .pre .1), c .loop-test .left)))
 
 pub fire-all-spec : {M : Type 1} → statement M
-fire-all-spec =
-    tie.close (tie.spec Inv-loop μ-loop loop-holds mul-h element-copy-out-h fire-requires (λ c. search needs)
-    returns (λ c. omega arith) (λ c. omega arith) loop-again (λ c. search needs) returns-2)
+fire-all-spec = tie.close (tie.spec Inv-loop μ-loop loop-holds mul-h element-copy-out-h
+    fire-requires (λ c. search needs) returns (λ c. omega arith) (λ c. omega arith) loop-again (λ c. search needs) returns-2)

@@ -98,6 +98,5 @@ returns-3 c =
     )
 
 pub settle-spec : {M : Type 1} → statement M
-settle-spec =
-    tie.close (tie.spec Inv-loop μ-loop loop-holds choose-requires fire-all-requires add-turns loop-less
-    loop-again (λ c. search needs) returns (λ c. search needs) returns-2 same-length-3 returns-3)
+settle-spec = tie.close (tie.spec Inv-loop μ-loop loop-holds choose-requires fire-all-requires
+    add-turns loop-less loop-again (λ c. search needs) returns (λ c. search needs) returns-2 same-length-3 returns-3)

@@ -11,17 +11,6 @@ slice-aggregate-examine c =
     sym (length-take-le (r .result) (r .last .1 .0) (r .ensures .0))
 
 pub report-spec : {M : Type 1} → statement M
-report-spec =
-    tie.close
-    (tie.spec
-    (λ c. search needs)
-    (λ c κs. search needs)
-    (λ c. search needs)
-    slice-aggregate-examine
-    (λ c κs. search needs)
-    (λ c. search needs)
-    (λ c κs. search needs)
-    (λ c κs. search needs)
-    (λ c. search needs)
-    (λ c κs. search needs)
-    (λ c. search needs))
+report-spec = tie.close (tie.spec (λ c. search needs)
+    (λ c κs. search needs) (λ c. search needs) slice-aggregate-examine (λ c κs. search needs) (λ c. search needs)
+    (λ c κs. search needs) (λ c κs. search needs) (λ c. search needs) (λ c κs. search needs) (λ c. search needs))

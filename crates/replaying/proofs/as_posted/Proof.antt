@@ -53,8 +53,7 @@ returns c =
     _ (c .before .before .before .append .ensures .2 (t .before .go-through .ensures .whole)) (c .before .told .ensures)
 
 pub as-posted-spec : {M : Type 1} → statement M
-as-posted-spec =
-    tie.close (tie.spec (λ c κs. search needs) go-through-requires (λ c. omega (arith, there (start-from-trace c)))
+as-posted-spec = tie.close (tie.spec (λ c κs. search needs) go-through-requires (λ c. omega (arith, there (start-from-trace c)))
     (λ c. omega (arith, there (start-from-trace c))) (λ c. omega (arith, there (start-from-trace c)))
     (λ c. omega (arith, there (start-from-trace (c .before)))) (λ c. omega (arith, there (start-from-trace (c .before))))
     (λ c. omega (arith, there (start-from-trace (c .before)))) (λ c. omega (arith, there (start-from-trace (c .before))))

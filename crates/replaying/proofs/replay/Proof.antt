@@ -41,6 +41,5 @@ replay-planned-requires c κs =
     passed (e .before .before .args .plan .now) (e .examine .ensures) (c .before .if2 .left)
 
 pub replay-spec : {M : Type 1} → statement M
-replay-spec =
-    tie.close (tie.spec (λ c κs. search needs) (λ c. search needs) returns (λ c κs. search needs) (λ c κs. search needs)
-    (λ c. search needs) returns-2 replay-planned-requires (λ c. search needs) (λ c. search needs))
+replay-spec = tie.close (tie.spec (λ c κs. search needs) (λ c. search needs) returns (λ c κs. search needs)
+    (λ c κs. search needs) (λ c. search needs) returns-2 replay-planned-requires (λ c. search needs) (λ c. search needs))

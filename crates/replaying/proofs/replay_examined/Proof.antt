@@ -91,12 +91,12 @@ returns-4 c =
     let g = c .before .before .before .before .before in
     let e = else2-from-call (g .before) in
     let s = start-from-else2 e in
-    ended-told (ready e) (sized-of s) (g .before .before .before .before .before .before .before .before .lend .ensures) (s .args .trace .now)
+    ended-told (ready e) (sized-of s) (g .before .before .before .before .before .before .before .before .lend .ensures)
+    (s .args .trace .now)
     (all-there s)
     (g .go-through .ensures) (c .before .before .before .if3 .left) (c .before .told .ensures)
 
 pub replay-examined-spec : {M : Type 1} → statement M
-replay-examined-spec =
-    tie.close (tie.spec (λ c κs. search needs) (λ c. search needs) returns (λ c κs. search needs) (λ c κs. search needs)
-    (λ c. search needs) returns-2 (λ c κs. search needs) (λ c κs. search needs) go-through-requires as-posted-requires (λ c. search needs)
-    returns-3 (λ c κs. search needs) (λ c. search needs) returns-4)
+replay-examined-spec = tie.close (tie.spec (λ c κs. search needs) (λ c. search needs) returns
+    (λ c κs. search needs) (λ c κs. search needs) (λ c. search needs) returns-2 (λ c κs. search needs) (λ c κs. search needs)
+    go-through-requires as-posted-requires (λ c. search needs) returns-3 (λ c κs. search needs) (λ c. search needs) returns-4)

@@ -38,6 +38,5 @@ returns-2 c =
     (s .pre)) refl (c .before .replay-examined .ensures)
 
 pub replay-planned-spec : {M : Type 1} → statement M
-replay-planned-spec =
-    tie.close (tie.spec (λ c κs. search needs) (λ c. search needs) returns (λ c κs. search needs) replay-examined-requires
-    (λ c. search needs) returns-2)
+replay-planned-spec = tie.close (tie.spec (λ c κs. search needs)
+    (λ c. search needs) returns (λ c κs. search needs) replay-examined-requires (λ c. search needs) returns-2)

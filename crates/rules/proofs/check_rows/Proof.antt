@@ -19,28 +19,20 @@ Inv-loop chart rule₀ rule = (1 ≤ rule) × (first-failing rule (drop rule (tr
 abbrev μ-loop : tie.MeasureT-loop
 μ-loop chart rule₀ rule = 7 + 1 - rule
 
+abbrev at-loop-from-fails : tie.After-fails Inv-loop μ-loop → tie.At-loop Inv-loop μ-loop
+at-loop-from-fails c = c .before .before .before .before
+
 loop-holds : tie.Need-loop-holds Inv-loop μ-loop
 unfolding failing-rule
 loop-holds c = (omega arith, refl)
 
-holds-requires : tie.Need-holds-requires Inv-loop μ-loop
-holds-requires c κs = search needs
-
-fails-requires : tie.Need-fails-requires Inv-loop μ-loop
-fails-requires c κs = search needs
-
 returns : tie.Need-returns Inv-loop μ-loop
 unfolding verdict
 returns c =
-    let k = chart-of (c .before .before .before .before .before .args .chart .now) in
-    let w = c .before .before .before .before .loop in
-    c .fails .ensures ∙ ap verdict (rule-fails (true ∷ rules-of k) (w .rule) (omega arith) (refuted (c .before .before .holds .ensures) (c .before .if1 .taken)) (w .inv .1))
-
-add-rule : tie.Need-add-rule Inv-loop μ-loop
-add-rule c = omega arith
-
-loop-less : tie.Need-loop-less Inv-loop μ-loop
-loop-less c = omega arith
+    let k = chart-of (at-loop-from-fails c .before .args .chart .now) in
+    let w = at-loop-from-fails c .loop in
+    c .fails .ensures ∙ ap verdict (rule-fails (true ∷ rules-of k)
+    (w .rule) (omega arith) (refuted (c .before .before .holds .ensures) (c .before .if1 .taken)) (w .inv .1))
 
 loop-again : tie.Need-loop-again Inv-loop μ-loop
 loop-again c =
@@ -56,16 +48,5 @@ returns-2 c =
     ap verdict (rules-kept (true ∷ rules-of k) (w .rule) (omega arith) (w .inv .1))
 
 pub check-rows-spec : {M : Type 1} → statement M
-check-rows-spec =
-    tie.close
-    (tie.spec
-    Inv-loop
-    μ-loop
-    loop-holds
-    holds-requires
-    fails-requires
-    returns
-    add-rule
-    loop-less
-    loop-again
-    returns-2)
+check-rows-spec = tie.close (tie.spec Inv-loop μ-loop
+    loop-holds (λ c κs. search needs) (λ c κs. search needs) returns (λ c. omega arith) (λ c. omega arith) loop-again returns-2)

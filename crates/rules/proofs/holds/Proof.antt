@@ -7,27 +7,6 @@ use borrow.Author.Needs.{needs}
 use Rattle.rules.proofs.holds.Statement.{statement}
 use Rattle.rules.proofs.holds.Tie as tie
 
-rule-1-requires : tie.Need-rule-1-requires
-rule-1-requires c κs = search needs
-
-rule-2-requires : tie.Need-rule-2-requires
-rule-2-requires c κs = search needs
-
-rule-3-requires : tie.Need-rule-3-requires
-rule-3-requires c κs = search needs
-
-rule-4-requires : tie.Need-rule-4-requires
-rule-4-requires c κs = search needs
-
-rule-5-requires : tie.Need-rule-5-requires
-rule-5-requires c κs = search needs
-
-rule-6-requires : tie.Need-rule-6-requires
-rule-6-requires c κs = search needs
-
-rule-7-requires : tie.Need-rule-7-requires
-rule-7-requires c κs = search needs
-
 returns : tie.Need-returns
 returns c = rw (c .before .match .keys1) (c .rule-1 .ensures)
 
@@ -53,24 +32,10 @@ returns-8 : tie.Need-returns-8
 returns-8 c =
     let k = chart-of (c .before .args .chart .now) in
     let r = c .match .rest in
-    no-rule (rule-1 k) (rule-2 k) (rule-3 k) (rule-4 k) (rule-5 k) (rule-6 k) (rule-7 k) (c .before .args .rule) (r .0 .0 .0 .0 .0 .0 .1) (r .0 .0 .0 .0 .0 .1) (r .0 .0 .0 .0 .1) (r .0 .0 .0 .1) (r .0 .0 .1) (r .0 .1) (r .1)
+    no-rule (rule-1 k) (rule-2 k) (rule-3 k) (rule-4 k) (rule-5 k) (rule-6 k) (rule-7 k) (c .before .args .rule)
+    (r .0 .0 .0 .0 .0 .0 .1) (r .0 .0 .0 .0 .0 .1) (r .0 .0 .0 .0 .1) (r .0 .0 .0 .1) (r .0 .0 .1) (r .0 .1) (r .1)
 
 pub holds-spec : {M : Type 1} → statement M
-holds-spec =
-    tie.close
-    (tie.spec
-    rule-1-requires
-    rule-2-requires
-    rule-3-requires
-    rule-4-requires
-    rule-5-requires
-    rule-6-requires
-    rule-7-requires
-    returns
-    returns-2
-    returns-3
-    returns-4
-    returns-5
-    returns-6
-    returns-7
-    returns-8)
+holds-spec = tie.close
+    (tie.spec (λ c κs. search needs) (λ c κs. search needs) (λ c κs. search needs) (λ c κs. search needs) (λ c κs. search needs)
+    (λ c κs. search needs) (λ c κs. search needs) returns returns-2 returns-3 returns-4 returns-5 returns-6 returns-7 returns-8)

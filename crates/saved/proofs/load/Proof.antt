@@ -67,8 +67,6 @@ returns-3 c =
     (c .load-queue .ensures)
 
 pub load-spec : {M : Type 1} → statement M
-load-spec =
-    tie.close (tie.spec (λ c κs. search needs) (λ c κs. search needs) returns (λ c. search needs)
-    (λ c κs. search needs) (λ c κs. search needs) returns-2 shared-slice-copy-out-same-2
-    (λ c κs. search needs) load-active-requires (λ c. search needs) copy-requires (λ c. search needs)
-    copy-requires-2 load-queue-requires returns-3)
+load-spec = tie.close (tie.spec (λ c κs. search needs) (λ c κs. search needs) returns (λ c. search needs)
+    (λ c κs. search needs) (λ c κs. search needs) returns-2 shared-slice-copy-out-same-2 (λ c κs. search needs)
+    load-active-requires (λ c. search needs) copy-requires (λ c. search needs) copy-requires-2 load-queue-requires returns-3)

@@ -39,6 +39,5 @@ returns c =
     active-all (k .args .numbers .now) (l .active) (l .i) (k .pre) (omega arith) (l .inv .1)
 
 pub load-active-spec : {M : Type 1} → statement M
-load-active-spec =
-    tie.close (tie.spec Inv-loop μ-loop loop-holds (λ c. search needs) (λ c. search needs) (λ c. search needs)
-    (λ c κs. search needs) (λ c. search needs) (λ c. search needs) (λ c. search needs) loop-again returns)
+load-active-spec = tie.close (tie.spec Inv-loop μ-loop loop-holds (λ c. search needs) (λ c. search needs)
+    (λ c. search needs) (λ c κs. search needs) (λ c. search needs) (λ c. search needs) (λ c. search needs) loop-again returns)

@@ -17,5 +17,4 @@ returns c =
     (c .before .before .before .copy .ensures))
 
 pub load-queue-spec : {M : Type 1} → statement M
-load-queue-spec =
-    tie.close (tie.spec (λ c. search needs) (λ c κs. search needs) (λ c κs. search needs) returns)
+load-queue-spec = tie.close (tie.spec (λ c. search needs) (λ c κs. search needs) (λ c κs. search needs) returns)

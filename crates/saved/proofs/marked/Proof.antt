@@ -35,6 +35,5 @@ returns c =
     rw e at (c .before .loop .inv .1)
 
 pub marked-spec : {M : Type 1} → statement M
-marked-spec =
-    tie.close (tie.spec Inv-loop μ-loop loop-holds (λ c. search needs) (λ c. search needs)
-    (λ c κs. search needs) (λ c. search needs) (λ c. search needs) loop-again returns)
+marked-spec = tie.close (tie.spec Inv-loop μ-loop loop-holds
+    (λ c. search needs) (λ c. search needs) (λ c κs. search needs) (λ c. search needs) (λ c. search needs) loop-again returns)

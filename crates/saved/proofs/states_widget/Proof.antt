@@ -25,6 +25,4 @@ returns-3 c =
     c .before .if2 .left) (c .marked .ensures)
 
 pub states-widget-spec : {M : Type 1} → statement M
-states-widget-spec =
-    tie.close
-    (tie.spec returns (λ c. search needs) (λ c κs. search needs) returns-2 (λ c κs. search needs) returns-3)
+states-widget-spec = tie.close (tie.spec returns (λ c. search needs) (λ c κs. search needs) returns-2 (λ c κs. search needs) returns-3)

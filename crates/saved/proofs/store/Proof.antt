@@ -83,7 +83,5 @@ returns-2 c =
     (copy2-from-numbers4 c .copy2 .ensures) (c .before .store-queue .ensures)
 
 pub store-spec : {M : Type 1} → statement M
-store-spec =
-    tie.close (tie.spec returns (λ c κs. search needs) (λ c. search needs) store-active-requires
-    (λ c. search needs) copy-requires (λ c. search needs) copy-requires-2 store-queue-requires same-length
-    returns-2)
+store-spec = tie.close (tie.spec returns (λ c κs. search needs) (λ c. search needs) store-active-requires
+    (λ c. search needs) copy-requires (λ c. search needs) copy-requires-2 store-queue-requires same-length returns-2)

@@ -43,7 +43,5 @@ returns c =
     paste-done (k .args .numbers .now) (map mark (k .args .t1)) (l .numbers) 1 (l .i) STATES (l .inv .1) (omega arith)
 
 pub store-active-spec : {M : Type 1} → statement M
-store-active-spec =
-    tie.close (tie.spec Inv-loop μ-loop loop-holds (λ c. search needs) (λ c κs. search needs)
-    (λ c. search needs) (λ c. search needs) (λ c. search needs) (λ c. search needs) (λ c. search needs)
-    loop-again (λ c. search needs) returns)
+store-active-spec = tie.close (tie.spec Inv-loop μ-loop loop-holds (λ c. search needs) (λ c κs. search needs) (λ c. search needs)
+    (λ c. search needs) (λ c. search needs) (λ c. search needs) (λ c. search needs) loop-again (λ c. search needs) returns)

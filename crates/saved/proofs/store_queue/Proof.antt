@@ -26,6 +26,5 @@ returns c =
     (back32 _ (small-from-numbers c .small .ok) ∙ small-from-numbers c .small .ensures)
 
 pub store-queue-spec : {M : Type 1} → statement M
-store-queue-spec =
-    tie.close (tie.spec (λ c κs. search needs) (λ c κs. search needs) (λ c. search needs)
-    (λ c κs. search needs) (λ c. search needs) (λ c. search needs) returns)
+store-queue-spec = tie.close (tie.spec (λ c κs. search needs)
+    (λ c κs. search needs) (λ c. search needs) (λ c κs. search needs) (λ c. search needs) (λ c. search needs) returns)

@@ -37,17 +37,5 @@ returns-2 c =
     open-started _ _ _ e m (j ∙ top .pre .0) (test .if1 .left) _ _ _ _ refl (c .before .before .before .before .started .ensures)
 
 pub begin-spec : {M : Type 1} → statement M
-begin-spec =
-    tie.close
-    (tie.spec
-    (λ c κs. search needs)
-    (λ c κs. search needs)
-    (λ c κs. search needs)
-    (λ c. search needs)
-    (λ c. search needs)
-    returns
-    started-requires
-    (λ c. search needs)
-    (λ c. search needs)
-    (λ c. search needs)
-    returns-2)
+begin-spec = tie.close (tie.spec (λ c κs. search needs) (λ c κs. search needs) (λ c κs. search needs) (λ c. search needs)
+    (λ c. search needs) returns started-requires (λ c. search needs) (λ c. search needs) (λ c. search needs) returns-2)

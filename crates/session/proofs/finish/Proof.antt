@@ -19,12 +19,4 @@ returns-2 : tie.Need-returns-2
 returns-2 c = end-none _ _ _ _ _ (sym (c .before .began .ensures) ∙ c .if1 .left)
 
 pub finish-spec : {M : Type 1} → statement M
-finish-spec =
-    tie.close
-    (tie.spec
-    (λ c κs. search needs)
-    (λ c κs. search needs)
-    (λ c. search needs)
-    (λ c. search needs)
-    returns
-    returns-2)
+finish-spec = tie.close (tie.spec (λ c κs. search needs) (λ c κs. search needs) (λ c. search needs) (λ c. search needs) returns returns-2)

@@ -14,12 +14,5 @@ returns c =
     (turned .turn .ensures)
 
 pub line-ends-spec : {M : Type 1} → statement M
-line-ends-spec =
-    tie.close
-    (tie.spec
-    (λ c κs. search needs)
-    (λ c κs. search needs)
-    (λ c κs. search needs)
-    (λ c. search needs)
-    (λ c. search needs)
-    returns)
+line-ends-spec = tie.close (tie.spec (λ c κs. search needs)
+    (λ c κs. search needs) (λ c κs. search needs) (λ c. search needs) (λ c. search needs) returns)

@@ -15,11 +15,4 @@ returns c =
     (c .before .before .before .report .ensures) (call .run-checked .ensures)
 
 pub ran-spec : {M : Type 1} → statement M
-ran-spec =
-    tie.close
-    (tie.spec
-    (λ c κs. search needs)
-    (λ c κs. search needs)
-    (λ c. search needs)
-    (λ c. search needs)
-    returns)
+ran-spec = tie.close (tie.spec (λ c κs. search needs) (λ c κs. search needs) (λ c. search needs) (λ c. search needs) returns)

@@ -17,12 +17,5 @@ returns c =
     (c .before .before .before .report .ensures) (call .start-checked .ensures))
 
 pub started-spec : {M : Type 1} → statement M
-started-spec =
-    tie.close
-    (tie.spec
-    (λ c κs. search needs)
-    (λ c κs. search needs)
-    (λ c κs. search needs)
-    (λ c. search needs)
-    (λ c. search needs)
-    returns)
+started-spec = tie.close (tie.spec (λ c κs. search needs)
+    (λ c κs. search needs) (λ c κs. search needs) (λ c. search needs) (λ c. search needs) returns)

@@ -69,24 +69,6 @@ returns-3 c =
     (sym (room .before .has-room .ensures) ∙ not-false _ (room .if1 .left)) (c .before .before .before .collect .ensures) (c .if2 .taken)
 
 pub walk-spec : {M : Type 1} → statement M
-walk-spec =
-    tie.close
-    (tie.spec
-    Inv-loop
-    μ-loop
-    loop-holds
-    (λ c κs. search needs)
-    collect-requires
-    line-ends-requires
-    add-i
-    loop-less
-    loop-again
-    (λ c. search needs)
-    (λ c. search needs)
-    returns
-    (λ c. search needs)
-    (λ c. search needs)
-    returns-2
-    (λ c. search needs)
-    (λ c. search needs)
-    returns-3)
+walk-spec = tie.close (tie.spec Inv-loop μ-loop loop-holds
+    (λ c κs. search needs) collect-requires line-ends-requires add-i loop-less loop-again (λ c. search needs) (λ c. search needs)
+    returns (λ c. search needs) (λ c. search needs) returns-2 (λ c. search needs) (λ c. search needs) returns-3)

@@ -20,6 +20,4 @@ returns-2 c =
     (c .tell2 .ensures)
 
 pub end-spec : {M : Type 1} → statement M
-end-spec =
-    tie.close (tie.spec (λ c κs. search needs) returns (λ c κs. search needs) (λ c κs. search needs)
-    (λ c. search needs) returns-2)
+end-spec = tie.close (tie.spec (λ c κs. search needs) returns (λ c κs. search needs) (λ c κs. search needs) (λ c. search needs) returns-2)

@@ -19,6 +19,5 @@ returns c =
     }
 
 pub stop-spec : {M : Type 1} → statement M
-stop-spec =
-    tie.close (tie.spec (λ c κs. search needs) (λ c κs. search needs) (λ c κs. search needs) (λ c κs. search needs)
-    (λ c κs. search needs) (λ c. search needs) returns)
+stop-spec = tie.close (tie.spec (λ c κs. search needs)
+    (λ c κs. search needs) (λ c κs. search needs) (λ c κs. search needs) (λ c κs. search needs) (λ c. search needs) returns)

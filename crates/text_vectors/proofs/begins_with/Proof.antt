@@ -6,17 +6,8 @@ use borrow.Author.Needs.{needs}
 use Rattle.text_vectors.proofs.begins_with.Statement.{statement}
 use Rattle.text_vectors.proofs.begins_with.Tie as tie
 
-returns : tie.Need-returns
-returns c = search needs
-
 slice-aggregate-same : tie.Need-slice-aggregate-same
 slice-aggregate-same c = sym (length-take-le _ _ (omega arith))
 
-same-requires : tie.Need-same-requires
-same-requires c κs = search needs
-
-returns-2 : tie.Need-returns-2
-returns-2 c = search needs
-
 pub begins-with-spec : {M : Type 1} → statement M
-begins-with-spec = tie.close (tie.spec returns slice-aggregate-same same-requires returns-2)
+begins-with-spec = tie.close (tie.spec (λ c. search needs) slice-aggregate-same (λ c κs. search needs) (λ c. search needs))

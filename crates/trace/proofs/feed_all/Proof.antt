@@ -50,16 +50,5 @@ returns : tie.Need-returns Inv-loop μ-loop
 returns c = record { under = feeding-done _ _ _ _ _ (c .before .loop .inv .0) (c .loop-test .left); room = c .before .loop .inv .2 }
 
 pub feed-all-spec : {M : Type 1} → statement M
-feed-all-spec =
-    tie.close
-    (tie.spec
-    Inv-loop
-    μ-loop
-    loop-holds
-    (λ c κs. search needs)
-    with-room-requires
-    loop-less
-    loop-again
-    (λ c. search needs)
-    (λ c. search needs)
-    returns)
+feed-all-spec = tie.close (tie.spec Inv-loop μ-loop
+    loop-holds (λ c κs. search needs) with-room-requires loop-less loop-again (λ c. search needs) (λ c. search needs) returns)

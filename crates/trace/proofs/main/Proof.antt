@@ -19,22 +19,6 @@ print-requires c κs =
 
 pub main-spec : {M : Type 1} → statement M
 main-spec =
-    tie.close
-    (tie.spec
-    (λ c. search needs)
-    (λ c κs. search needs)
-    (λ c κs. search needs)
-    (λ c. search needs)
-    (λ c. search needs)
-    (λ c. search needs)
-    (λ c. search needs)
-    (λ c. search needs)
-    (λ c κs. search needs)
-    (λ c. search needs)
-    (λ c. search needs)
-    (λ c. search needs)
-    run-session-requires
-    (λ c. search needs)
-    (λ c. search needs)
-    print-requires
-    (λ c. search needs))
+    tie.close (tie.spec (λ c. search needs) (λ c κs. search needs) (λ c κs. search needs) (λ c. search needs) (λ c. search needs)
+    (λ c. search needs) (λ c. search needs) (λ c. search needs) (λ c κs. search needs) (λ c. search needs) (λ c. search needs)
+    (λ c. search needs) run-session-requires (λ c. search needs) (λ c. search needs) print-requires (λ c. search needs))

@@ -15,14 +15,5 @@ print-requires c κs =
     omega (arith, read .read-all .ensures)
 
 pub run-session-spec : {M : Type 1} → statement M
-run-session-spec =
-    tie.close
-    (tie.spec
-    (λ c κs. search needs)
-    (λ c κs. search needs)
-    (λ c κs. search needs)
-    (λ c κs. search needs)
-    print-requires
-    (λ c. search needs)
-    (λ c. search needs)
-    (λ c. search needs))
+run-session-spec = tie.close (tie.spec (λ c κs. search needs) (λ c κs. search needs)
+    (λ c κs. search needs) (λ c κs. search needs) print-requires (λ c. search needs) (λ c. search needs) (λ c. search needs))

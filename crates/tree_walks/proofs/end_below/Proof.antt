@@ -16,45 +16,17 @@ Inv-loop chart s count d₀ d = (s < d) × (d ≤ suc s + length (descendants (c
 abbrev μ-loop : tie.MeasureT-loop
 μ-loop chart s count d₀ d = count - d
 
-state-count-requires : tie.Need-state-count-requires Inv-loop μ-loop
-state-count-requires c κs = search needs
-
-add-d : tie.Need-add-d Inv-loop μ-loop
-add-d c = search needs
-
-loop-holds : tie.Need-loop-holds Inv-loop μ-loop
-loop-holds c = search needs
-
-parent-of-requires : tie.Need-parent-of-requires Inv-loop μ-loop
-parent-of-requires c κs = search needs
-
 returns : tie.Need-returns Inv-loop μ-loop
 returns c = search (needs, end-found)
 
-add-d-2 : tie.Need-add-d-2 Inv-loop μ-loop
-add-d-2 c = search needs
-
-loop-less : tie.Need-loop-less Inv-loop μ-loop
-loop-less c = search needs
-
 loop-again : tie.Need-loop-again Inv-loop μ-loop
-loop-again c = end-on _ (c .before .before .before .before .before .pre .0) _ (c .before .before .before .before .before .pre .1) _ (c .before .before .before .loop .inv) _ (c .before .before .before .before .state-count .ensures) (c .before .before .loop-test .taken) _ (c .before .parent-of .ensures) (c .if1 .left)
+loop-again c = end-on _ (c .before .before .before .before .before .pre .0) _ (c .before .before .before .before .before .pre .1)
+    _ (c .before .before .before .loop .inv) _ (c .before .before .before .before .state-count .ensures)
+    (c .before .before .loop-test .taken) _ (c .before .parent-of .ensures) (c .if1 .left)
 
 returns-2 : tie.Need-returns-2 Inv-loop μ-loop
 returns-2 c = search (needs, end-all)
 
 pub end-below-spec : {M : Type 1} → statement M
-end-below-spec =
-    tie.close
-    (tie.spec
-    Inv-loop
-    μ-loop
-    state-count-requires
-    add-d
-    loop-holds
-    parent-of-requires
-    returns
-    add-d-2
-    loop-less
-    loop-again
-    returns-2)
+end-below-spec = tie.close (tie.spec Inv-loop μ-loop (λ c κs. search needs) (λ c. search needs)
+    (λ c. search needs) (λ c κs. search needs) returns (λ c. search needs) (λ c. search needs) loop-again returns-2)

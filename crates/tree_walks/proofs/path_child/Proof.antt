@@ -14,12 +14,6 @@ Inv-loop chart s t x₀ x = path-child (chart-of chart) s x ≡ path-child (char
 abbrev μ-loop : tie.MeasureT-loop
 μ-loop chart s t x₀ x = x
 
-loop-holds : tie.Need-loop-holds Inv-loop μ-loop
-loop-holds c = refl
-
-parent-of-requires : tie.Need-parent-of-requires Inv-loop μ-loop
-parent-of-requires c κs = search needs
-
 returns : tie.Need-returns Inv-loop μ-loop
 returns c = search (needs, path-found)
 
@@ -33,6 +27,4 @@ returns-2 : tie.Need-returns-2 Inv-loop μ-loop
 returns-2 c = search (needs, path-end)
 
 pub path-child-spec : {M : Type 1} → statement M
-path-child-spec =
-    tie.close
-    (tie.spec Inv-loop μ-loop loop-holds parent-of-requires returns loop-less loop-again returns-2)
+path-child-spec = tie.close (tie.spec Inv-loop μ-loop (λ c. refl) (λ c κs. search needs) returns loop-less loop-again returns-2)

@@ -14,53 +14,37 @@ Inv-loop chart s t x₀ x = scope (chart-of chart) x t ≡ scope (chart-of chart
 abbrev μ-loop : tie.MeasureT-loop
 μ-loop chart s t x₀ x = x
 
-loop-holds : tie.Need-loop-holds Inv-loop μ-loop
-loop-holds c = refl
-
-parent-of-requires : tie.Need-parent-of-requires Inv-loop μ-loop
-parent-of-requires c κs = search needs
-
-kind-of-requires : tie.Need-kind-of-requires Inv-loop μ-loop
-kind-of-requires c κs = search needs
-
-is-o-requires : tie.Need-is-o-requires Inv-loop μ-loop
-is-o-requires c κs = search needs
-
 loop-less : tie.Need-loop-less Inv-loop μ-loop
 loop-less c = search (needs, up-falls)
 
 loop-again : tie.Need-loop-again Inv-loop μ-loop
-loop-again c = scope-on-kind _ (c .before .before .before .before .before .before .pre) _ _ _ (c .before .before .before .before .before .loop .inv) (c .before .before .before .before .loop-test .taken) _ (c .before .before .before .parent-of .ensures) _ (c .before .before .kind-of .ensures) _ (c .before .is-o .ensures) (not-true _ (c .if1 .taken))
-
-is-ancestor-requires : tie.Need-is-ancestor-requires Inv-loop μ-loop
-is-ancestor-requires c κs = search needs
+loop-again c = scope-on-kind _ (c .before .before .before .before .before .before .pre) _ _ _
+    (c .before .before .before .before .before .loop .inv)
+    (c .before .before .before .before .loop-test .taken) _ (c .before .before .before .parent-of .ensures) _
+    (c .before .before .kind-of .ensures) _ (c .before .is-o .ensures) (not-true _ (c .if1 .taken))
 
 returns : tie.Need-returns Inv-loop μ-loop
-returns c = scope-found _ (c .before .before .before .before .before .before .before .before .pre) _ _ _ (c .before .before .before .before .before .before .before .loop .inv) (c .before .before .before .before .before .before .loop-test .taken) _ (c .before .before .before .before .before .parent-of .ensures) _ (c .before .before .before .before .kind-of .ensures) _ _ (c .before .before .before .is-o .ensures) (not-false _ (c .before .before .if1 .left)) (c .before .is-ancestor .ensures) (c .if2 .taken)
+returns c = scope-found _ (c .before .before .before .before .before .before .before .before .pre) _ _ _
+    (c .before .before .before .before .before .before .before .loop .inv)
+    (c .before .before .before .before .before .before .loop-test .taken) _
+    (c .before .before .before .before .before .parent-of .ensures) _
+    (c .before .before .before .before .kind-of .ensures) _ _ (c .before .before .before .is-o .ensures)
+    (not-false _ (c .before .before .if1 .left)) (c .before .is-ancestor .ensures) (c .if2 .taken)
 
 loop-less-2 : tie.Need-loop-less-2 Inv-loop μ-loop
 loop-less-2 c = search (needs, up-falls)
 
 loop-again-2 : tie.Need-loop-again-2 Inv-loop μ-loop
-loop-again-2 c = scope-on _ (c .before .before .before .before .before .before .before .before .pre) _ _ _ (c .before .before .before .before .before .before .before .loop .inv) (c .before .before .before .before .before .before .loop-test .taken) _ (c .before .before .before .before .before .parent-of .ensures) _ (c .before .before .before .before .kind-of .ensures) _ _ (c .before .before .before .is-o .ensures) (not-false _ (c .before .before .if1 .left)) (c .before .is-ancestor .ensures) (c .if2 .left)
+loop-again-2 c = scope-on _ (c .before .before .before .before .before .before .before .before .pre) _ _ _
+    (c .before .before .before .before .before .before .before .loop .inv)
+    (c .before .before .before .before .before .before .loop-test .taken) _
+    (c .before .before .before .before .before .parent-of .ensures) _
+    (c .before .before .before .before .kind-of .ensures) _ _ (c .before .before .before .is-o .ensures)
+    (not-false _ (c .before .before .if1 .left)) (c .before .is-ancestor .ensures) (c .if2 .left)
 
 returns-2 : tie.Need-returns-2 Inv-loop μ-loop
 returns-2 c = search (needs, scope-end)
 
 pub scope-spec : {M : Type 1} → statement M
-scope-spec =
-    tie.close
-    (tie.spec
-    Inv-loop
-    μ-loop
-    loop-holds
-    parent-of-requires
-    kind-of-requires
-    is-o-requires
-    loop-less
-    loop-again
-    is-ancestor-requires
-    returns
-    loop-less-2
-    loop-again-2
-    returns-2)
+scope-spec = tie.close (tie.spec Inv-loop μ-loop (λ c. refl) (λ c κs. search needs) (λ c κs. search needs)
+    (λ c κs. search needs) loop-less loop-again (λ c κs. search needs) returns loop-less-2 loop-again-2 returns-2)

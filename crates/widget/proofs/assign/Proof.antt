@@ -29,5 +29,4 @@ returns c =
     )
 
 pub assign-spec : {M : Type 1} → statement M
-assign-spec =
-    tie.close (tie.spec (λ c κs. search needs) (λ c κs. search needs) (λ c κs. search needs) (λ c. search needs) returns)
+assign-spec = tie.close (tie.spec (λ c κs. search needs) (λ c κs. search needs) (λ c κs. search needs) (λ c. search needs) returns)

@@ -37,6 +37,5 @@ returns c =
     (c .before .loop .inv .1) (omega arith) (c .before .loop .inv .2)
 
 pub clear-from-spec : {M : Type 1} → statement M
-clear-from-spec =
-    tie.close (tie.spec Inv-loop μ-loop loop-holds (λ c. search needs) (λ c. search needs) (λ c. search needs)
-    (λ c. search needs) loop-again (λ c. search needs) returns)
+clear-from-spec = tie.close (tie.spec Inv-loop μ-loop loop-holds
+    (λ c. search needs) (λ c. search needs) (λ c. search needs) (λ c. search needs) loop-again (λ c. search needs) returns)

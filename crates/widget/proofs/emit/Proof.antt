@@ -23,6 +23,5 @@ returns-2 c =
 
 pub emit-spec : {M : Type 1} → statement M
 emit-spec =
-    tie.close (tie.spec (λ c. search needs) returns (λ c. search needs) (λ c. search needs)
-    (λ c. search needs) (λ c. search needs) slice-set-from-b (λ c. search needs) (λ c. search needs)
-    slice-set-from-c (λ c. search needs) (λ c. search needs) returns-2)
+    tie.close (tie.spec (λ c. search needs) returns (λ c. search needs) (λ c. search needs) (λ c. search needs) (λ c. search needs)
+    slice-set-from-b (λ c. search needs) (λ c. search needs) slice-set-from-c (λ c. search needs) (λ c. search needs) returns-2)

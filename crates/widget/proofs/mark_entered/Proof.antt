@@ -26,6 +26,5 @@ returns-2 c = (
 )
 
 pub mark-entered-spec : {M : Type 1} → statement M
-mark-entered-spec =
-    tie.close (tie.spec (λ c κs. search needs) (λ c κs. search needs) (λ c. search needs) returns
-    (λ c. search needs) (λ c. search needs) returns-2)
+mark-entered-spec = tie.close (tie.spec (λ c κs. search needs)
+    (λ c κs. search needs) (λ c. search needs) returns (λ c. search needs) (λ c. search needs) returns-2)

@@ -1,4 +1,5 @@
--- `mark_left` writes the entry of a state left, clears its mark and stores it in the slot of its o parent, where it has one. Assumes nothing.
+-- `mark_left` writes the entry of a state left, clears its mark and stores it in the slot of its o parent, where it has one.
+-- Assumes nothing.
 use mathlib.Core.Path.{_∙_}
 use native.Mathlib.Omega.{arith}
 use Rattle.numbers.proofs.Laws.{back32}
@@ -48,7 +49,6 @@ returns-3 c =
     )
 
 pub mark-left-spec : {M : Type 1} → statement M
-mark-left-spec =
-    tie.close (tie.spec (λ c κs. search needs) (λ c κs. search needs) (λ c. search needs) returns
-    (λ c. search needs) (λ c. search needs) (λ c. search needs) (λ c. search needs) returns-2 mul-named
-    element-set-from-named (λ c. search needs) returns-3)
+mark-left-spec = tie.close
+    (tie.spec (λ c κs. search needs) (λ c κs. search needs) (λ c. search needs) returns (λ c. search needs) (λ c. search needs)
+    (λ c. search needs) (λ c. search needs) returns-2 mul-named element-set-from-named (λ c. search needs) returns-3)

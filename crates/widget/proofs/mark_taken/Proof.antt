@@ -15,5 +15,4 @@ returns c = (
 )
 
 pub mark-taken-spec : {M : Type 1} → statement M
-mark-taken-spec =
-    tie.close (tie.spec (λ c κs. search needs) (λ c κs. search needs) (λ c. search needs) returns)
+mark-taken-spec = tie.close (tie.spec (λ c κs. search needs) (λ c κs. search needs) (λ c. search needs) returns)

@@ -83,8 +83,6 @@ returns-5 c = (
 )
 
 pub perform-spec : {M : Type 1} → statement M
-perform-spec =
-    tie.close (tie.spec (λ c. search needs) assign-requires (λ c. search needs) add-requires (λ c. search needs)
-    assign-requires-2 (λ c. search needs) send-requires (λ c. search needs) (λ c κs. search needs)
-    (λ c. search needs) returns (λ c. search needs) returns-2 (λ c. search needs) returns-3 (λ c. search needs)
-    returns-4 (λ c. search needs) returns-5)
+perform-spec = tie.close (tie.spec (λ c. search needs) assign-requires (λ c. search needs) add-requires (λ c. search needs)
+    assign-requires-2 (λ c. search needs) send-requires (λ c. search needs) (λ c κs. search needs) (λ c. search needs) returns
+    (λ c. search needs) returns-2 (λ c. search needs) returns-3 (λ c. search needs) returns-4 (λ c. search needs) returns-5)

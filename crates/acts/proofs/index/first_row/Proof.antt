@@ -28,12 +28,4 @@ returns c =
     first-read _ _ (top .pre .0 .indexed) _ (c .before .action-count .ensures) (top .args .owner) (top .pre .1) _ (key .key-of .ensures) .1
 
 pub first-row-spec : {M : Type 1} → statement M
-first-row-spec =
-    tie.close
-    (tie.spec
-    (λ c κs. search needs)
-    (λ c κs. search needs)
-    place
-    within
-    sub-result
-    returns)
+first-row-spec = tie.close (tie.spec (λ c κs. search needs) (λ c κs. search needs) place within sub-result returns)

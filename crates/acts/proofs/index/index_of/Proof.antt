@@ -61,30 +61,16 @@ returns : tie.Need-returns Inv-loop μ-loop
 returns c = building-end _ _ _ (omega arith) (c .before .loop .inv)
 
 pub index-of-spec : {M : Type 1} → statement M
-index-of-spec =
-    tie.close
-    (tie.spec
-    Inv-loop
-    μ-loop
-    (λ c κs. search needs)
-    loop-holds
-    (λ c. search needs)
-    owner-at-requires
-    key-of-requires
-    (λ c. omega (arith, key-low c, at-loop-from-key-of c .loop .inv .size))
+index-of-spec = tie.close (tie.spec Inv-loop μ-loop (λ c κs. search needs) loop-holds
+    (λ c. search needs) owner-at-requires key-of-requires (λ c. omega (arith, key-low c, at-loop-from-key-of c .loop .inv .size))
     (λ c. omega (arith, key-low c, at-loop-from-key-of c .loop .inv .size))
     (λ c. omega (arith, at-loop-from-key-of c .loop .inv .within, actions-most (start-from-key-of c .args .chart .now)))
     (λ c. omega (arith, at-loop-from-key-of c .loop .inv .within, actions-most (start-from-key-of c .args .chart .now)))
-    (λ c.
-    omega (
+    (λ c. omega (
       arith,
       at-loop-from-key-of c .loop .inv .within,
       at-loop-from-key-of c .loop .inv .size,
-      actions-most (start-from-key-of c .args .chart .now),
-    ))
-    sub-index
-    (λ c. omega (arith, key-low c, at-loop-from-key-of c .loop .inv .size))
-    (λ c. omega (arith, key-low c, at-loop-from-key-of c .loop .inv .size))
-    (λ c. search needs)
-    loop-again
-    returns)
+      actions-most
+          (start-from-key-of c .args .chart .now),
+    )) sub-index (λ c. omega (arith, key-low c, at-loop-from-key-of c .loop .inv .size))
+    (λ c. omega (arith, key-low c, at-loop-from-key-of c .loop .inv .size)) (λ c. search needs) loop-again returns)

@@ -23,7 +23,5 @@ returns-4 : tie.Need-returns-4
 returns-4 c = rw (c .before .owner4 .given .1)
 
 pub key-of-spec : {M : Type 1} → statement M
-key-of-spec =
-    tie.close (tie.spec (λ c. search needs) (λ c. search needs) add-result (λ c. search needs)
-    (λ c. search needs) add-result-2 (λ c. search needs) (λ c. search needs) add-result-3 (λ c. search needs)
-    returns-2 returns-3 returns-4)
+key-of-spec = tie.close (tie.spec (λ c. search needs) (λ c. search needs) add-result (λ c. search needs) (λ c. search needs)
+    add-result-2 (λ c. search needs) (λ c. search needs) add-result-3 (λ c. search needs) returns-2 returns-3 returns-4)

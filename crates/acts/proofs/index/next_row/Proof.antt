@@ -18,11 +18,10 @@ returns c =
 
 pub next-row-spec : {M : Type 1} → statement M
 next-row-spec =
-    tie.close
-    (tie.spec
-    (λ c κs. search needs)
-    (λ c. omega (arith, c .before .pre .1, actions-most (c .before .args .chart .now)))
-    (λ c. omega (arith, c .before .pre .1, actions-most (c .before .args .chart .now)))
-    (λ c. omega (arith, c .before .pre .1, actions-most (c .before .args .chart .now), c .before .pre .0 .indexed .size))
-    sub-result
-    returns)
+    tie.close (tie.spec (λ c κs. search needs) (λ c. omega (arith, c .before .pre .1, actions-most (c .before .args .chart .now)))
+    (λ c. omega (arith, c .before .pre .1, actions-most (c .before .args .chart .now))) (λ c. omega (
+      arith,
+      c .before .pre .1,
+      actions-most (c .before .args .chart .now),
+      c .before .pre .0 .indexed .size,
+    )) sub-result returns)

@@ -18,13 +18,6 @@ returns c =
     ∙ owner-said (top .args .chart .now) (top .args .i) (top .pre)
 
 pub owner-at-spec : {M : Type 1} → statement M
-owner-at-spec =
-    tie.close
-    (tie.spec
-    (λ c. omega (arith, actions-most (c .args .chart .now)))
-    (λ c. omega (arith, actions-most (c .args .chart .now)))
-    (λ c κs. search needs)
-    (λ c. omega (arith, actions-most (c .before .args .chart .now)))
-    (λ c κs. search needs)
-    (λ c κs. search needs)
-    returns)
+owner-at-spec = tie.close (tie.spec (λ c. omega (arith, actions-most (c .args .chart .now)))
+    (λ c. omega (arith, actions-most (c .args .chart .now))) (λ c κs. search needs)
+    (λ c. omega (arith, actions-most (c .before .args .chart .now))) (λ c κs. search needs) (λ c κs. search needs) returns)

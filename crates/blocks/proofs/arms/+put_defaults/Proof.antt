@@ -241,10 +241,9 @@ put-defaults-returns :
 put-defaults-returns t c = going-end _ _ _ _ _ _ _ _ _ _ (c .before .loop .inv) (c .loop-test .left)
 
 pub +put-defaults-spec : {M : Type 1} → statement M
-+put-defaults-spec =
-    close μ-put-defaults λ t. put-defaults-lts.spec (put-defaults-knows t) (put-defaults-at t)
-    put-defaults.Post put-defaults-Inv-loop put-defaults-μ-loop (put-defaults-kids-within-requires t)
-    (put-defaults-loop-holds t) (λ c κs. search needs) (put-defaults-add-d t) (put-defaults-loop-less t)
-    (put-defaults-loop-again t) (put-defaults-put-visit-requires t) (put-defaults-sub-put-defaults t)
-    (put-defaults-put-defaults-requires t) (put-defaults-add-d-2 t) (put-defaults-loop-less-2 t)
-    (put-defaults-loop-again-2 t) (put-defaults-same-length t) (put-defaults-returns t)
++put-defaults-spec = close μ-put-defaults λ t. put-defaults-lts.spec (put-defaults-knows t)
+    (put-defaults-at t) put-defaults.Post put-defaults-Inv-loop
+    put-defaults-μ-loop (put-defaults-kids-within-requires t) (put-defaults-loop-holds t) (λ c κs. search needs)
+    (put-defaults-add-d t) (put-defaults-loop-less t) (put-defaults-loop-again t) (put-defaults-put-visit-requires t)
+    (put-defaults-sub-put-defaults t) (put-defaults-put-defaults-requires t) (put-defaults-add-d-2 t)
+    (put-defaults-loop-less-2 t) (put-defaults-loop-again-2 t) (put-defaults-same-length t) (put-defaults-returns t)

@@ -37,5 +37,4 @@ returns c =
     )
 
 pub default-length-spec : {M : Type 1} → statement M
-default-length-spec =
-    tie.close (tie.spec (λ c κs. search needs) (λ c. search needs) put-defaults-requires returns)
+default-length-spec = tie.close (tie.spec (λ c κs. search needs) (λ c. search needs) put-defaults-requires returns)

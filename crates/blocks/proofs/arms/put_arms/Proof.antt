@@ -128,7 +128,5 @@ returns c =
     (c .before .before .before .before .put-instr2 .ensures) (c .before .put-stored-arm .ensures)
 
 pub put-arms-spec : {M : Type 1} → statement M
-put-arms-spec =
-    tie.close (tie.spec default-length-requires stored-length-requires (λ c κs. search needs)
-    put-instr-requires put-defaults-requires put-instr-requires-2 put-stored-arm-requires (λ c. search needs)
-    returns)
+put-arms-spec = tie.close (tie.spec default-length-requires stored-length-requires (λ c κs. search needs)
+    put-instr-requires put-defaults-requires put-instr-requires-2 put-stored-arm-requires (λ c. search needs) returns)

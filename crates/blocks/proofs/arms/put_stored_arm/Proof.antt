@@ -96,6 +96,5 @@ returns : tie.Need-returns Inv-loop μ-loop
 returns c = rising-end (c .before .loop .inv .1) (c .loop-test .left)
 
 pub put-stored-arm-spec : {M : Type 1} → statement M
-put-stored-arm-spec =
-    tie.close (tie.spec Inv-loop μ-loop end-below-requires add-d loop-holds put-stored-requires add-d-2
-    loop-less loop-again same-length returns)
+put-stored-arm-spec = tie.close (tie.spec Inv-loop
+    μ-loop end-below-requires add-d loop-holds put-stored-requires add-d-2 loop-less loop-again same-length returns)

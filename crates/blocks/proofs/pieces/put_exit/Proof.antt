@@ -89,6 +89,5 @@ returns c =
     (put-instr2-from-plan3 c .put-instr2 .ensures) (c .before .put-acts .ensures)
 
 pub put-exit-spec : {M : Type 1} → statement M
-put-exit-spec =
-    tie.close (tie.spec act-count-requires add-t13 put-instr-requires (λ c κs. search needs)
-    put-instr-requires-2 put-acts-requires (λ c. search needs) returns)
+put-exit-spec = tie.close (tie.spec act-count-requires
+    add-t13 put-instr-requires (λ c κs. search needs) put-instr-requires-2 put-acts-requires (λ c. search needs) returns)

@@ -211,7 +211,6 @@ returns-2 c =
     (put-first _ _ _ (c .before .before .before .before .put-instr3 .ensures) (c .before .put-enter2 .ensures)))
 
 pub put-stored-spec : {M : Type 1} → statement M
-put-stored-spec =
-    tie.close (tie.spec (λ c κs. search needs) act-count-requires (λ c κs. search needs)
-    (λ c κs. search needs) add-t17 put-instr-requires put-enter-requires (λ c. search needs) returns add-t23
-    put-instr-requires-2 add-t23-2 put-instr-requires-3 put-enter-requires-2 (λ c. search needs) returns-2)
+put-stored-spec = tie.close (tie.spec (λ c κs. search needs) act-count-requires
+    (λ c κs. search needs) (λ c κs. search needs) add-t17 put-instr-requires put-enter-requires (λ c. search needs)
+    returns add-t23 put-instr-requires-2 add-t23-2 put-instr-requires-3 put-enter-requires-2 (λ c. search needs) returns-2)

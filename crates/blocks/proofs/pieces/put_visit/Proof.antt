@@ -98,6 +98,5 @@ returns-2 c =
     (put-both _ _ _ (c .before .before .before .before .put-acts .ensures) (c .before .put-enter2 .ensures))
 
 pub put-visit-spec : {M : Type 1} → statement M
-put-visit-spec =
-    tie.close (tie.spec (λ c κs. search needs) put-enter-requires (λ c. search needs) returns
-    put-acts-requires put-enter-requires-2 (λ c. search needs) returns-2)
+put-visit-spec = tie.close (tie.spec (λ c κs. search needs)
+    put-enter-requires (λ c. search needs) returns put-acts-requires put-enter-requires-2 (λ c. search needs) returns-2)

@@ -12,18 +12,6 @@ slice-aggregate-run : tie.Need-slice-aggregate-run
 slice-aggregate-run c = sym (length-take-le _ _ (c .before .before .before .lent .ensures))
 
 pub traced-spec : {M : Type 1} → statement M
-traced-spec =
-    tie.close
-    (tie.spec
-    (λ c κs. search needs)
-    (λ c κs. search needs)
-    (λ c. search needs)
-    slice-aggregate-start
-    (λ c κs. search needs)
-    (λ c. search needs)
-    (λ c. search needs)
-    (λ c. search needs)
-    slice-aggregate-run
-    (λ c κs. search needs)
-    (λ c. search needs)
-    (λ c. search needs))
+traced-spec = tie.close (tie.spec (λ c κs. search needs)
+    (λ c κs. search needs) (λ c. search needs) slice-aggregate-start (λ c κs. search needs) (λ c. search needs)
+    (λ c. search needs) (λ c. search needs) slice-aggregate-run (λ c κs. search needs) (λ c. search needs) (λ c. search needs))

@@ -16,15 +16,5 @@ returns : tie.Need-returns Inv-loop μ-loop
 returns c = λ h. (let k = c .loop-test .left in omega (arith, c .before .loop .inv))
 
 pub line-after-spec : {M : Type 1} → statement M
-line-after-spec =
-    tie.close
-    (tie.spec
-    Inv-loop
-    μ-loop
-    (λ c. search needs)
-    (λ c. search needs)
-    (λ c. search needs)
-    (λ c. search needs)
-    (λ c. search needs)
-    returns
-    (λ c. search needs))
+line-after-spec = tie.close (tie.spec Inv-loop μ-loop (λ c. search needs)
+    (λ c. search needs) (λ c. search needs) (λ c. search needs) (λ c. search needs) returns (λ c. search needs))

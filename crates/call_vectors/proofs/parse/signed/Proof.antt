@@ -26,5 +26,5 @@ sub-result : tie.Need-sub-result
 sub-result c = fits _ (c .before .if1 .left)
 
 pub signed-spec : {M : Type 1} → statement M
-signed-spec =
-    tie.close (tie.spec (λ c. search needs) (λ c. search needs) (λ c. search needs) sub-result (λ c. search needs) (λ c. search needs))
+signed-spec = tie.close
+    (tie.spec (λ c. search needs) (λ c. search needs) (λ c. search needs) sub-result (λ c. search needs) (λ c. search needs))

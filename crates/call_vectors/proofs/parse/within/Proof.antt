@@ -13,8 +13,4 @@ returns-2 : tie.Need-returns-2
 returns-2 c = (omega arith, sym (length-take-le _ _ (omega arith)))
 
 pub within-spec : {M : Type 1} → statement M
-within-spec =
-    tie.close
-    (tie.spec
-    returns
-    returns-2)
+within-spec = tie.close (tie.spec returns returns-2)

@@ -12,15 +12,5 @@ abbrev μ-loop : tie.MeasureT-loop
 μ-loop text from active₀ at₀ k₀ active at k = STATES - k
 
 pub marks-from-spec : {M : Type 1} → statement M
-marks-from-spec =
-    tie.close
-    (tie.spec
-    Inv-loop
-    μ-loop
-    (λ c. search needs)
-    (λ c κs. search needs)
-    (λ c. search needs)
-    (λ c. search needs)
-    (λ c. search needs)
-    (λ c. search needs)
-    (λ c. search needs))
+marks-from-spec = tie.close (tie.spec Inv-loop μ-loop (λ c. search needs)
+    (λ c κs. search needs) (λ c. search needs) (λ c. search needs) (λ c. search needs) (λ c. search needs) (λ c. search needs))

@@ -12,19 +12,6 @@ abbrev μ-loop : tie.MeasureT-loop
 μ-loop text from length items₀ at₀ k₀ items at k = QUEUE - k
 
 pub queue-from-spec : {M : Type 1} → statement M
-queue-from-spec =
-    tie.close
-    (tie.spec
-    Inv-loop
-    μ-loop
-    (λ c κs. search needs)
-    (λ c. search needs)
-    (λ c κs. search needs)
-    (λ c κs. search needs)
-    (λ c. search needs)
-    (λ c. search needs)
-    (λ c. search needs)
-    (λ c. search needs)
-    (λ c. search needs)
-    (λ c κs. search needs)
-    (λ c. search needs))
+queue-from-spec = tie.close (tie.spec Inv-loop
+    μ-loop (λ c κs. search needs) (λ c. search needs) (λ c κs. search needs) (λ c κs. search needs) (λ c. search needs)
+    (λ c. search needs) (λ c. search needs) (λ c. search needs) (λ c. search needs) (λ c κs. search needs) (λ c. search needs))

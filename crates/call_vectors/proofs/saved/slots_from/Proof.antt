@@ -12,16 +12,5 @@ abbrev μ-loop : tie.MeasureT-loop
 μ-loop text from slots₀ at₀ k₀ slots at k = STATES - k
 
 pub slots-from-spec : {M : Type 1} → statement M
-slots-from-spec =
-    tie.close
-    (tie.spec
-    Inv-loop
-    μ-loop
-    (λ c. search needs)
-    (λ c κs. search needs)
-    (λ c. search needs)
-    (λ c. search needs)
-    (λ c. search needs)
-    (λ c. search needs)
-    (λ c. search needs)
-    (λ c. search needs))
+slots-from-spec = tie.close (tie.spec Inv-loop μ-loop (λ c. search needs) (λ c κs. search needs)
+    (λ c. search needs) (λ c. search needs) (λ c. search needs) (λ c. search needs) (λ c. search needs) (λ c. search needs))

@@ -15,70 +15,82 @@ first c e = said (is-letter 115) (c .before .fits .a) (c .is-letter .ensures) e
 second : (c : tie.After-is-letter2) {b : Bool} → c .is-letter2 .result ≡ b → is-letter 97 (c .before .before .before .args .a) ≡ b
 second c e = said (is-letter 97) (c .before .before .before .fits .a) (c .is-letter2 .ensures) e
 
-third : (c : tie.After-is-letter3) {b : Bool} → c .is-letter3 .result ≡ b → is-letter 107 (c .before .before .before .before .before .args .a) ≡ b
+third : (c : tie.After-is-letter3) {b : Bool}
+    → c .is-letter3 .result ≡ b → is-letter 107 (c .before .before .before .before .before .args .a) ≡ b
 third c e = said (is-letter 107) (c .before .before .before .before .before .fits .a) (c .is-letter3 .ensures) e
 
-fourth : (c : tie.After-is-letter4) {b : Bool} → c .is-letter4 .result ≡ b → is-letter 113 (c .before .before .before .before .before .before .before .args .a) ≡ b
+fourth : (c : tie.After-is-letter4) {b : Bool}
+    → c .is-letter4 .result ≡ b → is-letter 113 (c .before .before .before .before .before .before .before .args .a) ≡ b
 fourth c e = said (is-letter 113) (c .before .before .before .before .before .before .before .fits .a) (c .is-letter4 .ensures) e
 
-is-letter-requires : tie.Need-is-letter-requires
-is-letter-requires c κs = search needs
+abbrev start-from-reference : tie.After-reference → tie.Start
+start-from-reference c = c .before .before .before
 
-reference-requires : tie.Need-reference-requires
-reference-requires c κs = search needs
+abbrev else2-from-else4 : tie.Else4 → tie.Else2
+else2-from-else4 c = c .before .before .before .before
+
+abbrev is-letter2-from-reference3 : tie.After-reference3 → tie.After-is-letter2
+is-letter2-from-reference3 c = c .before .before .before .before
+
+abbrev is-letter3-from-reference4 : tie.After-reference4 → tie.After-is-letter3
+is-letter3-from-reference4 c = c .before .before .before .before
+
+abbrev start-from-reference2 : tie.After-reference2 → tie.Start
+start-from-reference2 c = c .before .before .before .before .before
+
+abbrev start-from-reference4 : tie.After-reference4 → tie.Start
+start-from-reference4 c = is-letter3-from-reference4 c .before .before .before .before .before
 
 returns : tie.Need-returns
 unfolding act-by
-returns c = rw (first (c .before .before) (c .before .if1 .taken), said ref (c .before .before .before .fits .x) (c .reference .ensures) refl, toZ-ofZ (c .before .before .before .fits .y))
-
-is-letter-requires-2 : tie.Need-is-letter-requires-2
-is-letter-requires-2 c κs = search needs
-
-reference-requires-2 : tie.Need-reference-requires-2
-reference-requires-2 c κs = search needs
+returns c = rw (
+  first (c .before .before) (c .before .if1 .taken),
+  said ref (start-from-reference c .fits .x) (c .reference .ensures) refl,
+  toZ-ofZ (start-from-reference c .fits .y),
+)
 
 returns-2 : tie.Need-returns-2
 unfolding act-by
-returns-2 c = rw (first (c .before .before .before .before) (c .before .before .before .if1 .left), second (c .before .before) (c .before .if2 .taken), said ref (c .before .before .before .before .before .fits .x) (c .reference2 .ensures) refl, toZ-ofZ (c .before .before .before .before .before .fits .y))
-
-is-letter-requires-3 : tie.Need-is-letter-requires-3
-is-letter-requires-3 c κs = search needs
-
-reference-requires-3 : tie.Need-reference-requires-3
-reference-requires-3 c κs = search needs
+returns-2 c = rw (
+  first (c .before .before .before .before) (c .before .before .before .if1 .left),
+  second (c .before .before) (c .before .if2 .taken),
+  said ref (start-from-reference2 c .fits .x) (c .reference2 .ensures) refl,
+  toZ-ofZ (start-from-reference2 c .fits .y),
+)
 
 returns-3 : tie.Need-returns-3
 unfolding act-by
-returns-3 c = rw (first (c .before .before .before .before .before .before) (c .before .before .before .before .before .if1 .left), second (c .before .before .before .before) (c .before .before .before .if2 .left), third (c .before .before) (c .before .if3 .taken), said ref (c .before .before .before .before .before .before .before .fits .x) (c .reference3 .ensures) refl)
-
-is-letter-requires-4 : tie.Need-is-letter-requires-4
-is-letter-requires-4 c κs = search needs
-
-reference-requires-4 : tie.Need-reference-requires-4
-reference-requires-4 c κs = search needs
+returns-3 c = rw (
+  first (is-letter2-from-reference3 c .before .before) (is-letter2-from-reference3 c .before .if1 .left),
+  second (is-letter2-from-reference3 c) (c .before .before .before .if2 .left),
+  third (c .before .before) (c .before .if3 .taken),
+  said ref (is-letter2-from-reference3 c .before .before .before .fits .x) (c .reference3 .ensures) refl,
+)
 
 returns-4 : tie.Need-returns-4
 unfolding act-by
-returns-4 c = rw (first (c .before .before .before .before .before .before .before .before) (c .before .before .before .before .before .before .before .if1 .left), second (c .before .before .before .before .before .before) (c .before .before .before .before .before .if2 .left), third (c .before .before .before .before) (c .before .before .before .if3 .left), fourth (c .before .before) (c .before .if4 .taken), said ref (c .before .before .before .before .before .before .before .before .before .fits .x) (c .reference4 .ensures) refl, toZ-ofZ (c .before .before .before .before .before .before .before .before .before .fits .y))
+returns-4 c = rw (
+  first (is-letter3-from-reference4 c .before .before .before .before)
+      (is-letter3-from-reference4 c .before .before .before .if1 .left),
+  second (is-letter3-from-reference4 c .before .before) (is-letter3-from-reference4 c .before .if2 .left),
+  third (is-letter3-from-reference4 c) (c .before .before .before .if3 .left),
+  fourth (c .before .before) (c .before .if4 .taken),
+  said ref (start-from-reference4 c .fits .x) (c .reference4 .ensures) refl,
+  toZ-ofZ (start-from-reference4 c .fits .y),
+)
 
 returns-5 : tie.Need-returns-5
 unfolding act-by
-returns-5 c = rw (first (c .before .before .before .before .before .before .before) (c .before .before .before .before .before .before .if1 .left), second (c .before .before .before .before .before) (c .before .before .before .before .if2 .left), third (c .before .before .before) (c .before .before .if3 .left), fourth (c .before) (c .if4 .left), toZ-ofZ (c .before .before .before .before .before .before .before .before .fits .x))
+returns-5 c = rw (
+  first (else2-from-else4 c .before .before .before) (else2-from-else4 c .before .before .if1 .left),
+  second
+      (else2-from-else4 c .before) (else2-from-else4 c .if2 .left),
+  third (c .before .before .before) (c .before .before .if3 .left),
+  fourth (c .before) (c .if4 .left),
+  toZ-ofZ (else2-from-else4 c .before .before .before .before .fits .x),
+)
 
 pub act-by-spec : {M : Type 1} → statement M
-act-by-spec =
-    tie.close
-    (tie.spec
-    is-letter-requires
-    reference-requires
-    returns
-    is-letter-requires-2
-    reference-requires-2
-    returns-2
-    is-letter-requires-3
-    reference-requires-3
-    returns-3
-    is-letter-requires-4
-    reference-requires-4
-    returns-4
-    returns-5)
+act-by-spec = tie.close
+    (tie.spec (λ c κs. search needs) (λ c κs. search needs) returns (λ c κs. search needs) (λ c κs. search needs) returns-2
+    (λ c κs. search needs) (λ c κs. search needs) returns-3 (λ c κs. search needs) (λ c κs. search needs) returns-4 returns-5)

@@ -6,12 +6,9 @@ use borrow.Author.Needs.{needs}
 use Rattle.chart_rows.proofs.decode.is_absent.Statement.{statement}
 use Rattle.chart_rows.proofs.decode.is_absent.Tie as tie
 
-same-requires : tie.Need-same-requires
-same-requires c κs = search needs
-
 returns : tie.Need-returns
 unfolding is-absent
 returns c = c .same .ensures ∙ rw (toZ-ofZ (c .before .fits .z))
 
 pub is-absent-spec : {M : Type 1} → statement M
-is-absent-spec = tie.close (tie.spec same-requires returns)
+is-absent-spec = tie.close (tie.spec (λ c κs. search needs) returns)

@@ -8,14 +8,9 @@ use borrow.Author.Needs.{needs}
 use Rattle.chart_rows.proofs.decode.is_letter.Statement.{statement}
 use Rattle.chart_rows.proofs.decode.is_letter.Tie as tie
 
-cast-same : tie.Need-cast-same
-cast-same c = search needs
-
-same-requires : tie.Need-same-requires
-same-requires c κs = search needs
-
 returns : tie.Need-returns
-returns c = let small : c .before .args .letter < 2 ^ 31 = omega arith in c .same .ensures ∙ rw (toZ-ofZ (c .before .fits .z), toZ-pos w32 small)
+returns c = let small : c .before .args .letter < 2 ^ 31 = omega arith in
+    c .same .ensures ∙ rw (toZ-ofZ (c .before .fits .z), toZ-pos w32 small)
 
 pub is-letter-spec : {M : Type 1} → statement M
-is-letter-spec = tie.close (tie.spec cast-same same-requires returns)
+is-letter-spec = tie.close (tie.spec (λ c. search needs) (λ c κs. search needs) returns)

@@ -13,15 +13,9 @@ o c e = said (is-letter 111) (c .before .fits .z) (c .is-letter .ensures) e
 a : (c : tie.After-is-letter2) {b : Bool} → c .is-letter2 .result ≡ b → is-letter 97 (c .before .before .before .args .z) ≡ b
 a c e = said (is-letter 97) (c .before .before .before .fits .z) (c .is-letter2 .ensures) e
 
-is-letter-requires : tie.Need-is-letter-requires
-is-letter-requires c κs = search needs
-
 returns : tie.Need-returns
 unfolding kind-by
 returns c = rw (o (c .before) (c .if1 .taken))
-
-is-letter-requires-2 : tie.Need-is-letter-requires-2
-is-letter-requires-2 c κs = search needs
 
 returns-2 : tie.Need-returns-2
 unfolding kind-by
@@ -32,5 +26,4 @@ unfolding kind-by
 returns-3 c = rw (o (c .before .before .before) (c .before .before .if1 .left), a (c .before) (c .if2 .left))
 
 pub kind-by-spec : {M : Type 1} → statement M
-kind-by-spec =
-    tie.close (tie.spec is-letter-requires returns is-letter-requires-2 returns-2 returns-3)
+kind-by-spec = tie.close (tie.spec (λ c κs. search needs) returns (λ c κs. search needs) returns-2 returns-3)

@@ -18,33 +18,26 @@ Inv-loop letters z i₀ i = one-of-letters (drop i letters) (toZ w32 z) ≡ one-
 abbrev μ-loop : tie.MeasureT-loop
 μ-loop letters z i₀ i = length letters - i
 
-loop-holds : tie.Need-loop-holds Inv-loop μ-loop
-loop-holds c = refl
+abbrev at-loop-from-else1 : tie.Else1 Inv-loop μ-loop → tie.At-loop Inv-loop μ-loop
+at-loop-from-else1 c = c .before .before .before .before
 
-shared-slice-read-is-letter : tie.Need-shared-slice-read-is-letter Inv-loop μ-loop
-shared-slice-read-is-letter c = omega arith
-
-is-letter-requires : tie.Need-is-letter-requires Inv-loop μ-loop
-is-letter-requires c κs = search needs
+abbrev at-loop-from-then1 : tie.Then1 Inv-loop μ-loop → tie.At-loop Inv-loop μ-loop
+at-loop-from-then1 c = c .before .before .before .before
 
 returns : tie.Need-returns Inv-loop μ-loop
 returns c =
-    let a = c .before .before .before .before .before .before in
-    let w = c .before .before .before .before .loop in
+    let a = at-loop-from-then1 c .before .before in
+    let w = at-loop-from-then1 c .loop in
     rw (toZ-ofZ (a .fits .z)) at
-    (letter-here (a .args .letters .now) (w .i) (toZ w32 (ofZ w32 (a .args .z))) (omega arith) (sym (c .before .is-letter .ensures) ∙ c .if1 .taken) (w .inv))
-
-add-i : tie.Need-add-i Inv-loop μ-loop
-add-i c = omega arith
-
-loop-less : tie.Need-loop-less Inv-loop μ-loop
-loop-less c = omega arith
+    (letter-here (a .args .letters .now) (w .i)
+    (toZ w32 (ofZ w32 (a .args .z))) (omega arith) (sym (c .before .is-letter .ensures) ∙ c .if1 .taken) (w .inv))
 
 loop-again : tie.Need-loop-again Inv-loop μ-loop
 loop-again c =
-    let a = c .before .before .before .before .before .before in
-    let w = c .before .before .before .before .loop in
-    letter-next (a .args .letters .now) (w .i) (toZ w32 (ofZ w32 (a .args .z))) (omega arith) (sym (c .before .is-letter .ensures) ∙ c .if1 .left) (w .inv)
+    let a = at-loop-from-else1 c .before .before in
+    let w = at-loop-from-else1 c .loop in
+    letter-next (a .args .letters .now) (w .i)
+    (toZ w32 (ofZ w32 (a .args .z))) (omega arith) (sym (c .before .is-letter .ensures) ∙ c .if1 .left) (w .inv)
 
 returns-2 : tie.Need-returns-2 Inv-loop μ-loop
 returns-2 c =
@@ -53,16 +46,5 @@ returns-2 c =
     rw (toZ-ofZ (a .fits .z)) at (letter-none (a .args .letters .now) (w .i) (toZ w32 (ofZ w32 (a .args .z))) (omega arith) (w .inv))
 
 pub one-of-letters-spec : {M : Type 1} → statement M
-one-of-letters-spec =
-    tie.close
-    (tie.spec
-    Inv-loop
-    μ-loop
-    loop-holds
-    shared-slice-read-is-letter
-    is-letter-requires
-    returns
-    add-i
-    loop-less
-    loop-again
-    returns-2)
+one-of-letters-spec = tie.close (tie.spec Inv-loop μ-loop
+    (λ c. refl) (λ c. omega arith) (λ c κs. search needs) returns (λ c. omega arith) (λ c. omega arith) loop-again returns-2)

@@ -14,58 +14,53 @@ first c e = said (is-letter 101) (c .before .fits .k) (c .is-letter .ensures) e
 second : (c : tie.After-is-letter2) {b : Bool} → c .is-letter2 .result ≡ b → is-letter 120 (c .before .before .before .args .k) ≡ b
 second c e = said (is-letter 120) (c .before .before .before .fits .k) (c .is-letter2 .ensures) e
 
-third : (c : tie.After-is-letter3) {b : Bool} → c .is-letter3 .result ≡ b → is-letter 100 (c .before .before .before .before .before .args .k) ≡ b
+third : (c : tie.After-is-letter3) {b : Bool}
+    → c .is-letter3 .result ≡ b → is-letter 100 (c .before .before .before .before .before .args .k) ≡ b
 third c e = said (is-letter 100) (c .before .before .before .before .before .fits .k) (c .is-letter3 .ensures) e
 
-is-letter-requires : tie.Need-is-letter-requires
-is-letter-requires c κs = search needs
+abbrev is-letter-from-reference2 : tie.After-reference2 → tie.After-is-letter
+is-letter-from-reference2 c = c .before .before .before .before
 
-reference-requires : tie.Need-reference-requires
-reference-requires c κs = search needs
+abbrev is-letter2-from-reference3 : tie.After-reference3 → tie.After-is-letter2
+is-letter2-from-reference3 c = c .before .before .before .before
+
+abbrev is-letter2-from-reference4 : tie.After-reference4 → tie.After-is-letter2
+is-letter2-from-reference4 c = c .before .before .before .before
 
 returns : tie.Need-returns
 unfolding owner-by
-returns c = rw (first (c .before .before) (c .before .if1 .taken), said ref (c .before .before .before .fits .n) (c .reference .ensures) refl)
-
-is-letter-requires-2 : tie.Need-is-letter-requires-2
-is-letter-requires-2 c κs = search needs
-
-reference-requires-2 : tie.Need-reference-requires-2
-reference-requires-2 c κs = search needs
+returns c = rw (
+  first (c .before .before) (c .before .if1 .taken),
+  said ref (c .before .before .before .fits .n) (c .reference .ensures) refl,
+)
 
 returns-2 : tie.Need-returns-2
 unfolding owner-by
-returns-2 c = rw (first (c .before .before .before .before) (c .before .before .before .if1 .left), second (c .before .before) (c .before .if2 .taken), said ref (c .before .before .before .before .before .fits .n) (c .reference2 .ensures) refl)
-
-is-letter-requires-3 : tie.Need-is-letter-requires-3
-is-letter-requires-3 c κs = search needs
-
-reference-requires-3 : tie.Need-reference-requires-3
-reference-requires-3 c κs = search needs
+returns-2 c = rw (
+  first (is-letter-from-reference2 c) (c .before .before .before .if1 .left),
+  second (c .before .before)
+      (c .before .if2 .taken),
+  said ref (is-letter-from-reference2 c .before .fits .n) (c .reference2 .ensures) refl,
+)
 
 returns-3 : tie.Need-returns-3
 unfolding owner-by
-returns-3 c = rw (first (c .before .before .before .before .before .before) (c .before .before .before .before .before .if1 .left), second (c .before .before .before .before) (c .before .before .before .if2 .left), third (c .before .before) (c .before .if3 .taken), said ref (c .before .before .before .before .before .before .before .fits .n) (c .reference3 .ensures) refl)
-
-reference-requires-4 : tie.Need-reference-requires-4
-reference-requires-4 c κs = search needs
+returns-3 c = rw (
+  first (is-letter2-from-reference3 c .before .before) (is-letter2-from-reference3 c .before .if1 .left),
+  second (is-letter2-from-reference3 c) (c .before .before .before .if2 .left),
+  third (c .before .before) (c .before .if3 .taken),
+  said ref (is-letter2-from-reference3 c .before .before .before .fits .n) (c .reference3 .ensures) refl,
+)
 
 returns-4 : tie.Need-returns-4
 unfolding owner-by
-returns-4 c = rw (first (c .before .before .before .before .before .before) (c .before .before .before .before .before .if1 .left), second (c .before .before .before .before) (c .before .before .before .if2 .left), third (c .before .before) (c .before .if3 .left), said ref (c .before .before .before .before .before .before .before .fits .n) (c .reference4 .ensures) refl)
+returns-4 c = rw (
+  first (is-letter2-from-reference4 c .before .before) (is-letter2-from-reference4 c .before .if1 .left),
+  second (is-letter2-from-reference4 c) (c .before .before .before .if2 .left),
+  third (c .before .before) (c .before .if3 .left),
+  said ref (is-letter2-from-reference4 c .before .before .before .fits .n) (c .reference4 .ensures) refl,
+)
 
 pub owner-by-spec : {M : Type 1} → statement M
-owner-by-spec =
-    tie.close
-    (tie.spec
-    is-letter-requires
-    reference-requires
-    returns
-    is-letter-requires-2
-    reference-requires-2
-    returns-2
-    is-letter-requires-3
-    reference-requires-3
-    returns-3
-    reference-requires-4
-    returns-4)
+owner-by-spec = tie.close (tie.spec (λ c κs. search needs) (λ c κs. search needs) returns (λ c κs. search needs)
+    (λ c κs. search needs) returns-2 (λ c κs. search needs) (λ c κs. search needs) returns-3 (λ c κs. search needs) returns-4)

@@ -11,19 +11,16 @@ use Rattle.chart_rows.proofs.decode.ref_or_none.Tie as tie
 absent : (c : tie.After-is-absent) {b : Bool} → c .is-absent .result ≡ b → is-absent (c .before .args .z) ≡ b
 absent c e = said (is-absent) (c .before .fits .z) (c .is-absent .ensures) e
 
-is-absent-requires : tie.Need-is-absent-requires
-is-absent-requires c κs = search needs
-
 returns : tie.Need-returns
 unfolding ref-or-none
 returns c = rw (absent (c .before) (c .if1 .taken))
 
-reference-requires : tie.Need-reference-requires
-reference-requires c κs = search needs
-
 returns-2 : tie.Need-returns-2
 unfolding ref-or-none
-returns-2 c = rw (absent (c .before .before) (c .before .if1 .left), said ref (c .before .before .before .fits .z) (c .reference .ensures) refl)
+returns-2 c = rw (
+  absent (c .before .before) (c .before .if1 .left),
+  said ref (c .before .before .before .fits .z) (c .reference .ensures) refl,
+)
 
 pub ref-or-none-spec : {M : Type 1} → statement M
-ref-or-none-spec = tie.close (tie.spec is-absent-requires returns reference-requires returns-2)
+ref-or-none-spec = tie.close (tie.spec (λ c κs. search needs) returns (λ c κs. search needs) returns-2)

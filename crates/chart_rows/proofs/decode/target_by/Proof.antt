@@ -14,38 +14,26 @@ h c e = said (is-letter 104) (c .before .fits .h) (c .is-letter .ensures) e
 absent : (c : tie.After-is-absent) {b : Bool} → c .is-absent .result ≡ b → is-absent (c .before .before .before .args .h) ≡ b
 absent c e = said (is-absent) (c .before .before .before .fits .h) (c .is-absent .ensures) e
 
-is-letter-requires : tie.Need-is-letter-requires
-is-letter-requires c κs = search needs
-
-reference-requires : tie.Need-reference-requires
-reference-requires c κs = search needs
+abbrev is-letter-from-reference2 : tie.After-reference2 → tie.After-is-letter
+is-letter-from-reference2 c = c .before .before .before .before
 
 returns : tie.Need-returns
 unfolding target-by
 returns c = rw (h (c .before .before) (c .before .if1 .taken), said ref (c .before .before .before .fits .s) (c .reference .ensures) refl)
 
-is-absent-requires : tie.Need-is-absent-requires
-is-absent-requires c κs = search needs
-
 returns-2 : tie.Need-returns-2
 unfolding target-by
 returns-2 c = rw (h (c .before .before .before) (c .before .before .if1 .left), absent (c .before) (c .if2 .taken))
 
-reference-requires-2 : tie.Need-reference-requires-2
-reference-requires-2 c κs = search needs
-
 returns-3 : tie.Need-returns-3
 unfolding target-by
-returns-3 c = rw (h (c .before .before .before .before) (c .before .before .before .if1 .left), absent (c .before .before) (c .before .if2 .left), said ref (c .before .before .before .before .before .fits .s) (c .reference2 .ensures) refl)
+returns-3 c = rw (
+  h (is-letter-from-reference2 c) (c .before .before .before .if1 .left),
+  absent (c .before .before)
+      (c .before .if2 .left),
+  said ref (is-letter-from-reference2 c .before .fits .s) (c .reference2 .ensures) refl,
+)
 
 pub target-by-spec : {M : Type 1} → statement M
-target-by-spec =
-    tie.close
-    (tie.spec
-    is-letter-requires
-    reference-requires
-    returns
-    is-absent-requires
-    returns-2
-    reference-requires-2
-    returns-3)
+target-by-spec = tie.close (tie.spec (λ c κs. search needs)
+    (λ c κs. search needs) returns (λ c κs. search needs) returns-2 (λ c κs. search needs) returns-3)

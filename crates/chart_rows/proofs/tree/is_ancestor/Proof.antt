@@ -15,6 +15,9 @@ Inv-loop chart a d at₀ fuel₀ at fuel = has a (climb (chart-of chart) fuel at
 abbrev μ-loop : tie.MeasureT-loop
 μ-loop chart a d at₀ fuel₀ at fuel = fuel
 
+abbrev at-loop-from-then2 : tie.Then2 Inv-loop μ-loop → tie.At-loop Inv-loop μ-loop
+at-loop-from-then2 c = c .before .before .before .before
+
 loop-holds : tie.Need-loop-holds Inv-loop μ-loop
 unfolding ancestors
 loop-holds c = refl
@@ -25,26 +28,19 @@ returns c =
     let w = c .before .before .loop in
     sym (climbed-root (chart-of (a .chart .now)) (a .a) (w .fuel) (w .at) (c .if1 .taken)) ∙ w .inv
 
-parent-of-requires : tie.Need-parent-of-requires Inv-loop μ-loop
-parent-of-requires c κs = search needs
-
 returns-2 : tie.Need-returns-2 Inv-loop μ-loop
 returns-2 c =
-    let a = c .before .before .before .before .before .args in
-    let w = c .before .before .before .before .loop in
-    sym (climbed-here (chart-of (a .chart .now)) (a .a) (w .fuel) (w .at) (omega arith) (c .before .before .if1 .left) (c .if2 .taken ∙ c .before .parent-of .ensures)) ∙ w .inv
-
-sub-fuel : tie.Need-sub-fuel Inv-loop μ-loop
-sub-fuel c = omega arith
-
-loop-less : tie.Need-loop-less Inv-loop μ-loop
-loop-less c = omega arith
+    let a = at-loop-from-then2 c .before .args in
+    let w = at-loop-from-then2 c .loop in
+    sym (climbed-here (chart-of (a .chart .now)) (a .a)
+    (w .fuel) (w .at) (omega arith) (c .before .before .if1 .left) (c .if2 .taken ∙ c .before .parent-of .ensures)) ∙ w .inv
 
 loop-again : tie.Need-loop-again Inv-loop μ-loop
 loop-again c =
     let a = c .before .before .before .before .before .args in
     let w = c .before .before .before .before .loop in
-    rw (c .before .parent-of .ensures) (climbed-on (chart-of (a .chart .now)) (a .a) (w .fuel) (w .at) (omega arith) (c .before .before .if1 .left) (λ e. c .if2 .left (e ∙ sym (c .before .parent-of .ensures)))) ∙ w .inv
+    rw (c .before .parent-of .ensures) (climbed-on (chart-of (a .chart .now)) (a .a) (w .fuel)
+    (w .at) (omega arith) (c .before .before .if1 .left) (λ e. c .if2 .left (e ∙ sym (c .before .parent-of .ensures)))) ∙ w .inv
 
 returns-3 : tie.Need-returns-3 Inv-loop μ-loop
 returns-3 c =
@@ -53,16 +49,5 @@ returns-3 c =
     sym (climbed-out (chart-of (a .chart .now)) (a .a) (w .fuel) (w .at) (omega arith)) ∙ w .inv
 
 pub is-ancestor-spec : {M : Type 1} → statement M
-is-ancestor-spec =
-    tie.close
-    (tie.spec
-    Inv-loop
-    μ-loop
-    loop-holds
-    returns
-    parent-of-requires
-    returns-2
-    sub-fuel
-    loop-less
-    loop-again
-    returns-3)
+is-ancestor-spec = tie.close (tie.spec Inv-loop
+    μ-loop loop-holds returns (λ c κs. search needs) returns-2 (λ c. omega arith) (λ c. omega arith) loop-again returns-3)

@@ -9,13 +9,10 @@ use Rattle.chart_rows.proofs.tree.is_child.Tie as tie
 returns : tie.Need-returns
 returns c = sym (child-root (chart-of (c .before .args .chart .now)) (c .before .args .s) (c .before .args .d) (c .if1 .taken))
 
-parent-of-requires : tie.Need-parent-of-requires
-parent-of-requires c κs = search needs
-
 returns-2 : tie.Need-returns-2
 returns-2 c =
     let a = c .before .before .args in
     rw (c .parent-of .ensures) (sym (child-below (chart-of (a .chart .now)) (a .s) (a .d) (c .before .if1 .left)))
 
 pub is-child-spec : {M : Type 1} → statement M
-is-child-spec = tie.close (tie.spec returns parent-of-requires returns-2)
+is-child-spec = tie.close (tie.spec returns (λ c κs. search needs) returns-2)

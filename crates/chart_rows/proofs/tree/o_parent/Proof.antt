@@ -11,32 +11,29 @@ use Rattle.chart_rows.proofs.tree.o_parent.Tie as tie
 -- the test, of the parent itself
 test : (c : tie.After-is-o) {b : Bool}
     → c .is-o .result ≡ b
-    → is-o (kind-of (chart-of (c .before .before .before .before .args .chart .now)) (parent-of (chart-of (c .before .before .before .before .args .chart .now)) (c .before .before .before .before .args .s))) ≡ b
+    → is-o (kind-of (chart-of (c .before .before .before .before .args .chart .now))
+    (parent-of (chart-of (c .before .before .before .before .args .chart .now)) (c .before .before .before .before .args .s))) ≡ b
 test c e = rw (c .before .kind-of .ensures, c .before .before .parent-of .ensures) at (sym (c .is-o .ensures) ∙ e)
+
+abbrev else1-from-else2 : tie.Else2 → tie.Else1
+else1-from-else2 c = c .before .before .before .before
 
 returns : tie.Need-returns
 returns c = sym (o-parent-root (chart-of (c .before .args .chart .now)) (c .before .args .s) (c .if1 .taken))
 
-parent-of-requires : tie.Need-parent-of-requires
-parent-of-requires c κs = search needs
-
-kind-of-requires : tie.Need-kind-of-requires
-kind-of-requires c κs = search needs
-
-is-o-requires : tie.Need-is-o-requires
-is-o-requires c κs = search needs
-
 returns-2 : tie.Need-returns-2
 returns-2 c =
     let a = c .before .before .before .before .before .args in
-    rw (o-parent-below (chart-of (a .chart .now)) (a .s) (c .before .before .before .before .if1 .left), test (c .before) (c .if2 .taken), c .before .before .before .parent-of .ensures)
+    rw (
+      o-parent-below (chart-of (a .chart .now)) (a .s) (c .before .before .before .before .if1 .left),
+      test (c .before) (c .if2 .taken),
+      c .before .before .before .parent-of .ensures,
+    )
 
 returns-3 : tie.Need-returns-3
 returns-3 c =
-    let a = c .before .before .before .before .before .args in
-    rw (o-parent-below (chart-of (a .chart .now)) (a .s) (c .before .before .before .before .if1 .left), test (c .before) (c .if2 .left))
+    let a = else1-from-else2 c .before .args in
+    rw (o-parent-below (chart-of (a .chart .now)) (a .s) (else1-from-else2 c .if1 .left), test (c .before) (c .if2 .left))
 
 pub o-parent-spec : {M : Type 1} → statement M
-o-parent-spec =
-    tie.close
-    (tie.spec returns parent-of-requires kind-of-requires is-o-requires returns-2 returns-3)
+o-parent-spec = tie.close (tie.spec returns (λ c κs. search needs) (λ c κs. search needs) (λ c κs. search needs) returns-2 returns-3)

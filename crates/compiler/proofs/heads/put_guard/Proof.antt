@@ -36,6 +36,5 @@ returns-2 c =
     ) at (c .before .put-three2 .ensures))
 
 pub put-guard-spec : {M : Type 1} → statement M
-put-guard-spec =
-    tie.close (tie.spec (λ c. search needs) put-three-requires (λ c. search needs) number-requires
-    (λ c κs. search needs) put-three-requires-2 (λ c. search needs) returns (λ c. search needs) returns-2)
+put-guard-spec = tie.close (tie.spec (λ c. search needs) put-three-requires (λ c. search needs)
+    number-requires (λ c κs. search needs) put-three-requires-2 (λ c. search needs) returns (λ c. search needs) returns-2)

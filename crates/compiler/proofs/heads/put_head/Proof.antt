@@ -153,7 +153,9 @@ returns c =
           .before .before .before .number .ok),
       c .before .before .before .before .before .before .before .before .before .before .before .before
           .before .before .before .number .ensures,
-      back32 (c .before .before .before .before .before .before .before .before .before .before .before .before .before .before .number2 .result)
+      back32
+          (c .before .before .before .before .before
+          .before .before .before .before .before .before .before .before .before .number2 .result)
           (c .before .before .before .before .before .before .before .before .before .before .before .before .before .before .number2 .ok),
       c .before .before .before .before .before .before .before .before .before .before .before .before
           .before .before .number2 .ensures,
@@ -176,7 +178,6 @@ returns c =
     ) at (c .before .put-four .ensures))
 
 pub put-head-spec : {M : Type 1} → statement M
-put-head-spec =
-    tie.close (tie.spec (λ c κs. search needs) span-of-requires number-requires number-requires-2
-    number-requires-3 put-three-requires put-guard-requires sub-last number-requires-4 number-requires-5
-    number-requires-6 number-requires-7 put-four-requires (λ c. search needs) returns)
+put-head-spec = tie.close (tie.spec (λ c κs. search needs)
+    span-of-requires number-requires number-requires-2 number-requires-3 put-three-requires put-guard-requires sub-last
+    number-requires-4 number-requires-5 number-requires-6 number-requires-7 put-four-requires (λ c. search needs) returns)

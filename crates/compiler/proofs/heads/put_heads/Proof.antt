@@ -123,6 +123,5 @@ returns : tie.Need-returns Inv-loop μ-loop
 returns c = heading-end (c .before .before .pre .1) (c .before .loop .inv) (c .loop-test .left)
 
 pub put-heads-spec : {M : Type 1} → statement M
-put-heads-spec =
-    tie.close (tie.spec Inv-loop μ-loop loop-holds mul-t element-copy-out-t block-length-requires
-    put-head-requires add-from add-j loop-less loop-again same-length returns)
+put-heads-spec = tie.close (tie.spec Inv-loop μ-loop loop-holds
+    mul-t element-copy-out-t block-length-requires put-head-requires add-from add-j loop-less loop-again same-length returns)

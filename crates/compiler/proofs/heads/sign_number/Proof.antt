@@ -17,6 +17,4 @@ unfolding sign-number
 returns-3 c = rw (c .enum-told3 .given .1)
 
 pub sign-number-spec : {M : Type 1} → statement M
-sign-number-spec =
-    tie.close
-    (tie.spec (λ c. search needs) (λ c. search needs) (λ c. search needs) returns returns-2 returns-3)
+sign-number-spec = tie.close (tie.spec (λ c. search needs) (λ c. search needs) (λ c. search needs) returns returns-2 returns-3)

@@ -7,42 +7,28 @@ use borrow.Author.Needs.{needs}
 use Rattle.console.proofs.printed.put_entry.Statement.{statement}
 use Rattle.console.proofs.printed.put_entry.Tie as tie
 
-put-numeral-requires : tie.Need-put-numeral-requires
-put-numeral-requires c κs = search needs
+abbrev put2-from-slice-known7 : tie.After-slice-known7 → tie.After-put2
+put2-from-slice-known7 c = c .before .before .before .before .before .before .before .before .before .before
 
-put-requires : tie.Need-put-requires
-put-requires c κs = search needs
+abbrev put-numeral-from-slice-known7 : tie.After-slice-known7 → tie.After-put-numeral
+put-numeral-from-slice-known7 c =
+    put2-from-slice-known7 c .before .before .before .before .before .before .before .before .before .before .before .before
 
-put-numeral-requires-2 : tie.Need-put-numeral-requires-2
-put-numeral-requires-2 c κs = search needs
-
-put-requires-2 : tie.Need-put-requires-2
-put-requires-2 c κs = search needs
-
-put-numeral-requires-3 : tie.Need-put-numeral-requires-3
-put-numeral-requires-3 c κs = search needs
-
-put-requires-3 : tie.Need-put-requires-3
-put-requires-3 c κs = search needs
-
-same-length : tie.Need-same-length
-same-length c = search needs
+abbrev start-from-slice-known7 : tie.After-slice-known7 → tie.Start
+start-from-slice-known7 c = put-numeral-from-slice-known7 c .before .before .before
 
 returns : tie.Need-returns
 returns c =
-    let s = c .before .before .before .before .before .before .before .before .before .before .before .before .before .before .before .before .before .before .before .before .before .before .before .before .before in
-    let e = entry-steps _ _ _ _ _ _ _ _ _ _ (rw (toZ-ofZ (c .before .before .before .before .before .before .before .before .before .before .before .before .before .before .before .before .before .before .before .before .before .before .before .before .before .fits .first)) at (c .before .before .before .before .before .before .before .before .before .before .before .before .before .before .before .before .before .before .before .before .before .before .put-numeral .ensures)) (c .before .before .before .before .before .before .before .before .before .before .before .before .before .before .before .before .before .before .put .ensures) (rw (toZ-ofZ (c .before .before .before .before .before .before .before .before .before .before .before .before .before .before .before .before .before .before .before .before .before .before .before .before .before .fits .second)) at (c .before .before .before .before .before .before .before .before .before .before .before .before .before .before .put-numeral2 .ensures)) (c .before .before .before .before .before .before .before .before .before .before .put2 .ensures) (rw (toZ-ofZ (c .before .before .before .before .before .before .before .before .before .before .before .before .before .before .before .before .before .before .before .before .before .before .before .before .before .fits .third)) at (c .before .before .before .before .before .before .put-numeral3 .ensures)) (c .before .before .put3 .ensures) in
+    let s = start-from-slice-known7 c in
+    let e = entry-steps _ _ _ _ _ _ _ _ _ _
+    (rw (toZ-ofZ (start-from-slice-known7 c .fits .first)) at (put-numeral-from-slice-known7 c .put-numeral .ensures))
+    (put2-from-slice-known7 c .before .before .before .before .before .before .before .before .put .ensures)
+    (rw (toZ-ofZ (start-from-slice-known7 c .fits .second)) at
+    (put2-from-slice-known7 c .before .before .before .before .put-numeral2 .ensures))
+    (put2-from-slice-known7 c .put2 .ensures) (rw (toZ-ofZ (start-from-slice-known7 c .fits .third)) at
+    (c .before .before .before .before .before .before .put-numeral3 .ensures)) (c .before .before .put3 .ensures) in
     (e, λ h. place-after _ _ _ LINE _ e (entry-room _ _ _ (s .fits .first .sfits) (s .fits .second .sfits) (s .fits .third .sfits)) h)
 
 pub put-entry-spec : {M : Type 1} → statement M
-put-entry-spec =
-    tie.close
-    (tie.spec
-    put-numeral-requires
-    put-requires
-    put-numeral-requires-2
-    put-requires-2
-    put-numeral-requires-3
-    put-requires-3
-    same-length
-    returns)
+put-entry-spec = tie.close (tie.spec (λ c κs. search needs) (λ c κs. search needs)
+    (λ c κs. search needs) (λ c κs. search needs) (λ c κs. search needs) (λ c κs. search needs) (λ c. search needs) returns)

@@ -6,49 +6,46 @@ use borrow.Author.Needs.{needs}
 use Rattle.console.proofs.printed.report.Statement.{statement}
 use Rattle.console.proofs.printed.report.Tie as tie
 
-held-of-requires : tie.Need-held-of-requires
-held-of-requires c κs = search needs
+abbrev put4-from-slice-known8 : tie.After-slice-known8 → tie.After-put4
+put4-from-slice-known8 c = c .before .before .before .before .before .before
 
-put-requires : tie.Need-put-requires
-put-requires c κs = search needs
+abbrev put-digits2-from-slice-known8 : tie.After-slice-known8 → tie.After-put-digits2
+put-digits2-from-slice-known8 c = put4-from-slice-known8 c .before .before .before .before
 
-put-requires-2 : tie.Need-put-requires-2
-put-requires-2 c κs = search needs
+abbrev put3-from-slice-known8 : tie.After-slice-known8 → tie.After-put3
+put3-from-slice-known8 c = put-digits2-from-slice-known8 c .before .before .before .before
 
-put-digits-requires : tie.Need-put-digits-requires
-put-digits-requires c κs = search needs
+abbrev put-digits-from-slice-known8 : tie.After-slice-known8 → tie.After-put-digits
+put-digits-from-slice-known8 c = put3-from-slice-known8 c .before .before .before .before
 
-put-requires-3 : tie.Need-put-requires-3
-put-requires-3 c κs = search needs
+abbrev put2-from-slice-known8 : tie.After-slice-known8 → tie.After-put2
+put2-from-slice-known8 c = put-digits-from-slice-known8 c .before .before .before .before
 
-put-digits-requires-2 : tie.Need-put-digits-requires-2
-put-digits-requires-2 c κs = search needs
+abbrev put-from-slice-known8 : tie.After-slice-known8 → tie.After-put
+put-from-slice-known8 c = put2-from-slice-known8 c .before .before .before .before
 
-put-requires-4 : tie.Need-put-requires-4
-put-requires-4 c κs = search needs
+abbrev held-of-from-slice-known8 : tie.After-slice-known8 → tie.After-held-of
+held-of-from-slice-known8 c = put-from-slice-known8 c .before .before
 
-put-entries-requires : tie.Need-put-entries-requires
-put-entries-requires c κs = search needs
-
-same-length : tie.Need-same-length
-same-length c = search needs
+abbrev start-from-slice-known8 : tie.After-slice-known8 → tie.Start
+start-from-slice-known8 c = held-of-from-slice-known8 c .before .before
 
 returns : tie.Need-returns
 returns c =
-    let e = shown-steps _ _ _ _ _ _ _ _ _ _ _ _ (c .before .before .before .before .before .before .before .before .before .before .before .before .before .before .before .before .before .before .before .before .before .before .before .before .before .before .before .before .held-of .ensures) (c .before .before .before .before .before .before .before .before .before .before .before .before .before .before .before .before .before .before .before .before .before .before .before .before .before .before .put .ensures) (c .before .before .before .before .before .before .before .before .before .before .before .before .before .before .before .before .before .before .before .before .before .before .put2 .ensures) (c .before .before .before .before .before .before .before .before .before .before .before .before .before .before .before .before .before .before .put-digits .ensures) (c .before .before .before .before .before .before .before .before .before .before .before .before .before .before .put3 .ensures) (c .before .before .before .before .before .before .before .before .before .before .put-digits2 .ensures) (c .before .before .before .before .before .before .put4 .ensures) (c .before .before .put-entries .ensures .0) in
-    (e, report-place (c .before .before .before .before .before .before .before .before .before .before .before .before .before .before .before .before .before .before .before .before .before .before .before .before .before .before .before .before .before .before .args .trace .now) _ _ _ _ _ _ _ _ _ _ _ _ _ (c .before .before .before .before .before .before .before .before .before .before .before .before .before .before .before .before .before .before .before .before .before .before .before .before .before .before .before .before .held-of .ensures) (c .before .before .before .before .before .before .before .before .before .before .before .before .before .before .before .before .before .before .before .before .before .before .before .before .before .before .put .ensures) (c .before .before .before .before .before .before .before .before .before .before .before .before .before .before .before .before .before .before .before .before .before .before .put2 .ensures) (c .before .before .before .before .before .before .before .before .before .before .before .before .before .before .before .before .before .before .put-digits .ensures) (c .before .before .before .before .before .before .before .before .before .before .before .before .before .before .put3 .ensures) (c .before .before .before .before .before .before .before .before .before .before .put-digits2 .ensures) (c .before .before .before .before .before .before .put4 .ensures) (c .before .before .put-entries .ensures .1) (c .before .before .before .before .before .before .before .before .before .before .before .before .before .before .before .before .before .before .before .before .before .before .before .before .before .before .before .before .before .before .fits .number .fits) (c .before .before .before .before .before .before .before .before .before .before .before .before .before .before .before .before .before .before .before .before .before .before .before .before .before .before .before .before .held-of .ok))
+    let e = shown-steps _ _ _ _ _ _ _ _ _ _ _ _ (held-of-from-slice-known8 c .held-of .ensures)
+    (put-from-slice-known8 c .put .ensures) (put2-from-slice-known8 c .put2 .ensures)
+    (put-digits-from-slice-known8 c .put-digits .ensures)
+    (put3-from-slice-known8 c .put3 .ensures) (put-digits2-from-slice-known8 c .put-digits2 .ensures)
+    (put4-from-slice-known8 c .put4 .ensures) (c .before .before .put-entries .ensures .0) in (
+      e,
+      report-place (start-from-slice-known8 c .args .trace .now) _ _ _ _ _ _ _ _ _ _ _ _ _
+          (held-of-from-slice-known8 c .held-of .ensures) (put-from-slice-known8 c .put .ensures)
+          (put2-from-slice-known8 c .put2 .ensures) (put-digits-from-slice-known8 c .put-digits .ensures)
+          (put3-from-slice-known8 c .put3 .ensures) (put-digits2-from-slice-known8 c .put-digits2 .ensures)
+          (put4-from-slice-known8 c .put4 .ensures) (c .before .before .put-entries .ensures .1)
+          (start-from-slice-known8 c .fits .number .fits) (held-of-from-slice-known8 c .held-of .ok),
+    )
 
 pub report-spec : {M : Type 1} → statement M
-report-spec =
-    tie.close
-    (tie.spec
-    held-of-requires
-    put-requires
-    put-requires-2
-    put-digits-requires
-    put-requires-3
-    put-digits-requires-2
-    put-requires-4
-    put-entries-requires
-    same-length
-    returns)
+report-spec = tie.close (tie.spec (λ c κs. search needs) (λ c κs. search needs) (λ c κs. search needs) (λ c κs. search needs)
+    (λ c κs. search needs) (λ c κs. search needs) (λ c κs. search needs) (λ c κs. search needs) (λ c. search needs) returns)

@@ -28,17 +28,5 @@ returns-2 : tie.Need-returns-2 Inv-loop μ-loop
 returns-2 c = collects-line _ _ _ _ _ (c .before .before .before .loop .inv) (c .if1 .taken)
 
 pub collect-spec : {M : Type 1} → statement M
-collect-spec =
-    tie.close
-    (tie.spec
-    Inv-loop
-    μ-loop
-    loop-holds
-    (λ c. search needs)
-    (λ c. search needs)
-    (λ c κs. search needs)
-    (λ c. search needs)
-    (λ c. search needs)
-    loop-again
-    returns
-    returns-2)
+collect-spec = tie.close (tie.spec Inv-loop μ-loop loop-holds (λ c. search needs)
+    (λ c. search needs) (λ c κs. search needs) (λ c. search needs) (λ c. search needs) loop-again returns returns-2)

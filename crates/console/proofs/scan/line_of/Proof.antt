@@ -5,23 +5,9 @@ use borrow.Author.Needs.{needs}
 use Rattle.console.proofs.scan.line_of.Statement.{statement}
 use Rattle.console.proofs.scan.line_of.Tie as tie
 
-enum-known-event : tie.Need-enum-known-event
-enum-known-event c = search needs
-
-posts-requires : tie.Need-posts-requires
-posts-requires c κs = search needs
-
-enum-told : tie.Need-enum-told
-enum-told c = search needs
-
-posts-requires-2 : tie.Need-posts-requires-2
-posts-requires-2 c κs = search needs
-
-enum-told-2 : tie.Need-enum-told-2
-enum-told-2 c = search needs
-
 returns : tie.Need-returns
-returns c = by-number _ _ _ _ (c .before .before .event .given .1) (rw (back32 (c .before .before .event .given .0 .0) (c .before .known-told .given .0 .1)) at (c .posts .ensures))
+returns c = by-number _ _ _ _ (c .before .before .event .given .1)
+    (rw (back32 (c .before .before .event .given .0 .0) (c .before .known-told .given .0 .1)) at (c .posts .ensures))
 
 returns-2 : tie.Need-returns-2
 returns-2 c = by-beyond _ _ _ (c .before .enum-told .given .1) (c .posts2 .ensures)
@@ -30,14 +16,5 @@ returns-3 : tie.Need-returns-3
 returns-3 c = by-none _ _ (c .enum-told2 .given .1)
 
 pub line-of-spec : {M : Type 1} → statement M
-line-of-spec =
-    tie.close
-    (tie.spec
-    enum-known-event
-    posts-requires
-    enum-told
-    posts-requires-2
-    enum-told-2
-    returns
-    returns-2
-    returns-3)
+line-of-spec = tie.close (tie.spec (λ c. search needs)
+    (λ c κs. search needs) (λ c. search needs) (λ c κs. search needs) (λ c. search needs) returns returns-2 returns-3)

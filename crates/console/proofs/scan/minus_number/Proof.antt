@@ -7,9 +7,6 @@ use Rattle.console.proofs.scan.minus_number.Tie as tie
 returns : tie.Need-returns
 returns c = minus-none _ (c .if1 .taken)
 
-cast-t4 : tie.Need-cast-t4
-cast-t4 c = search needs
-
 sub-t5 : tie.Need-sub-t5
 sub-t5 c = minus-fits _ (c .if2 .taken) (c .before .if1 .left)
 
@@ -20,4 +17,4 @@ returns-3 : tie.Need-returns-3
 returns-3 c = past-minus _ (c .if2 .left)
 
 pub minus-number-spec : {M : Type 1} → statement M
-minus-number-spec = tie.close (tie.spec returns cast-t4 sub-t5 returns-2 returns-3)
+minus-number-spec = tie.close (tie.spec returns (λ c. search needs) sub-t5 returns-2 returns-3)

@@ -12,11 +12,8 @@ returns c = byte-low _ _ (c .if1 .taken)
 returns-2 : tie.Need-returns-2
 returns-2 c = byte-high _ _ (c .before .if1 .left) (c .if2 .taken)
 
-with-digit-requires : tie.Need-with-digit-requires
-with-digit-requires c κs = search needs
-
 returns-3 : tie.Need-returns-3
 returns-3 c = byte-digit _ _ _ (c .before .before .if1 .left) (c .before .if2 .left) (ap Negative (c .with-digit .ensures))
 
 pub negative-fed-spec : {M : Type 1} → statement M
-negative-fed-spec = tie.close (tie.spec returns returns-2 with-digit-requires returns-3)
+negative-fed-spec = tie.close (tie.spec returns returns-2 (λ c κs. search needs) returns-3)

@@ -4,9 +4,6 @@ use borrow.Author.Needs.{needs}
 use Rattle.console.proofs.scan.plain_number.Statement.{statement}
 use Rattle.console.proofs.scan.plain_number.Tie as tie
 
-cast-t4 : tie.Need-cast-t4
-cast-t4 c = search needs
-
 returns : tie.Need-returns
 returns c = in-plain _ (c .if1 .taken)
 
@@ -14,4 +11,4 @@ returns-2 : tie.Need-returns-2
 returns-2 c = past-plain _ (c .if1 .left)
 
 pub plain-number-spec : {M : Type 1} → statement M
-plain-number-spec = tie.close (tie.spec cast-t4 returns returns-2)
+plain-number-spec = tie.close (tie.spec (λ c. search needs) returns returns-2)

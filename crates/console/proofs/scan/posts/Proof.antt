@@ -7,17 +7,11 @@ use Rattle.meaning.specs.Program.{input-by}
 use Rattle.console.proofs.scan.posts.Statement.{statement}
 use Rattle.console.proofs.scan.posts.Tie as tie
 
-enum-known-argument : tie.Need-enum-known-argument
-enum-known-argument c = search needs
-
-enum-told : tie.Need-enum-told
-enum-told c = search needs
-
-enum-told-2 : tie.Need-enum-told-2
-enum-told-2 c = search needs
-
 returns : tie.Need-returns
-returns c = rw (toZ-ofZ (c .before .before .before .fits .event), back32 (c .before .argument .given .0 .0) (c .known-told .given .0 .1)) (posts-number _ _ _ (c .before .argument .given .1))
+returns c = rw (
+  toZ-ofZ (c .before .before .before .fits .event),
+  back32 (c .before .argument .given .0 .0) (c .known-told .given .0 .1),
+) (posts-number _ _ _ (c .before .argument .given .1))
 
 returns-2 : tie.Need-returns-2
 returns-2 c = rw (toZ-ofZ (c .before .before .fits .event)) (posts-beyond _ _ (c .enum-told .given .1))
@@ -27,5 +21,4 @@ unfolding input-by
 returns-3 c = search needs
 
 pub posts-spec : {M : Type 1} → statement M
-posts-spec =
-    tie.close (tie.spec enum-known-argument enum-told enum-told-2 returns returns-2 returns-3)
+posts-spec = tie.close (tie.spec (λ c. search needs) (λ c. search needs) (λ c. search needs) returns returns-2 returns-3)

@@ -71,18 +71,5 @@ returns c =
     (k .loop .inv (k .before .before .before .args .owner) (k .before .first-row .ensures))
 
 pub put-acts-spec : {M : Type 1} → statement M
-put-acts-spec =
-    tie.close
-    (tie.spec
-    Inv-loop
-    μ-loop
-    (λ c κs. search needs)
-    (λ c κs. search needs)
-    loop-holds
-    (λ c κs. search needs)
-    put-instr-requires
-    next-row-requires
-    loop-less
-    loop-again
-    same-length
-    returns)
+put-acts-spec = tie.close (tie.spec Inv-loop μ-loop (λ c κs. search needs) (λ c κs. search needs)
+    loop-holds (λ c κs. search needs) put-instr-requires next-row-requires loop-less loop-again same-length returns)

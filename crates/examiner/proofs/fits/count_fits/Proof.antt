@@ -16,10 +16,4 @@ returns c =
     ∙ rw (back32 (x .result) (x .ok), x .ensures, toZ-ofZ (c .before .before .before .fits .z), back32 (y .result) (y .ok), y .ensures)
 
 pub count-fits-spec : {M : Type 1} → statement M
-count-fits-spec =
-    tie.close
-    (tie.spec
-    (λ c κs. search needs)
-    (λ c κs. search needs)
-    (λ c κs. search needs)
-    returns)
+count-fits-spec = tie.close (tie.spec (λ c κs. search needs) (λ c κs. search needs) (λ c κs. search needs) returns)

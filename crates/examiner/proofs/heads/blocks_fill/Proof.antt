@@ -88,21 +88,5 @@ returns-4 c =
 
 pub blocks-fill-spec : {M : Type 1} → statement M
 blocks-fill-spec =
-    tie.close
-    (tie.spec
-    Inv-loop
-    μ-loop
-    returns
-    heads-at-requires
-    loop-holds
-    (λ c κs. omega arith)
-    returns-2
-    (λ c κs. omega arith)
-    (λ c. omega arith)
-    returns-3
-    (λ c. search needs)
-    (λ c. search needs)
-    (λ c. omega arith)
-    (λ c. omega arith)
-    loop-again
-    returns-4)
+    tie.close (tie.spec Inv-loop μ-loop returns heads-at-requires loop-holds (λ c κs. omega arith) returns-2 (λ c κs. omega arith)
+    (λ c. omega arith) returns-3 (λ c. search needs) (λ c. search needs) (λ c. omega arith) (λ c. omega arith) loop-again returns-4)

@@ -25,12 +25,4 @@ returns-3 c =
     (said-own (λ z. eqZ z (pos 0)) (f .x) (c .same3 .ensures)))
 
 pub guard-absent-spec : {M : Type 1} → statement M
-guard-absent-spec =
-    tie.close
-    (tie.spec
-    (λ c κs. search needs)
-    returns
-    (λ c κs. search needs)
-    returns-2
-    (λ c κs. search needs)
-    returns-3)
+guard-absent-spec = tie.close (tie.spec (λ c κs. search needs) returns (λ c κs. search needs) returns-2 (λ c κs. search needs) returns-3)

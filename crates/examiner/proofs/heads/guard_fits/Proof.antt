@@ -51,14 +51,5 @@ returns-4 c =
     (said-own inRange (s .fits .x) (c .in-range .ensures))))
 
 pub guard-fits-spec : {M : Type 1} → statement M
-guard-fits-spec =
-    tie.close
-    (tie.spec
-    (λ c κs. search needs)
-    returns
-    (λ c κs. search needs)
-    returns-2
-    (λ c κs. search needs)
-    returns-3
-    (λ c κs. search needs)
-    returns-4)
+guard-fits-spec = tie.close (tie.spec (λ c κs. search needs)
+    returns (λ c κs. search needs) returns-2 (λ c κs. search needs) returns-3 (λ c κs. search needs) returns-4)

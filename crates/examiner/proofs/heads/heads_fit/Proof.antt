@@ -59,17 +59,5 @@ returns-2 c =
     each-done (head-fits (a .k)) HEAD-ROW (w .at) (w .left) (a .plan .now) (omega arith) (w .inv .0)
 
 pub heads-fit-spec : {M : Type 1} → statement M
-heads-fit-spec =
-    tie.close
-    (tie.spec
-    Inv-loop
-    μ-loop
-    heads-at-requires
-    loop-holds
-    head-fits-requires
-    returns
-    (λ c. search needs)
-    (λ c. omega arith)
-    (λ c. omega arith)
-    loop-again
-    returns-2)
+heads-fit-spec = tie.close (tie.spec Inv-loop μ-loop heads-at-requires
+    loop-holds head-fits-requires returns (λ c. search needs) (λ c. omega arith) (λ c. omega arith) loop-again returns-2)

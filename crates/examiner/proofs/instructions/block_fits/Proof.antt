@@ -47,16 +47,5 @@ returns-2 c =
     block-done (a .k) (w .at) (w .left) (a .plan .now) (omega arith) (w .inv .0)
 
 pub block-fits-spec : {M : Type 1} → statement M
-block-fits-spec =
-    tie.close
-    (tie.spec
-    Inv-loop
-    μ-loop
-    loop-holds
-    (λ c. omega arith)
-    instr-fits-requires
-    returns
-    (λ c. search needs)
-    (λ c. omega arith)
-    loop-again
-    returns-2)
+block-fits-spec = tie.close (tie.spec Inv-loop
+    μ-loop loop-holds (λ c. omega arith) instr-fits-requires returns (λ c. search needs) (λ c. omega arith) loop-again returns-2)

@@ -158,24 +158,6 @@ returns-3 c =
     blocks-done (a .k) (b .code-at .result) (w .done) (w .left) (w .head) (a .plan .now) (omega arith) (w .inv .0)
 
 pub code-fits-spec : {M : Type 1} → statement M
-code-fits-spec =
-    tie.close
-    (tie.spec
-    Inv-loop
-    μ-loop
-    code-at-requires
-    block-fits-requires
-    returns
-    heads-at-requires
-    loop-holds
-    (λ c κs. omega arith)
-    mul-block-fits
-    add-block-fits
-    block-fits-requires-2
-    returns-2
-    add-done
-    (λ c. search needs)
-    (λ c. omega arith)
-    (λ c. omega arith)
-    loop-again
-    returns-3)
+code-fits-spec = tie.close (tie.spec Inv-loop μ-loop
+    code-at-requires block-fits-requires returns heads-at-requires loop-holds (λ c κs. omega arith) mul-block-fits add-block-fits
+    block-fits-requires-2 returns-2 add-done (λ c. search needs) (λ c. omega arith) (λ c. omega arith) loop-again returns-3)

@@ -66,15 +66,5 @@ returns-4 c =
     (c .in-range3 .ensures ∙ ap inRange (back32 (v .var-row .result .first) (c .before .struct-told6 .given .1 .1 .0 .1))))))
 
 pub var-keeps-spec : {M : Type 1} → statement M
-var-keeps-spec =
-    tie.close
-    (tie.spec
-    (λ c κs. search needs)
-    (λ c κs. search needs)
-    returns
-    (λ c κs. search needs)
-    returns-2
-    (λ c κs. search needs)
-    returns-3
-    (λ c κs. search needs)
-    returns-4)
+var-keeps-spec = tie.close (tie.spec (λ c κs. search needs) (λ c κs. search needs)
+    returns (λ c κs. search needs) returns-2 (λ c κs. search needs) returns-3 (λ c κs. search needs) returns-4)

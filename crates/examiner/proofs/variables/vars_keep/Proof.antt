@@ -60,15 +60,5 @@ returns-2 c =
     every-done var-keeps (var-rows ns k) [] (w .v) (rw (var-rows-length ns k) h) (w .inv)
 
 pub vars-keep-spec : {M : Type 1} → statement M
-vars-keep-spec =
-    tie.close
-    (tie.spec
-    Inv-loop
-    μ-loop
-    (λ c. refl)
-    var-keeps-requires
-    returns
-    (λ c. omega arith)
-    (λ c. omega arith)
-    loop-again
-    returns-2)
+vars-keep-spec = tie.close
+    (tie.spec Inv-loop μ-loop (λ c. refl) var-keeps-requires returns (λ c. omega arith) (λ c. omega arith) loop-again returns-2)

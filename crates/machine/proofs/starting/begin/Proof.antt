@@ -47,6 +47,4 @@ returns-2 c =
     (else1-from-settle-arg6 (c .before .before) .if1 .left) (c .before .settle .ensures .0)
 
 pub begin-spec : {M : Type 1} → statement M
-begin-spec =
-    tie.close
-    (tie.spec run-block-requires (λ c. search needs) returns settle-requires (λ c. search needs) returns-2)
+begin-spec = tie.close (tie.spec run-block-requires (λ c. search needs) returns settle-requires (λ c. search needs) returns-2)

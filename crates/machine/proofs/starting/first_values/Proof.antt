@@ -51,6 +51,5 @@ returns c =
     (c .before .loop .inv .1) (omega (arith, vars-many (c .before .before .pre), c .loop-test .left))
 
 pub first-values-spec : {M : Type 1} → statement M
-first-values-spec =
-    tie.close (tie.spec Inv-loop μ-loop (λ c. (omega arith, refl)) var-row-requires mul-vars
-    array-set-from-vars (λ c. omega arith) (λ c. omega arith) loop-again returns)
+first-values-spec = tie.close (tie.spec Inv-loop μ-loop (λ c. (omega arith, refl))
+    var-row-requires mul-vars array-set-from-vars (λ c. omega arith) (λ c. omega arith) loop-again returns)

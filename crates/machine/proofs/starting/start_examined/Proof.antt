@@ -36,6 +36,5 @@ returns c =
     ) at (c .before .before .before .before .begin .ensures)) (c .before .finish .ensures)
 
 pub start-examined-spec : {M : Type 1} → statement M
-start-examined-spec =
-    tie.close (tie.spec (λ c κs. search needs) (λ c κs. search needs) (λ c κs. search needs) (λ c κs. search needs) begin-requires
-    finish-requires (λ c. search needs) returns)
+start-examined-spec = tie.close (tie.spec (λ c κs. search needs) (λ c κs. search needs)
+    (λ c κs. search needs) (λ c κs. search needs) begin-requires finish-requires (λ c. search needs) returns)

@@ -44,7 +44,5 @@ returns-4 c =
     (not-false _ (c .before .before .before .if3 .left))
 
 pub discard-examined-spec : {M : Type 1} → statement M
-discard-examined-spec =
-    tie.close (tie.spec (λ c κs. search needs) returns (λ c κs. search needs) (λ c κs. search needs) returns-2
-    (λ c κs. search needs) (λ c κs. search needs) returns-3 (λ c κs. search needs) (λ c κs. search needs)
-    returns-4)
+discard-examined-spec = tie.close (tie.spec (λ c κs. search needs) returns (λ c κs. search needs) (λ c κs. search needs)
+    returns-2 (λ c κs. search needs) (λ c κs. search needs) returns-3 (λ c κs. search needs) (λ c κs. search needs) returns-4)

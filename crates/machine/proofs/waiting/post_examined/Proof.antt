@@ -82,7 +82,6 @@ returns-5 c =
     (not-false _ (c .before .before .before .if4 .left))
 
 pub post-examined-spec : {M : Type 1} → statement M
-post-examined-spec =
-    tie.close (tie.spec (λ c κs. search needs) returns (λ c κs. search needs) (λ c κs. search needs) returns-2
-    (λ c κs. search needs) (λ c κs. search needs) returns-3 (λ c κs. search needs) (λ c κs. search needs)
-    returns-4 (λ c κs. search needs) (λ c κs. search needs) returns-5)
+post-examined-spec = tie.close (tie.spec (λ c κs. search needs)
+    returns (λ c κs. search needs) (λ c κs. search needs) returns-2 (λ c κs. search needs) (λ c κs. search needs)
+    returns-3 (λ c κs. search needs) (λ c κs. search needs) returns-4 (λ c κs. search needs) (λ c κs. search needs) returns-5)

@@ -36,14 +36,5 @@ returns-4 c =
     always-said (s .args .v) (s .args .g) (s .args .x) (r .0 .0 .1) (r .0 .1) (r .1)
 
 pub head-guard-by-spec : {M : Type 1} → statement M
-head-guard-by-spec =
-    tie.close
-    (tie.spec
-    (λ c κs. search needs)
-    (λ c κs. search needs)
-    (λ c κs. search needs)
-    (λ c κs. search needs)
-    returns
-    returns-2
-    returns-3
-    returns-4)
+head-guard-by-spec = tie.close (tie.spec (λ c κs. search needs)
+    (λ c κs. search needs) (λ c κs. search needs) (λ c κs. search needs) returns returns-2 returns-3 returns-4)

@@ -10,6 +10,5 @@ slice-aggregate-compile : tie.Need-slice-aggregate-compile
 slice-aggregate-compile c = sym (length-take-le _ _ (omega arith))
 
 pub print-short-spec : {M : Type 1} → statement M
-print-short-spec =
-    tie.close (tie.spec (λ c. search needs) (λ c. search needs) (λ c. search needs) (λ c. search needs) slice-aggregate-compile
-    (λ c κs. search needs) (λ c κs. search needs) (λ c. search needs))
+print-short-spec = tie.close (tie.spec (λ c. search needs) (λ c. search needs) (λ c. search needs)
+    (λ c. search needs) slice-aggregate-compile (λ c κs. search needs) (λ c κs. search needs) (λ c. search needs))

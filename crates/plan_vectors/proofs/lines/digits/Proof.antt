@@ -26,19 +26,5 @@ returns-2 : tie.Need-returns-2 Inv-loop μ-loop
 returns-2 c = (omega arith, omega arith)
 
 pub digits-spec : {M : Type 1} → statement M
-digits-spec =
-    tie.close
-    (tie.spec
-    Inv-loop
-    μ-loop
-    loop-holds
-    (λ c. search needs)
-    (λ c κs. search needs)
-    returns
-    (λ c. search needs)
-    (λ c. search needs)
-    (λ c κs. search needs)
-    (λ c. search needs)
-    (λ c. omega arith)
-    loop-again
-    returns-2)
+digits-spec = tie.close (tie.spec Inv-loop μ-loop loop-holds (λ c. search needs) (λ c κs. search needs) returns
+    (λ c. search needs) (λ c. search needs) (λ c κs. search needs) (λ c. search needs) (λ c. omega arith) loop-again returns-2)

@@ -30,22 +30,6 @@ loop-again c =
     (omega (arith, length-set (w .into) (w .count) x), length-set (w .into) (w .count) x ∙ w .inv .1)
 
 pub read-numbers-spec : {M : Type 1} → statement M
-read-numbers-spec =
-    tie.close
-    (tie.spec
-    Inv-loop
-    μ-loop
-    loop-holds
-    (λ c. search needs)
-    (λ c. search needs)
-    (λ c κs. search needs)
-    (λ c κs. search needs)
-    (λ c κs. search needs)
-    (λ c. search needs)
-    (λ c. search needs)
-    (λ c. search needs)
-    (λ c. search needs)
-    loop-less
-    loop-again
-    (λ c. search needs)
-    (λ c. search needs))
+read-numbers-spec = tie.close (tie.spec Inv-loop μ-loop loop-holds (λ c. search needs)
+    (λ c. search needs) (λ c κs. search needs) (λ c κs. search needs) (λ c κs. search needs) (λ c. search needs)
+    (λ c. search needs) (λ c. search needs) (λ c. search needs) loop-less loop-again (λ c. search needs) (λ c. search needs))

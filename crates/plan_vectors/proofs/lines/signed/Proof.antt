@@ -23,6 +23,5 @@ sub-result c =
     rw (back32 (x .result) (x .ok), x .ensures) (opposite (c .before .before .before .args .value) (omega arith))
 
 pub signed-spec : {M : Type 1} → statement M
-signed-spec =
-    tie.close
+signed-spec = tie.close
     (tie.spec (λ c κs. search needs) sub-result (λ c. search needs) (λ c. search needs) (λ c. search needs) (λ c. search needs))

@@ -21,5 +21,4 @@ returns-2 c =
     )
 
 pub append-spec : {M : Type 1} → statement M
-append-spec =
-    tie.close (tie.spec returns (λ c. search needs) (λ c. search needs) (λ c. search needs) returns-2)
+append-spec = tie.close (tie.spec returns (λ c. search needs) (λ c. search needs) (λ c. search needs) returns-2)

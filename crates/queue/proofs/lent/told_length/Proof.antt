@@ -14,5 +14,4 @@ returns-2 : tie.Need-returns-2
 returns-2 c = back32 _ (c .number2 .ok) ∙ c .number2 .ensures ∙ ap pos (sym (told-is _ (c .before .if1 .left)))
 
 pub told-length-spec : {M : Type 1} → statement M
-told-length-spec =
-    tie.close (tie.spec (λ c. search needs) (λ c κs. search needs) returns (λ c κs. search needs) returns-2)
+told-length-spec = tie.close (tie.spec (λ c. search needs) (λ c κs. search needs) returns (λ c κs. search needs) returns-2)

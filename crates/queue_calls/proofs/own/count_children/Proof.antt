@@ -17,6 +17,21 @@ Inv-loop chart active n all₀ on₀ next₀ all on next = Tallying (chart-of ch
 abbrev μ-loop : tie.MeasureT-loop
 μ-loop chart active n all₀ on₀ next₀ all on next = n - next
 
+abbrev in-loop-from-else2 : tie.Else2 Inv-loop μ-loop → tie.In-loop Inv-loop μ-loop
+in-loop-from-else2 c = c .before .before .before
+
+abbrev in-loop-from-else3 : tie.Else3 Inv-loop μ-loop → tie.In-loop Inv-loop μ-loop
+in-loop-from-else3 c = in-loop-from-else2 (c .before .before)
+
+abbrev state-count-from-else2 : tie.Else2 Inv-loop μ-loop → tie.After-state-count Inv-loop μ-loop
+state-count-from-else2 c = in-loop-from-else2 c .before .before
+
+abbrev at-loop-from-else3 : tie.Else3 Inv-loop μ-loop → tie.At-loop Inv-loop μ-loop
+at-loop-from-else3 c = in-loop-from-else3 c .before
+
+abbrev start-from-else2 : tie.Else2 Inv-loop μ-loop → tie.Start Inv-loop μ-loop
+start-from-else2 c = state-count-from-else2 c .before
+
 loop-holds : tie.Need-loop-holds Inv-loop μ-loop
 loop-holds c = tally-none _ _ _
 
@@ -30,48 +45,48 @@ loop-again-2 c =
 
 add-all : tie.Need-add-all Inv-loop μ-loop
 add-all c =
-    let w = c .before .before .before .before .loop .inv .counted _ (c .if2 .left) in
+    let w = in-loop-from-else2 c .before .loop .inv .counted _ (c .if2 .left) in
     omega (
       arith,
       w .most,
-      c .before .before .before .loop-test .taken,
-      c .before .before .before .before .before .state-count .ensures,
-      states-most (c .before .before .before .before .before .before .args .chart .now),
+      in-loop-from-else2 c .loop-test .taken,
+      state-count-from-else2 c .state-count .ensures,
+      states-most (start-from-else2 c .args .chart .now),
     )
 
 element-copy-out-if3 : tie.Need-element-copy-out-if3 Inv-loop μ-loop
 element-copy-out-if3 c = omega (
   arith,
-  c .before .before .before .loop-test .taken,
-  c .before .before .before .before .before .state-count .ensures,
+  in-loop-from-else2 c .loop-test .taken,
+  state-count-from-else2 c .state-count .ensures,
   states-most
-      (c .before .before .before .before .before .before .args .chart .now),
+      (start-from-else2 c .args .chart .now),
 )
 
 loop-again-3 : tie.Need-loop-again-3 Inv-loop μ-loop
 loop-again-3 c =
-    tally-off _ _ (c .before .before .before .before .before .before .loop .inv)
-    (c .before .before .before .before .before .loop-test .taken) (c .before .before .before .before .if1 .left)
+    tally-off _ _ (in-loop-from-else2 (c .before .before) .before .loop .inv)
+    (in-loop-from-else2 (c .before .before) .loop-test .taken) (c .before .before .before .before .if1 .left)
     (c .before .before .before .parent-of .ensures)
     (c .before .before .if2 .left) (not-true _ (c .if3 .taken))
 
 add-on : tie.Need-add-on Inv-loop μ-loop
 add-on c =
-    let w = c .before .before .before .before .before .before .loop .inv .counted _ (c .before .before .if2 .left) in
+    let w = at-loop-from-else3 c .loop .inv .counted _ (c .before .before .if2 .left) in
     omega (
       arith,
       w .most,
       w .fewer,
-      c .before .before .before .before .before .loop-test .taken,
-      c .before .before .before .before .before .before .before .state-count .ensures,
+      in-loop-from-else3 c .loop-test .taken,
+      at-loop-from-else3 c .before .state-count .ensures,
       states-most
-          (c .before .before .before .before .before .before .before .before .args .chart .now),
+          (at-loop-from-else3 c .before .before .args .chart .now),
     )
 
 loop-again-4 : tie.Need-loop-again-4 Inv-loop μ-loop
 loop-again-4 c =
-    tally-on _ _ (c .before .before .before .before .before .before .loop .inv)
-    (c .before .before .before .before .before .loop-test .taken) (c .before .before .before .before .if1 .left)
+    tally-on _ _ (at-loop-from-else3 c .loop .inv)
+    (in-loop-from-else3 c .loop-test .taken) (c .before .before .before .before .if1 .left)
     (c .before .before .before .parent-of .ensures)
     (c .before .before .if2 .left) (not-false _ (c .if3 .left))
 

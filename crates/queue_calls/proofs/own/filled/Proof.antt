@@ -6,20 +6,13 @@ use borrow.Author.Needs.{needs}
 use Rattle.queue_calls.proofs.own.filled.Statement.{statement}
 use Rattle.queue_calls.proofs.own.filled.Tie as tie
 
-place-of-requires : tie.Need-place-of-requires
-place-of-requires c κs = search needs
-
-enum-told : tie.Need-enum-told
-enum-told c = search needs
-
-enum-told-2 : tie.Need-enum-told-2
-enum-told-2 c = search needs
-
 returns : tie.Need-returns
-returns c = filled-empty (sym (rw (toZ-ofZ (c .before .before .before .fits .x)) at (c .before .before .place-of .ensures)) ∙ c .enum-told .given .1)
+returns c = filled-empty (sym (rw (toZ-ofZ (c .before .before .before .fits .x)) at (c .before .before .place-of .ensures))
+    ∙ c .enum-told .given .1)
 
 returns-2 : tie.Need-returns-2
-returns-2 c = filled-at (sym (rw (toZ-ofZ (c .before .before .before .fits .x)) at (c .before .before .place-of .ensures)) ∙ c .enum-told2 .given .1)
+returns-2 c = filled-at (sym (rw (toZ-ofZ (c .before .before .before .fits .x)) at (c .before .before .place-of .ensures))
+    ∙ c .enum-told2 .given .1)
 
 pub filled-spec : {M : Type 1} → statement M
-filled-spec = tie.close (tie.spec place-of-requires enum-told enum-told-2 returns returns-2)
+filled-spec = tie.close (tie.spec (λ c κs. search needs) (λ c. search needs) (λ c. search needs) returns returns-2)

@@ -41,6 +41,5 @@ returns c =
     (omega (arith, long (c .before .before), c .loop-test .left))
 
 pub rest-empty-spec : {M : Type 1} → statement M
-rest-empty-spec =
-    tie.close (tie.spec Inv-loop μ-loop (λ c. refl) (λ c. search needs) (λ c. search needs)
-    (λ c κs. search needs) (λ c. search needs) (λ c. search needs) loop-again returns)
+rest-empty-spec = tie.close (tie.spec Inv-loop μ-loop (λ c. refl) (λ c. search needs)
+    (λ c. search needs) (λ c κs. search needs) (λ c. search needs) (λ c. search needs) loop-again returns)

@@ -9,27 +9,28 @@ use borrow.Author.Needs.{needs}
 use Rattle.queue_calls.proofs.own.value_fits.Statement.{statement}
 use Rattle.queue_calls.proofs.own.value_fits.Tie as tie
 
-var-count-requires : tie.Need-var-count-requires
-var-count-requires c κs = search needs
+abbrev start-from-same : tie.After-same → tie.Start
+start-from-same c = c .before .before .before
 
-var-row-requires : tie.Need-var-row-requires
-var-row-requires c κs = search needs
+abbrev var-row-from-between : tie.After-between → tie.After-var-row
+var-row-from-between c = c .before .before .before
 
-between-requires : tie.Need-between-requires
-between-requires c κs = search needs
+abbrev start-from-between : tie.After-between → tie.Start
+start-from-between c = var-row-from-between c .before .before .before
 
 returns : tie.Need-returns
-returns c = let fl : SFits w32 (c .before .before .before .var-row .result .low) = search needs in
-    let fh : SFits w32 (c .before .before .before .var-row .result .high) = search needs in
-    (rw (toZ-ofZ fl, toZ-ofZ fh, toZ-ofZ (c .before .before .before .before .before .before .fits .x)) at (c .between .ensures)) ∙ value-there (chart-of (c .before .before .before .before .before .before .args .chart .now) .vars) (c .before .before .before .before .before .before .args .v) (c .before .before .before .before .before .before .args .x) (c .before .before .before .before .before .var-count .ensures) (c .before .before .before .before .if1 .taken) (c .before .before .before .var-row .ensures)
-
-same-requires : tie.Need-same-requires
-same-requires c κs = search needs
+returns c = let fl : SFits w32 (var-row-from-between c .var-row .result .low) = search needs in
+    let fh : SFits w32 (var-row-from-between c .var-row .result .high) = search needs in
+    (rw (toZ-ofZ fl, toZ-ofZ fh, toZ-ofZ (start-from-between c .fits .x)) at (c .between .ensures))
+    ∙ value-there (chart-of (start-from-between c .args .chart .now) .vars)
+    (start-from-between c .args .v) (start-from-between c .args .x) (var-row-from-between c .before .before .var-count .ensures)
+    (var-row-from-between c .before .if1 .taken) (var-row-from-between c .var-row .ensures)
 
 returns-2 : tie.Need-returns-2
-returns-2 c = (rw (toZ-ofZ (c .before .before .before .fits .x)) at (c .same .ensures)) ∙ value-unused (chart-of (c .before .before .before .args .chart .now) .vars) (c .before .before .before .args .v) (c .before .before .before .args .x) (c .before .before .var-count .ensures) (c .before .if1 .left)
+returns-2 c = (rw (toZ-ofZ (start-from-same c .fits .x)) at (c .same .ensures))
+    ∙ value-unused (chart-of (start-from-same c .args .chart .now) .vars)
+    (start-from-same c .args .v) (start-from-same c .args .x) (c .before .before .var-count .ensures) (c .before .if1 .left)
 
 pub value-fits-spec : {M : Type 1} → statement M
-value-fits-spec =
-    tie.close
-    (tie.spec var-count-requires var-row-requires between-requires returns same-requires returns-2)
+value-fits-spec = tie.close
+    (tie.spec (λ c κs. search needs) (λ c κs. search needs) (λ c κs. search needs) returns (λ c κs. search needs) returns-2)

@@ -32,6 +32,4 @@ returns-2 c =
     (else1-from-settle-arg5 (c .before .before) .if1 .left) (c .before .settle .ensures)
 
 pub react-spec : {M : Type 1} → statement M
-react-spec =
-    tie.close (tie.spec (λ c κs. search needs) (λ c. search needs) returns settle-requires (λ c. search needs)
-    returns-2)
+react-spec = tie.close (tie.spec (λ c κs. search needs) (λ c. search needs) returns settle-requires (λ c. search needs) returns-2)

@@ -101,8 +101,6 @@ returns-4 c =
     (c .before .before .before .before .react .ensures) (c .before .finish .ensures)
 
 pub run-ruled-spec : {M : Type 1} → statement M
-run-ruled-spec =
-    tie.close (tie.spec (λ c κs. search needs) (λ c. search needs) returns (λ c κs. search needs)
-    (λ c κs. search needs) (λ c. search needs) returns-2 (λ c κs. search needs) (λ c κs. search needs)
-    (λ c. search needs) returns-3 (λ c κs. search needs) (λ c κs. search needs) (λ c κs. search needs) react-requires finish-requires
-    (λ c. search needs) returns-4)
+run-ruled-spec = tie.close (tie.spec (λ c κs. search needs) (λ c. search needs) returns (λ c κs. search needs) (λ c κs. search needs)
+    (λ c. search needs) returns-2 (λ c κs. search needs) (λ c κs. search needs) (λ c. search needs) returns-3 (λ c κs. search needs)
+    (λ c κs. search needs) (λ c κs. search needs) react-requires finish-requires (λ c. search needs) returns-4)

@@ -80,6 +80,5 @@ returns-3 c =
     (c .before .settle .ensures)
 
 pub begin-spec : {M : Type 1} → statement M
-begin-spec =
-    tie.close (tie.spec enter-requires (λ c. search needs) returns by-defaults-requires (λ c. search needs)
-    returns-2 settle-requires (λ c. search needs) returns-3)
+begin-spec = tie.close (tie.spec enter-requires
+    (λ c. search needs) returns by-defaults-requires (λ c. search needs) returns-2 settle-requires (λ c. search needs) returns-3)

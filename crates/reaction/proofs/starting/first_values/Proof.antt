@@ -45,6 +45,5 @@ returns : tie.Need-returns Inv-loop μ-loop
 returns c = filled-all _ _ (c .before .loop .v) (c .before .loop .inv .1) (omega arith)
 
 pub first-values-spec : {M : Type 1} → statement M
-first-values-spec =
-    tie.close (tie.spec Inv-loop μ-loop (λ c κs. search needs) loop-holds (λ c κs. search needs) mul-vars
-    array-set-from-vars (λ c. omega arith) (λ c. omega arith) loop-again returns)
+first-values-spec = tie.close (tie.spec Inv-loop μ-loop (λ c κs. search needs)
+    loop-holds (λ c κs. search needs) mul-vars array-set-from-vars (λ c. omega arith) (λ c. omega arith) loop-again returns)

@@ -25,6 +25,5 @@ returns c =
     (c .before .before .before .before .begin .ensures)) (c .before .finish .ensures)
 
 pub start-ruled-spec : {M : Type 1} → statement M
-start-ruled-spec =
-    tie.close (tie.spec (λ c κs. search needs) (λ c κs. search needs) (λ c κs. search needs) (λ c κs. search needs) begin-requires
-    finish-requires (λ c. search needs) returns)
+start-ruled-spec = tie.close (tie.spec (λ c κs. search needs) (λ c κs. search needs)
+    (λ c κs. search needs) (λ c κs. search needs) begin-requires finish-requires (λ c. search needs) returns)

@@ -78,6 +78,5 @@ returns-2 c =
     (omega (arith, fires-long _ _ _ (c .before .before .pre .1), c .loop-test .left)))
 
 pub fire-all-spec : {M : Type 1} → statement M
-fire-all-spec =
-    tie.close (tie.spec Inv-loop μ-loop loop-holds mul-t element-copy-out-t fire-requires
-    (λ c. search needs) returns (λ c. omega arith) (λ c. omega arith) loop-again (λ c. search needs) returns-2)
+fire-all-spec = tie.close (tie.spec Inv-loop μ-loop loop-holds mul-t element-copy-out-t
+    fire-requires (λ c. search needs) returns (λ c. omega arith) (λ c. omega arith) loop-again (λ c. search needs) returns-2)

@@ -73,6 +73,5 @@ returns-3 c =
     (else2-from-then3 c .if2 .left) (c .before .before .before .fire-all .ensures) (c .if3 .taken)
 
 pub settle-spec : {M : Type 1} → statement M
-settle-spec =
-    tie.close (tie.spec Inv-loop μ-loop loop-holds choose-requires fire-all-requires add-turns loop-less
-    loop-again (λ c. search needs) returns (λ c. search needs) returns-2 (λ c. search needs) returns-3)
+settle-spec = tie.close (tie.spec Inv-loop μ-loop loop-holds choose-requires fire-all-requires
+    add-turns loop-less loop-again (λ c. search needs) returns (λ c. search needs) returns-2 (λ c. search needs) returns-3)

@@ -103,10 +103,8 @@ returns-2 c =
     (omega (arith, n, c .loop-test .left))
 
 pub go-through-spec : {M : Type 1} → statement M
-go-through-spec =
-    tie.close
-    (tie.spec Inv-loop μ-loop loop-holds (λ c. omega (arith, c .before .before .pre .1)) (λ c. omega (arith, c .before .before .pre .1))
-    (λ c. omega (arith, c .before .before .pre .1)) (λ c. omega (arith, c .before .before .before .pre .1))
+go-through-spec = tie.close (tie.spec Inv-loop μ-loop loop-holds (λ c. omega (arith, c .before .before .pre .1))
+    (λ c. omega (arith, c .before .before .pre .1)) (λ c. omega (arith, c .before .before .pre .1))
     (λ c. omega (arith, c .before .before .before .pre .1)) (λ c. omega (arith, c .before .before .before .pre .1))
-    (λ c. omega (arith, c .before .before .before .pre .1)) post-and-run-requires (λ c. search needs) returns (λ c. omega arith)
-    (λ c. omega arith) loop-again (λ c. search needs) returns-2)
+    (λ c. omega (arith, c .before .before .before .pre .1)) (λ c. omega (arith, c .before .before .before .pre .1))
+    post-and-run-requires (λ c. search needs) returns (λ c. omega arith) (λ c. omega arith) loop-again (λ c. search needs) returns-2)

@@ -48,6 +48,5 @@ returns-3 c =
     (c .before .put-back .ensures ∙ c .before .before .lend .ensures)
 
 pub pass-spec : {M : Type 1} → statement M
-pass-spec =
-    tie.close (tie.spec (λ c. search needs) (λ c κs. search needs) returns returns-2 (λ c κs. search needs)
-    (λ c κs. search needs) (λ c κs. search needs) (λ c κs. search needs) (λ c κs. search needs) returns-3)
+pass-spec = tie.close (tie.spec (λ c. search needs) (λ c κs. search needs) returns returns-2
+    (λ c κs. search needs) (λ c κs. search needs) (λ c κs. search needs) (λ c κs. search needs) (λ c κs. search needs) returns-3)

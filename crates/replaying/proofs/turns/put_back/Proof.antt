@@ -32,6 +32,5 @@ returns c =
     (search needs) (omega arith) (c .before .loop .inv .0) (c .before .loop .inv .1)
 
 pub put-back-spec : {M : Type 1} → statement M
-put-back-spec =
-    tie.close (tie.spec Inv-loop μ-loop loop-holds (λ c. search needs) (λ c. search needs) (λ c. search needs)
-    (λ c. search needs) (λ c. search needs) (λ c. search needs) loop-again returns)
+put-back-spec = tie.close (tie.spec Inv-loop μ-loop loop-holds (λ c. search needs)
+    (λ c. search needs) (λ c. search needs) (λ c. search needs) (λ c. search needs) (λ c. search needs) loop-again returns)

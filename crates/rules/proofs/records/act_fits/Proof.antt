@@ -8,50 +8,23 @@ use borrow.Author.Needs.{needs}
 use Rattle.rules.proofs.records.act_fits.Statement.{statement}
 use Rattle.rules.proofs.records.act_fits.Tie as tie
 
-enum-known-act : tie.Need-enum-known-act
-enum-known-act c = search needs
-
-is-var-requires : tie.Need-is-var-requires
-is-var-requires c κs = search needs
-
 returns : tie.Need-returns
 unfolding act-fits
 returns c = rw (c .before .before .before .act .given .1) (rw (refuted (c .before .is-var .ensures) (c .if1 .taken)))
-
-var-row-requires : tie.Need-var-row-requires
-var-row-requires c κs = search needs
-
-within-row-requires : tie.Need-within-row-requires
-within-row-requires c κs = search needs
-
-enum-known-act-2 : tie.Need-enum-known-act-2
-enum-known-act-2 c = search needs
-
-is-var-requires-2 : tie.Need-is-var-requires-2
-is-var-requires-2 c κs = search needs
-
-enum-known-act-3 : tie.Need-enum-known-act-3
-enum-known-act-3 c = search needs
-
-is-var-requires-3 : tie.Need-is-var-requires-3
-is-var-requires-3 c κs = search needs
-
-enum-known-act-4 : tie.Need-enum-known-act-4
-enum-known-act-4 c = search needs
 
 returns-2 : tie.Need-returns-2
 unfolding act-fits
 returns-2 c = rw (c .before .before .act4 .given .1) (rw (lt-leb 1 (c .before .before .act4 .given .0 .0) (c .if2 .taken)))
 
-event-count-requires : tie.Need-event-count-requires
-event-count-requires c κs = search needs
-
-enum-told : tie.Need-enum-told
-enum-told c = search needs
-
 returns-3 : tie.Need-returns-3
 unfolding act-fits
-returns-3 c = rw (c .before .before .before .before .before .act .given .1) (on (held (c .before .before .before .is-var .ensures) (c .before .before .if1 .left)) (c .within-row .ensures ∙ rw (c .before .var-row .ensures, back32 (c .before .before .before .before .before .act .given .0 .1 .0) (c .before .before .before .before .known-told .given .1 .0 .1))))
+returns-3 c = rw (c .before .before .before .before .before .act .given .1)
+    (on (held (c .before .before .before .is-var .ensures) (c .before .before .if1 .left)) (c .within-row .ensures
+    ∙ rw (
+      c .before .var-row .ensures,
+      back32 (c .before .before .before .before .before .act .given .0 .1 .0)
+          (c .before .before .before .before .known-told .given .1 .0 .1),
+    )))
 
 returns-4 : tie.Need-returns-4
 unfolding act-fits
@@ -63,31 +36,14 @@ returns-5 c = rw (c .before .before .act3 .given .1) (c .is-var3 .ensures)
 
 returns-6 : tie.Need-returns-6
 unfolding act-fits
-returns-6 c = rw (c .before .before .before .act4 .given .1) (on (le-leb 1 (c .before .before .before .act4 .given .0 .0) (c .before .if2 .left)) (rw (c .event-count .ensures)))
+returns-6 c = rw (c .before .before .before .act4 .given .1)
+    (on (le-leb 1 (c .before .before .before .act4 .given .0 .0) (c .before .if2 .left)) (rw (c .event-count .ensures)))
 
 returns-7 : tie.Need-returns-7
 unfolding act-fits
 returns-7 c = rw (c .enum-told .given .1)
 
 pub act-fits-spec : {M : Type 1} → statement M
-act-fits-spec =
-    tie.close
-    (tie.spec
-    enum-known-act
-    is-var-requires
-    returns
-    var-row-requires
-    within-row-requires
-    enum-known-act-2
-    is-var-requires-2
-    enum-known-act-3
-    is-var-requires-3
-    enum-known-act-4
-    returns-2
-    event-count-requires
-    enum-told
-    returns-3
-    returns-4
-    returns-5
-    returns-6
-    returns-7)
+act-fits-spec = tie.close (tie.spec (λ c. search needs) (λ c κs. search needs) returns (λ c κs. search needs)
+    (λ c κs. search needs) (λ c. search needs) (λ c κs. search needs) (λ c. search needs) (λ c κs. search needs)
+    (λ c. search needs) returns-2 (λ c κs. search needs) (λ c. search needs) returns-3 returns-4 returns-5 returns-6 returns-7)

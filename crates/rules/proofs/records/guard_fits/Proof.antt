@@ -5,15 +5,6 @@ use borrow.Author.Needs.{needs}
 use Rattle.rules.proofs.records.guard_fits.Statement.{statement}
 use Rattle.rules.proofs.records.guard_fits.Tie as tie
 
-enum-told : tie.Need-enum-told
-enum-told c = search needs
-
-enum-known-guard : tie.Need-enum-known-guard
-enum-known-guard c = search needs
-
-is-var-requires : tie.Need-is-var-requires
-is-var-requires c κs = search needs
-
 returns : tie.Need-returns
 unfolding guard-fits
 returns c = rw (c .enum-told .given .1)
@@ -23,4 +14,4 @@ unfolding guard-fits
 returns-2 c = rw (c .before .before .guard .given .1) (c .is-var .ensures)
 
 pub guard-fits-spec : {M : Type 1} → statement M
-guard-fits-spec = tie.close (tie.spec enum-told enum-known-guard is-var-requires returns returns-2)
+guard-fits-spec = tie.close (tie.spec (λ c. search needs) (λ c. search needs) (λ c κs. search needs) returns returns-2)

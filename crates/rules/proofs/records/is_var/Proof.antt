@@ -3,11 +3,8 @@ use borrow.Author.Needs.{needs}
 use Rattle.rules.proofs.records.is_var.Statement.{statement}
 use Rattle.rules.proofs.records.is_var.Tie as tie
 
-var-count-requires : tie.Need-var-count-requires
-var-count-requires c κs = search needs
-
 returns : tie.Need-returns
 returns c = rw (c .var-count .ensures)
 
 pub is-var-spec : {M : Type 1} → statement M
-is-var-spec = tie.close (tie.spec var-count-requires returns)
+is-var-spec = tie.close (tie.spec (λ c κs. search needs) returns)

@@ -6,39 +6,9 @@ use borrow.Author.Needs.{needs}
 use Rattle.rules.proofs.records.owner_fits.Statement.{statement}
 use Rattle.rules.proofs.records.owner_fits.Tie as tie
 
-enum-known-owner : tie.Need-enum-known-owner
-enum-known-owner c = search needs
-
-is-state-requires : tie.Need-is-state-requires
-is-state-requires c κs = search needs
-
-enum-known-owner-2 : tie.Need-enum-known-owner-2
-enum-known-owner-2 c = search needs
-
-is-state-requires-2 : tie.Need-is-state-requires-2
-is-state-requires-2 c κs = search needs
-
-enum-known-owner-3 : tie.Need-enum-known-owner-3
-enum-known-owner-3 c = search needs
-
-is-state-requires-3 : tie.Need-is-state-requires-3
-is-state-requires-3 c κs = search needs
-
 returns : tie.Need-returns
 unfolding owner-fits
 returns c = rw (c .before .before .before .owner3 .given .1) (rw (refuted (c .before .is-state3 .ensures) (c .if1 .taken)))
-
-kind-of-requires : tie.Need-kind-of-requires
-kind-of-requires c κs = search needs
-
-is-o-requires : tie.Need-is-o-requires
-is-o-requires c κs = search needs
-
-enum-known-owner-4 : tie.Need-enum-known-owner-4
-enum-known-owner-4 c = search needs
-
-transition-count-requires : tie.Need-transition-count-requires
-transition-count-requires c κs = search needs
 
 returns-2 : tie.Need-returns-2
 unfolding owner-fits
@@ -50,28 +20,15 @@ returns-3 c = rw (c .before .before .owner2 .given .1) (c .is-state2 .ensures)
 
 returns-4 : tie.Need-returns-4
 unfolding owner-fits
-returns-4 c = rw (c .before .before .before .before .before .owner3 .given .1) (on (held (c .before .before .before .is-state3 .ensures) (c .before .before .if1 .left)) (rw (c .before .kind-of .ensures) at (c .is-o .ensures)))
+returns-4 c = rw (c .before .before .before .before .before .owner3 .given .1)
+    (on (held (c .before .before .before .is-state3 .ensures) (c .before .before .if1 .left))
+    (rw (c .before .kind-of .ensures) at (c .is-o .ensures)))
 
 returns-5 : tie.Need-returns-5
 unfolding owner-fits
 returns-5 c = rw (c .before .before .owner4 .given .1, c .transition-count .ensures)
 
 pub owner-fits-spec : {M : Type 1} → statement M
-owner-fits-spec =
-    tie.close
-    (tie.spec
-    enum-known-owner
-    is-state-requires
-    enum-known-owner-2
-    is-state-requires-2
-    enum-known-owner-3
-    is-state-requires-3
-    returns
-    kind-of-requires
-    is-o-requires
-    enum-known-owner-4
-    transition-count-requires
-    returns-2
-    returns-3
-    returns-4
-    returns-5)
+owner-fits-spec = tie.close (tie.spec (λ c. search needs) (λ c κs. search needs)
+    (λ c. search needs) (λ c κs. search needs) (λ c. search needs) (λ c κs. search needs) returns (λ c κs. search needs)
+    (λ c κs. search needs) (λ c. search needs) (λ c κs. search needs) returns-2 returns-3 returns-4 returns-5)

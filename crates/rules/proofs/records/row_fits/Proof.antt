@@ -7,9 +7,6 @@ use borrow.Author.Needs.{needs}
 use Rattle.rules.proofs.records.row_fits.Statement.{statement}
 use Rattle.rules.proofs.records.row_fits.Tie as tie
 
-between-requires : tie.Need-between-requires
-between-requires c κs = search needs
-
 returns : tie.Need-returns
 unfolding row-fits within
 returns c =
@@ -18,4 +15,4 @@ returns c =
     c .between .ensures ∙ rw (back32 (r .low) (g .0 .1), back32 (r .first) (g .1 .1 .0 .1), back32 (r .high) (g .1 .0 .1))
 
 pub row-fits-spec : {M : Type 1} → statement M
-row-fits-spec = tie.close (tie.spec between-requires returns)
+row-fits-spec = tie.close (tie.spec (λ c κs. search needs) returns)

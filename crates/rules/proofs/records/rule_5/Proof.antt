@@ -20,38 +20,31 @@ Inv-loop chart n i₀ i = every row-fits (drop i (chart-of chart .vars)) ≡ rul
 abbrev μ-loop : tie.MeasureT-loop
 μ-loop chart n i₀ i = n - i
 
-var-count-requires : tie.Need-var-count-requires Inv-loop μ-loop
-var-count-requires c κs = search needs
+abbrev at-loop-from-else1 : tie.Else1 Inv-loop μ-loop → tie.At-loop Inv-loop μ-loop
+at-loop-from-else1 c = c .before .before .before .before
+
+abbrev at-loop-from-then1 : tie.Then1 Inv-loop μ-loop → tie.At-loop Inv-loop μ-loop
+at-loop-from-then1 c = c .before .before .before .before
 
 loop-holds : tie.Need-loop-holds Inv-loop μ-loop
 unfolding rule-5
 loop-holds c = refl
 
-var-row-requires : tie.Need-var-row-requires Inv-loop μ-loop
-var-row-requires c κs = search needs
-
-row-fits-requires : tie.Need-row-fits-requires Inv-loop μ-loop
-row-fits-requires c κs = search needs
-
 returns : tie.Need-returns Inv-loop μ-loop
 unfolding var-row
 returns c =
-    let w = c .before .before .before .before .loop in
-    let k = chart-of (c .before .before .before .before .before .before .args .chart .now) in
-    every-stop row-fits (k .vars) no-var (w .i) (omega arith) (refuted (c .before .row-fits .ensures ∙ ap row-fits (c .before .before .var-row .ensures)) (c .if1 .taken)) (w .inv)
-
-add-i : tie.Need-add-i Inv-loop μ-loop
-add-i c = omega arith
-
-loop-less : tie.Need-loop-less Inv-loop μ-loop
-loop-less c = omega arith
+    let w = at-loop-from-then1 c .loop in
+    let k = chart-of (at-loop-from-then1 c .before .before .args .chart .now) in
+    every-stop row-fits (k .vars) no-var (w .i) (omega arith)
+    (refuted (c .before .row-fits .ensures ∙ ap row-fits (c .before .before .var-row .ensures)) (c .if1 .taken)) (w .inv)
 
 loop-again : tie.Need-loop-again Inv-loop μ-loop
 unfolding var-row
 loop-again c =
-    let w = c .before .before .before .before .loop in
-    let k = chart-of (c .before .before .before .before .before .before .args .chart .now) in
-    every-next row-fits (k .vars) no-var (w .i) (omega arith) (held (c .before .row-fits .ensures ∙ ap row-fits (c .before .before .var-row .ensures)) (c .if1 .left)) (w .inv)
+    let w = at-loop-from-else1 c .loop in
+    let k = chart-of (at-loop-from-else1 c .before .before .args .chart .now) in
+    every-next row-fits (k .vars) no-var (w .i) (omega arith)
+    (held (c .before .row-fits .ensures ∙ ap row-fits (c .before .before .var-row .ensures)) (c .if1 .left)) (w .inv)
 
 returns-2 : tie.Need-returns-2 Inv-loop μ-loop
 returns-2 c =
@@ -60,17 +53,5 @@ returns-2 c =
     every-done row-fits (k .vars) no-var (w .i) (omega arith) (w .inv)
 
 pub rule-5-spec : {M : Type 1} → statement M
-rule-5-spec =
-    tie.close
-    (tie.spec
-    Inv-loop
-    μ-loop
-    var-count-requires
-    loop-holds
-    var-row-requires
-    row-fits-requires
-    returns
-    add-i
-    loop-less
-    loop-again
-    returns-2)
+rule-5-spec = tie.close (tie.spec Inv-loop μ-loop (λ c κs. search needs)
+    loop-holds (λ c κs. search needs) (λ c κs. search needs) returns (λ c. omega arith) (λ c. omega arith) loop-again returns-2)

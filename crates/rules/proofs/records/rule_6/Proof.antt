@@ -20,9 +20,6 @@ Inv-loop chart n i₀ i = every (transition-fits (chart-of chart)) (drop i (char
 abbrev μ-loop : tie.MeasureT-loop
 μ-loop chart n i₀ i = n - i
 
-transition-count-requires : tie.Need-transition-count-requires Inv-loop μ-loop
-transition-count-requires c κs = search needs
-
 loop-holds : tie.Need-loop-holds Inv-loop μ-loop
 unfolding rule-6
 loop-holds c = refl
@@ -35,20 +32,16 @@ unfolding trans-row
 returns c =
     let w = c .before .before .before .loop in
     let k = chart-of (c .before .before .before .before .before .args .chart .now) in
-    every-stop (transition-fits k) (k .transitions) no-trans (w .i) (omega arith) (refuted (c .before .transition-fits .ensures) (c .if1 .taken)) (w .inv)
-
-add-i : tie.Need-add-i Inv-loop μ-loop
-add-i c = omega arith
-
-loop-less : tie.Need-loop-less Inv-loop μ-loop
-loop-less c = omega arith
+    every-stop (transition-fits k) (k .transitions)
+    no-trans (w .i) (omega arith) (refuted (c .before .transition-fits .ensures) (c .if1 .taken)) (w .inv)
 
 loop-again : tie.Need-loop-again Inv-loop μ-loop
 unfolding trans-row
 loop-again c =
     let w = c .before .before .before .loop in
     let k = chart-of (c .before .before .before .before .before .args .chart .now) in
-    every-next (transition-fits k) (k .transitions) no-trans (w .i) (omega arith) (held (c .before .transition-fits .ensures) (c .if1 .left)) (w .inv)
+    every-next (transition-fits k) (k .transitions)
+    no-trans (w .i) (omega arith) (held (c .before .transition-fits .ensures) (c .if1 .left)) (w .inv)
 
 returns-2 : tie.Need-returns-2 Inv-loop μ-loop
 returns-2 c =
@@ -57,16 +50,5 @@ returns-2 c =
     every-done (transition-fits k) (k .transitions) no-trans (w .i) (omega arith) (w .inv)
 
 pub rule-6-spec : {M : Type 1} → statement M
-rule-6-spec =
-    tie.close
-    (tie.spec
-    Inv-loop
-    μ-loop
-    transition-count-requires
-    loop-holds
-    transition-fits-requires
-    returns
-    add-i
-    loop-less
-    loop-again
-    returns-2)
+rule-6-spec = tie.close (tie.spec Inv-loop μ-loop
+    (λ c κs. search needs) loop-holds transition-fits-requires returns (λ c. omega arith) (λ c. omega arith) loop-again returns-2)

@@ -19,9 +19,6 @@ Inv-loop chart n i₀ i = every (action-fits (chart-of chart)) (drop i (chart-of
 abbrev μ-loop : tie.MeasureT-loop
 μ-loop chart n i₀ i = n - i
 
-action-count-requires : tie.Need-action-count-requires Inv-loop μ-loop
-action-count-requires c κs = search needs
-
 loop-holds : tie.Need-loop-holds Inv-loop μ-loop
 unfolding rule-7
 loop-holds c = refl
@@ -33,13 +30,8 @@ returns : tie.Need-returns Inv-loop μ-loop
 returns c =
     let w = c .before .before .before .loop in
     let k = chart-of (c .before .before .before .before .before .args .chart .now) in
-    every-stop (action-fits k) (k .actions) no-action (w .i) (omega arith) (refuted (c .before .action-fits .ensures) (c .if1 .taken)) (w .inv)
-
-add-i : tie.Need-add-i Inv-loop μ-loop
-add-i c = omega arith
-
-loop-less : tie.Need-loop-less Inv-loop μ-loop
-loop-less c = omega arith
+    every-stop (action-fits k) (k .actions) no-action
+    (w .i) (omega arith) (refuted (c .before .action-fits .ensures) (c .if1 .taken)) (w .inv)
 
 loop-again : tie.Need-loop-again Inv-loop μ-loop
 loop-again c =
@@ -54,16 +46,5 @@ returns-2 c =
     every-done (action-fits k) (k .actions) no-action (w .i) (omega arith) (w .inv)
 
 pub rule-7-spec : {M : Type 1} → statement M
-rule-7-spec =
-    tie.close
-    (tie.spec
-    Inv-loop
-    μ-loop
-    action-count-requires
-    loop-holds
-    action-fits-requires
-    returns
-    add-i
-    loop-less
-    loop-again
-    returns-2)
+rule-7-spec = tie.close (tie.spec Inv-loop μ-loop
+    (λ c κs. search needs) loop-holds action-fits-requires returns (λ c. omega arith) (λ c. omega arith) loop-again returns-2)

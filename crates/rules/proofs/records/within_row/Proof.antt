@@ -8,9 +8,6 @@ use borrow.Author.Needs.{needs}
 use Rattle.rules.proofs.records.within_row.Statement.{statement}
 use Rattle.rules.proofs.records.within_row.Tie as tie
 
-between-requires : tie.Need-between-requires
-between-requires c κs = search needs
-
 returns : tie.Need-returns
 unfolding within-row within
 returns c =
@@ -19,4 +16,4 @@ returns c =
     c .between .ensures ∙ rw (back32 (a .args .row .low) (g .0 .1), toZ-ofZ (a .fits .x), back32 (a .args .row .high) (g .1 .0 .1))
 
 pub within-row-spec : {M : Type 1} → statement M
-within-row-spec = tie.close (tie.spec between-requires returns)
+within-row-spec = tie.close (tie.spec (λ c κs. search needs) returns)

@@ -5,18 +5,6 @@ use borrow.Author.Needs.{needs}
 use Rattle.rules.proofs.states.children_fit.Statement.{statement}
 use Rattle.rules.proofs.states.children_fit.Tie as tie
 
-enum-told : tie.Need-enum-told
-enum-told c = search needs
-
-enum-told-2 : tie.Need-enum-told-2
-enum-told-2 c = search needs
-
-both-requires : tie.Need-both-requires
-both-requires c κs = search needs
-
-enum-told-3 : tie.Need-enum-told-3
-enum-told-3 c = search needs
-
 returns : tie.Need-returns
 unfolding count-fits-kind
 returns c = rw (c .enum-told .given .1)
@@ -30,6 +18,5 @@ unfolding count-fits-kind
 returns-3 c = rw (c .enum-told3 .given .1)
 
 pub children-fit-spec : {M : Type 1} → statement M
-children-fit-spec =
-    tie.close
-    (tie.spec enum-told enum-told-2 both-requires enum-told-3 returns returns-2 returns-3)
+children-fit-spec = tie.close
+    (tie.spec (λ c. search needs) (λ c. search needs) (λ c κs. search needs) (λ c. search needs) returns returns-2 returns-3)

@@ -8,51 +8,31 @@ use borrow.Author.Needs.{needs}
 use Rattle.rules.proofs.states.default_fits.Statement.{statement}
 use Rattle.rules.proofs.states.default_fits.Tie as tie
 
-kind-of-requires : tie.Need-kind-of-requires
-kind-of-requires c κs = search needs
-
-is-o-requires : tie.Need-is-o-requires
-is-o-requires c κs = search needs
-
 returns : tie.Need-returns
 returns c =
     let a = c .before .before .before .args in
     let k = chart-of (a .chart .now) in
-    default-other k (a .s) (kind-of k (a .s)) (refuted (rw (c .before .before .kind-of .ensures) at (c .before .is-o .ensures)) (c .if1 .taken))
-
-default-child-requires : tie.Need-default-child-requires
-default-child-requires c κs = search needs
-
-is-state-requires : tie.Need-is-state-requires
-is-state-requires c κs = search needs
+    default-other k (a .s) (kind-of k (a .s))
+    (refuted (rw (c .before .before .kind-of .ensures) at (c .before .is-o .ensures)) (c .if1 .taken))
 
 returns-2 : tie.Need-returns-2
 returns-2 c =
     let a = c .before .before .before .before .before .before .args in
     let k = chart-of (a .chart .now) in
-    default-o k (a .s) (kind-of k (a .s)) (held (rw (c .before .before .before .before .before .kind-of .ensures) at (c .before .before .before .before .is-o .ensures)) (c .before .before .before .if1 .left))
+    default-o k (a .s) (kind-of k (a .s))
+    (held (rw (c .before .before .before .before .before .kind-of .ensures) at (c .before .before .before .before .is-o .ensures))
+    (c .before .before .before .if1 .left))
     (rw (refuted (rw (c .before .before .default-child .ensures) at (c .before .is-state .ensures)) (c .if2 .taken)))
-
-is-child-requires : tie.Need-is-child-requires
-is-child-requires c κs = search needs
 
 returns-3 : tie.Need-returns-3
 returns-3 c =
     let a = c .before .before .before .before .before .before .before .args in
     let k = chart-of (a .chart .now) in
     let d = c .before .before .before .default-child .ensures in
-    default-o k (a .s) (kind-of k (a .s)) (held (rw (c .before .before .before .before .before .before .kind-of .ensures) at (c .before .before .before .before .before .is-o .ensures)) (c .before .before .before .before .if1 .left))
+    default-o k (a .s) (kind-of k (a .s)) (held (rw (c .before .before .before .before .before .before .kind-of .ensures) at
+    (c .before .before .before .before .before .is-o .ensures)) (c .before .before .before .before .if1 .left))
     (on (held (rw d at (c .before .before .is-state .ensures)) (c .before .if2 .left)) (rw d at (c .is-child .ensures)))
 
 pub default-fits-spec : {M : Type 1} → statement M
-default-fits-spec =
-    tie.close
-    (tie.spec
-    kind-of-requires
-    is-o-requires
-    returns
-    default-child-requires
-    is-state-requires
-    returns-2
-    is-child-requires
-    returns-3)
+default-fits-spec = tie.close (tie.spec (λ c κs. search needs)
+    (λ c κs. search needs) returns (λ c κs. search needs) (λ c κs. search needs) returns-2 (λ c κs. search needs) returns-3)

@@ -7,23 +7,15 @@ use borrow.Author.Needs.{needs}
 use Rattle.rules.proofs.states.rule_1.Statement.{statement}
 use Rattle.rules.proofs.states.rule_1.Tie as tie
 
-state-count-requires : tie.Need-state-count-requires
-state-count-requires c κs = search needs
-
 returns : tie.Need-returns
 unfolding rule-1
 returns c = rw (rw (c .before .state-count .ensures) at (lt-leb 2 (c .before .state-count .result) (c .if1 .taken)))
 
-kind-of-requires : tie.Need-kind-of-requires
-kind-of-requires c κs = search needs
-
-is-o-requires : tie.Need-is-o-requires
-is-o-requires c κs = search needs
-
 returns-2 : tie.Need-returns-2
 unfolding rule-1
-returns-2 c = on (rw (c .before .before .before .state-count .ensures) at (le-leb 2 (c .before .before .before .state-count .result) (c .before .before .if1 .left))) (rw (c .before .kind-of .ensures) at (c .is-o .ensures))
+returns-2 c = on (rw (c .before .before .before .state-count .ensures) at
+    (le-leb 2 (c .before .before .before .state-count .result) (c .before .before .if1 .left)))
+    (rw (c .before .kind-of .ensures) at (c .is-o .ensures))
 
 pub rule-1-spec : {M : Type 1} → statement M
-rule-1-spec =
-    tie.close (tie.spec state-count-requires returns kind-of-requires is-o-requires returns-2)
+rule-1-spec = tie.close (tie.spec (λ c κs. search needs) returns (λ c κs. search needs) (λ c κs. search needs) returns-2)

@@ -7,17 +7,11 @@ use borrow.Author.Needs.{needs}
 use Rattle.rules.proofs.value.guard_statable.Statement.{statement}
 use Rattle.rules.proofs.value.guard_statable.Tie as tie
 
-guard-absent-requires : tie.Need-guard-absent-requires
-guard-absent-requires c κs = search needs
-
 returns : tie.Need-returns
 unfolding guard-statable
 returns c =
     let a = c .before .before .fits in
     rw (sym (rw (toZ-ofZ (a .v), toZ-ofZ (a .g), toZ-ofZ (a .x)) at (c .before .guard-absent .ensures)) ∙ c .if1 .taken)
-
-guard-given-requires : tie.Need-guard-given-requires
-guard-given-requires c κs = search needs
 
 returns-2 : tie.Need-returns-2
 unfolding guard-statable
@@ -27,5 +21,4 @@ returns-2 c =
     (rw (toZ-ofZ (a .v), toZ-ofZ (a .g), toZ-ofZ (a .x)) at (c .guard-given .ensures))
 
 pub guard-statable-spec : {M : Type 1} → statement M
-guard-statable-spec =
-    tie.close (tie.spec guard-absent-requires returns guard-given-requires returns-2)
+guard-statable-spec = tie.close (tie.spec (λ c κs. search needs) returns (λ c κs. search needs) returns-2)

@@ -8,17 +8,11 @@ use borrow.Author.Needs.{needs}
 use Rattle.rules.proofs.value.number_if.Statement.{statement}
 use Rattle.rules.proofs.value.number_if.Tie as tie
 
-in-range-requires : tie.Need-in-range-requires
-in-range-requires c κs = search needs
-
 returns : tie.Need-returns
 returns c = rw (c .before .if1 .taken) (said-own inRange (c .before .before .fits .z) (c .in-range .ensures))
-
-is-absent-requires : tie.Need-is-absent-requires
-is-absent-requires c κs = search needs
 
 returns-2 : tie.Need-returns-2
 returns-2 c = rw (c .before .if1 .left) (said-own is-absent (c .before .before .fits .z) (c .is-absent .ensures))
 
 pub number-if-spec : {M : Type 1} → statement M
-number-if-spec = tie.close (tie.spec in-range-requires returns is-absent-requires returns-2)
+number-if-spec = tie.close (tie.spec (λ c κs. search needs) returns (λ c κs. search needs) returns-2)

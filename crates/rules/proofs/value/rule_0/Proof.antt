@@ -11,20 +11,15 @@ returns : tie.Need-returns
 unfolding rule-0
 returns c = rw (lt-leb VALUE (length (c .before .args .chart .now)) (c .if1 .taken))
 
-counts-fit-requires : tie.Need-counts-fit-requires
-counts-fit-requires c κs = search needs
-
 returns-2 : tie.Need-returns-2
 unfolding rule-0
-returns-2 c = on (le-leb VALUE (length (c .before .before .before .args .chart .now)) (c .before .before .if1 .left)) (rw (refuted (c .before .counts-fit .ensures) (c .if2 .taken)))
-
-rows-statable-requires : tie.Need-rows-statable-requires
-rows-statable-requires c κs = search needs
+returns-2 c = on (le-leb VALUE (length (c .before .before .before .args .chart .now)) (c .before .before .if1 .left))
+    (rw (refuted (c .before .counts-fit .ensures) (c .if2 .taken)))
 
 returns-3 : tie.Need-returns-3
 unfolding rule-0
-returns-3 c = on (le-leb VALUE (length (c .before .before .before .before .args .chart .now)) (c .before .before .before .if1 .left)) (on (held (c .before .before .counts-fit .ensures) (c .before .if2 .left)) (c .rows-statable .ensures))
+returns-3 c = on (le-leb VALUE (length (c .before .before .before .before .args .chart .now)) (c .before .before .before .if1 .left))
+    (on (held (c .before .before .counts-fit .ensures) (c .before .if2 .left)) (c .rows-statable .ensures))
 
 pub rule-0-spec : {M : Type 1} → statement M
-rule-0-spec =
-    tie.close (tie.spec returns counts-fit-requires returns-2 rows-statable-requires returns-3)
+rule-0-spec = tie.close (tie.spec returns (λ c κs. search needs) returns-2 (λ c κs. search needs) returns-3)

@@ -7,17 +7,11 @@ use borrow.Author.Needs.{needs}
 use Rattle.rules.proofs.value.target_statable.Statement.{statement}
 use Rattle.rules.proofs.value.target_statable.Tie as tie
 
-target-absent-requires : tie.Need-target-absent-requires
-target-absent-requires c κs = search needs
-
 returns : tie.Need-returns
 unfolding target-statable
 returns c =
     let a = c .before .before .fits in
     rw (sym (rw (toZ-ofZ (a .h), toZ-ofZ (a .s)) at (c .before .target-absent .ensures)) ∙ c .if1 .taken)
-
-target-given-requires : tie.Need-target-given-requires
-target-given-requires c κs = search needs
 
 returns-2 : tie.Need-returns-2
 unfolding target-statable
@@ -27,5 +21,4 @@ returns-2 c =
     (rw (toZ-ofZ (a .h), toZ-ofZ (a .s)) at (c .target-given .ensures))
 
 pub target-statable-spec : {M : Type 1} → statement M
-target-statable-spec =
-    tie.close (tie.spec target-absent-requires returns target-given-requires returns-2)
+target-statable-spec = tie.close (tie.spec (λ c κs. search needs) returns (λ c κs. search needs) returns-2)

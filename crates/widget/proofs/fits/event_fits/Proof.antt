@@ -58,6 +58,5 @@ returns-4 c =
     (c .before .before .if1 .left) (c .before .if2 .left)
 
 pub event-fits-spec : {M : Type 1} → statement M
-event-fits-spec =
-    tie.close (tie.spec (λ c κs. search needs) (λ c. search needs) (λ c. search needs) returns returns-2
-    returns-3 (λ c κs. search needs) returns-4)
+event-fits-spec = tie.close (tie.spec (λ c κs. search needs)
+    (λ c. search needs) (λ c. search needs) returns returns-2 returns-3 (λ c κs. search needs) returns-4)

@@ -27,5 +27,4 @@ returns-3 c =
     (sym (c .before .before .waiting-fit .ensures) ∙ not-false _ (c .before .if2 .left))
 
 pub queue-fits-spec : {M : Type 1} → statement M
-queue-fits-spec =
-    tie.close (tie.spec returns (λ c κs. search needs) returns-2 (λ c κs. search needs) returns-3)
+queue-fits-spec = tie.close (tie.spec returns (λ c κs. search needs) returns-2 (λ c κs. search needs) returns-3)

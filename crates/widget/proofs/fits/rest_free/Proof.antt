@@ -34,6 +34,5 @@ returns c =
     (omega (arith, long (c .before .before)))
 
 pub rest-free-spec : {M : Type 1} → statement M
-rest-free-spec =
-    tie.close (tie.spec Inv-loop μ-loop (λ c. refl) (λ c. search needs) (λ c. search needs)
-    (λ c κs. search needs) (λ c. search needs) (λ c. search needs) loop-again returns)
+rest-free-spec = tie.close (tie.spec Inv-loop μ-loop (λ c. refl) (λ c. search needs)
+    (λ c. search needs) (λ c κs. search needs) (λ c. search needs) (λ c. search needs) loop-again returns)

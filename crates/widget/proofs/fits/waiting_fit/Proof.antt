@@ -81,6 +81,5 @@ returns-2 c =
     (omega arith))
 
 pub waiting-fit-spec : {M : Type 1} → statement M
-waiting-fit-spec =
-    tie.close (tie.spec Inv-loop μ-loop loop-holds (λ c. search needs) (λ c. search needs)
-    (λ c κs. search needs) returns (λ c. search needs) (λ c. search needs) loop-again returns-2)
+waiting-fit-spec = tie.close (tie.spec Inv-loop μ-loop loop-holds (λ c. search needs)
+    (λ c. search needs) (λ c κs. search needs) returns (λ c. search needs) (λ c. search needs) loop-again returns-2)

@@ -1,11 +1,9 @@
 -- `Part::feed` is `part-fed`, case by case. Assumes nothing.
-use Rattle.console.proofs.ScanLaws.{start-minus, start-zero, start-digit, minus-zero, minus-digit, plain-digit, negative-digit, zero-more, broken-more}
+use Rattle.console.proofs.ScanLaws.{start-minus, start-zero, start-digit, minus-zero, minus-digit, plain-digit}
+use Rattle.console.proofs.ScanLaws.{negative-digit, zero-more, broken-more}
 use borrow.Author.Needs.{needs}
 use Rattle.console.proofs.scan.Part.feed.Statement.{statement}
 use Rattle.console.proofs.scan.Part.feed.Tie as tie
-
-enum-told : tie.Need-enum-told
-enum-told c = search needs
 
 returns : tie.Need-returns
 returns c = start-minus _ _ (c .before .enum-told .given .1) (c .if1 .taken)
@@ -13,38 +11,12 @@ returns c = start-minus _ _ (c .before .enum-told .given .1) (c .if1 .taken)
 returns-2 : tie.Need-returns-2
 returns-2 c = start-zero _ _ (c .before .before .enum-told .given .1) (c .before .if1 .left) (c .if2 .taken)
 
-plain-fed-requires : tie.Need-plain-fed-requires
-plain-fed-requires c κs = search needs
-
-enum-told-2 : tie.Need-enum-told-2
-enum-told-2 c = search needs
-
 returns-3 : tie.Need-returns-3
 returns-3 c = minus-zero _ _ (c .before .enum-told2 .given .1) (c .if3 .taken)
 
-negative-fed-requires : tie.Need-negative-fed-requires
-negative-fed-requires c κs = search needs
-
-enum-known-self : tie.Need-enum-known-self
-enum-known-self c = search needs
-
-plain-fed-requires-2 : tie.Need-plain-fed-requires-2
-plain-fed-requires-2 c κs = search needs
-
-enum-known-self-2 : tie.Need-enum-known-self-2
-enum-known-self-2 c = search needs
-
-negative-fed-requires-2 : tie.Need-negative-fed-requires-2
-negative-fed-requires-2 c κs = search needs
-
-enum-told-3 : tie.Need-enum-told-3
-enum-told-3 c = search needs
-
-enum-told-4 : tie.Need-enum-told-4
-enum-told-4 c = search needs
-
 returns-4 : tie.Need-returns-4
-returns-4 c = start-digit _ _ (c .before .before .before .enum-told .given .1) _ (c .before .before .if1 .left) (c .before .if2 .left) (c .plain-fed .ensures)
+returns-4 c = start-digit _ _ (c .before .before .before .enum-told .given .1) _ (c .before .before .if1 .left)
+    (c .before .if2 .left) (c .plain-fed .ensures)
 
 returns-5 : tie.Need-returns-5
 returns-5 c = minus-digit _ _ (c .before .before .enum-told2 .given .1) _ (c .before .if3 .left) (c .negative-fed .ensures)
@@ -62,25 +34,6 @@ returns-9 : tie.Need-returns-9
 returns-9 c = broken-more _ _ (c .enum-told4 .given .1)
 
 pub feed-spec : {M : Type 1} → statement M
-feed-spec =
-    tie.close
-    (tie.spec
-    enum-told
-    returns
-    returns-2
-    plain-fed-requires
-    enum-told-2
-    returns-3
-    negative-fed-requires
-    enum-known-self
-    plain-fed-requires-2
-    enum-known-self-2
-    negative-fed-requires-2
-    enum-told-3
-    enum-told-4
-    returns-4
-    returns-5
-    returns-6
-    returns-7
-    returns-8
-    returns-9)
+feed-spec = tie.close (tie.spec (λ c. search needs) returns returns-2 (λ c κs. search needs)
+    (λ c. search needs) returns-3 (λ c κs. search needs) (λ c. search needs) (λ c κs. search needs) (λ c. search needs)
+    (λ c κs. search needs) (λ c. search needs) (λ c. search needs) returns-4 returns-5 returns-6 returns-7 returns-8 returns-9)

@@ -5,30 +5,6 @@ use Rattle.console.specs.Scan.{part-number}
 use Rattle.console.proofs.scan.Part.number.Statement.{statement}
 use Rattle.console.proofs.scan.Part.number.Tie as tie
 
-enum-told : tie.Need-enum-told
-enum-told c = search needs
-
-enum-known-self : tie.Need-enum-known-self
-enum-known-self c = search needs
-
-plain-number-requires : tie.Need-plain-number-requires
-plain-number-requires c κs = search needs
-
-enum-known-self-2 : tie.Need-enum-known-self-2
-enum-known-self-2 c = search needs
-
-minus-number-requires : tie.Need-minus-number-requires
-minus-number-requires c κs = search needs
-
-enum-told-2 : tie.Need-enum-told-2
-enum-told-2 c = search needs
-
-enum-told-3 : tie.Need-enum-told-3
-enum-told-3 c = search needs
-
-enum-told-4 : tie.Need-enum-told-4
-enum-told-4 c = search needs
-
 returns : tie.Need-returns
 returns c = number-zero _ (c .enum-told .given .1)
 
@@ -52,19 +28,5 @@ returns-6 c = search needs
 
 pub number-spec : {M : Type 1} → statement M
 number-spec =
-    tie.close
-    (tie.spec
-    enum-told
-    enum-known-self
-    plain-number-requires
-    enum-known-self-2
-    minus-number-requires
-    enum-told-2
-    enum-told-3
-    enum-told-4
-    returns
-    returns-2
-    returns-3
-    returns-4
-    returns-5
-    returns-6)
+    tie.close (tie.spec (λ c. search needs) (λ c. search needs) (λ c κs. search needs) (λ c. search needs) (λ c κs. search needs)
+    (λ c. search needs) (λ c. search needs) (λ c. search needs) returns returns-2 returns-3 returns-4 returns-5 returns-6)

@@ -4,26 +4,11 @@ use borrow.Author.Needs.{needs}
 use Rattle.console.proofs.scan.Scan.feed.Statement.{statement}
 use Rattle.console.proofs.scan.Scan.feed.Tie as tie
 
-enum-known-self : tie.Need-enum-known-self
-enum-known-self c = search needs
-
 returns : tie.Need-returns
 returns c = event-tab _ _ _ (c .before .before .self .given .1) (c .if1 .taken)
 
-feed-requires : tie.Need-feed-requires
-feed-requires c κs = search needs
-
-enum-known-self-2 : tie.Need-enum-known-self-2
-enum-known-self-2 c = search needs
-
 returns-2 : tie.Need-returns-2
 returns-2 c = argument-tab _ _ _ _ (c .before .before .self2 .given .1) (c .if2 .taken)
-
-feed-requires-2 : tie.Need-feed-requires-2
-feed-requires-2 c κs = search needs
-
-enum-told : tie.Need-enum-told
-enum-told c = search needs
 
 returns-3 : tie.Need-returns-3
 returns-3 c = event-byte _ _ _ _ (c .before .before .before .self .given .1) (c .before .if1 .left) (c .feed .ensures)
@@ -35,16 +20,5 @@ returns-5 : tie.Need-returns-5
 returns-5 c = more-byte _ _ (c .enum-told .given .1)
 
 pub feed-spec : {M : Type 1} → statement M
-feed-spec =
-    tie.close
-    (tie.spec
-    enum-known-self
-    returns
-    feed-requires
-    enum-known-self-2
-    returns-2
-    feed-requires-2
-    enum-told
-    returns-3
-    returns-4
-    returns-5)
+feed-spec = tie.close (tie.spec (λ c. search needs) returns
+    (λ c κs. search needs) (λ c. search needs) returns-2 (λ c κs. search needs) (λ c. search needs) returns-3 returns-4 returns-5)
