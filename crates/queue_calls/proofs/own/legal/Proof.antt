@@ -31,32 +31,19 @@ returns c u e = legal-rootless (chart-of (c .before .before .args .chart .now)) 
 loop-holds : tie.Need-loop-holds Inv-loop μ-loop
 loop-holds c = (omega arith, λ u e. refl)
 
-array-read-t16 : tie.Need-array-read-t16 Inv-loop μ-loop
-array-read-t16 c = omega (
-  arith,
-  c .before .before .before .before .before .state-count .ensures,
-  states-most
-      (c .before .before .before .before .before .before .before .before .args .chart .now),
-)
-
-array-read-t19 : tie.Need-array-read-t19 Inv-loop μ-loop
-array-read-t19 c = omega (
-  arith,
-  c .before .before .before .before .before .state-count .ensures,
-  states-most
-      (c .before .before .before .before .before .before .before .before .args .chart .now),
-)
-
-legal-at-requires : tie.Need-legal-at-requires Inv-loop μ-loop
-legal-at-requires c κs =
-    let l : c .before .loop .s < STATES = omega (
+-- the state under way is one of the chart's
+within : (c : tie.In-loop Inv-loop μ-loop) → c .before .loop .s < STATES
+within c =
+    omega (
       arith,
       c .loop-test .taken,
       c .before .before .before .before .before .state-count .ensures,
-      states-most
-          (c .before .before .before .before .before .before .before .before .args .chart .now),
-    ) in
-    (l, c .before .before .before .before .count-children .ensures .told _ l)
+      states-most (c .before .before .before .before .before .before .before .before .args .chart .now),
+    )
+
+legal-at-requires : tie.Need-legal-at-requires Inv-loop μ-loop
+legal-at-requires c κs =
+    (within c, c .before .before .before .before .count-children .ensures .told _ (within c))
 
 returns-2 : tie.Need-returns-2 Inv-loop μ-loop
 returns-2 c u e =
@@ -87,4 +74,5 @@ returns-3 c u e =
 pub legal-spec : {M : Type 1} → statement M
 legal-spec =
     tie.close (tie.spec Inv-loop μ-loop (λ c. search needs) returns (λ c κs. search needs) (λ c κs. search needs) loop-holds
-    array-read-t16 array-read-t19 legal-at-requires returns-2 (λ c. omega arith) (λ c. omega arith) loop-again returns-3)
+    (λ c. omega (arith, within c)) (λ c. omega (arith, within c)) (λ c. omega (arith, within c)) (λ c. omega (arith, within c))
+    legal-at-requires returns-2 (λ c. omega arith) (λ c. omega arith) loop-again returns-3)

@@ -56,6 +56,9 @@ loop-again-2 c =
           (rw (c .before .before .before .before .parent-of .ensures) at (c .if2 .taken)),
     )
 
+mul-counts : tie.Need-mul-counts Inv-loop μ-loop
+mul-counts c = omega arith
+
 array-read-counts : tie.Need-array-read-counts Inv-loop μ-loop
 array-read-counts c = omega arith
 
@@ -74,6 +77,9 @@ add-counts c =
       states-most
           (c .before .before .before .before .before .before .before .before .args .chart .now),
     )
+
+mul-counts-2 : tie.Need-mul-counts-2 Inv-loop μ-loop
+mul-counts-2 c = omega arith
 
 array-write-counts : tie.Need-array-write-counts Inv-loop μ-loop
 array-write-counts c = omega arith
@@ -124,8 +130,10 @@ count-children-spec =
     loop-again
     loop-less-2
     loop-again-2
+    mul-counts
     array-read-counts
     add-counts
+    mul-counts-2
     array-write-counts
     array-read-both
     both-requires

@@ -39,6 +39,9 @@ loop-holds c = all-start (tried (chart-of (c .before .before .before .before .ar
 kind-of-requires : tie.Need-kind-of-requires Inv-loop μ-loop
 kind-of-requires c κs = search needs
 
+mul-children-fit : tie.Need-mul-children-fit Inv-loop μ-loop
+mul-children-fit c = omega (arith, states-most (c .before .before .before .before .before .before .before .args .chart .now))
+
 array-read-children-fit : tie.Need-array-read-children-fit Inv-loop μ-loop
 array-read-children-fit c = omega (arith, states-most (c .before .before .before .before .before .before .before .args .chart .now))
 
@@ -86,6 +89,7 @@ rule-3-spec =
     count-children-requires
     loop-holds
     kind-of-requires
+    mul-children-fit
     array-read-children-fit
     array-read-children-fit-2
     children-fit-requires
