@@ -35,7 +35,7 @@ ghost use Rattle.plan_code.specs.Code.{Slotted, Ran};
 pub fn react(
     plan: &[i32],
     k: Counts,
-    links: &[u8; LINKS],
+    links: &[u16; LINKS],
     event: usize,
     arg: i32,
     picks: &mut [usize; TRANSITIONS],

@@ -73,6 +73,9 @@ add-at c =
     let q = head-whole (start-from-in-heads c .pre .0) _ (c .heads-test .taken) in
     omega (arith, q, c .before .before .before .heads-at .ensures)
 
+mul-next-2 : tie.Need-mul-next-2 Inv-loop μ-loop Inv-heads μ-heads
+mul-next-2 c = omega (arith, counts-sized (start-from-in-heads c .pre .0) .heads)
+
 element-copy-out-next-2 : tie.Need-element-copy-out-next-2 Inv-loop μ-loop Inv-heads μ-heads
 element-copy-out-next-2 c =
     omega (arith, start-from-in-heads c .pre .2 .size, counts-sized (start-from-in-heads c .pre .0) .heads)
@@ -220,7 +223,7 @@ returns-2 c =
 pub choose-spec : {M : Type 1} → statement M
 choose-spec =
     tie.close (tie.spec Inv-loop μ-loop Inv-heads μ-heads returns heads-at-requires (λ c. omega arith)
-    element-copy-out-next cast-next heads-holds mul-at add-at element-copy-out-next-2 cast-next-2
+    (λ c. omega arith) element-copy-out-next cast-next heads-holds mul-at add-at mul-next-2 element-copy-out-next-2 cast-next-2
     enabled-requires heads-less heads-again loop-holds mul-pick element-copy-out-pick mul-meet add-meet
     meet-requires heads-less-2 heads-again-2 (λ c. omega arith) (λ c. omega arith) loop-again mul-picks
     element-write-picks add-count heads-less-3 heads-again-3 returns-2)
