@@ -13,17 +13,14 @@ use engine::Called;
 use engine::State;
 use engine::VALUE;
 use engine::plans::compile;
+use files::LENT;
 use parse::byte_at;
 use parse::line_after;
 use parse::number_from;
 use show::print;
-use sizes::TEXT;
 ghost use Prim.Native.Nat.{_≤_};
 ghost use lib.ListN.{length};
 ghost use Rattle.io.specs.Counts.{Counts};
-
-// The bytes lent for a file: one more than a chart's text may have. Lists of calls and states are shorter.
-const LENT: usize = TEXT + 1;
 
 // The most numbers that a call of the cases lends for its trace.
 const ROOM: usize = 3000;

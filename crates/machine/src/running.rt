@@ -38,7 +38,7 @@ ghost use Rattle.plan_code.specs.Code.{Slotted, Ran};
 pub fn settled(
     plan: &[i32],
     k: Counts,
-    links: &[u8; LINKS],
+    links: &[u16; LINKS],
     went: Went,
     picks: &mut [usize; TRANSITIONS],
     active: &mut [bool; STATES],

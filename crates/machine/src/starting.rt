@@ -47,7 +47,7 @@ fn first_values(plan: &[i32], k: Counts) -> [i32; VARIABLES]
 fn begin(
     plan: &[i32],
     k: Counts,
-    links: &[u8; LINKS],
+    links: &[u16; LINKS],
     picks: &mut [usize; TRANSITIONS],
     active: &mut [bool; STATES],
     slots: &mut [i32; STATES],

@@ -1,14 +1,16 @@
 -- Chart text by example: 01's chart K is read, and written back to the same bytes; some faults with their lines; sizes. Assumes nothing.
-use Prim.Native.Nat.{ℕ, _-_}
+use Prim.Native.Nat.{ℕ, suc, _-_}
 use mathlib.Core.Path.{_≡_, refl}
 use mathlib.Core.List.{List, [], _∷_, _++_}
 use lib.ListN.{replicate}
 use lib.IntN.{ℤ, pos}
+use Rattle.sizes.specs.Sizes.{STATES}
 use Rattle.meaning.specs.Open.{all-open}
 use Rattle.meaning.specs.Lists.{map-from}
 use Rattle.meaning.specs.Value.{ABSENT, VALUE}
 use Rattle.meaning.specs.Split.{ended}
 use Rattle.meaning.specs.Grammar.{bytes, s-record}
+use Rattle.meaning.specs.Number.{numeral}
 use Rattle.meaning.specs.Line.{text-of-row}
 use Rattle.meaning.specs.Text.{Outcome, done, refused, read, write}
 use Rattle.meaning.specs.Examples.{text-K}
@@ -46,17 +48,17 @@ states n = ended (text-of-row s-record 0
     (ABSENT ∷ pos 111 ∷ pos 1 ∷ []) ∷ map-from (text-of-row s-record) 1 (replicate (n - 1) (pos 0 ∷ pos 98 ∷ ABSENT ∷ [])))
 
 -- in the order: an empty text; its E line missing; a last line without LF; an empty last line; 32 and 33 events; 1 before 2 on one line;
--- a leading zero; 64 states, 65, and a 65th of the wrong form; -1 as a parent, and "-"; h-1 as a target
+-- a leading zero; as many states as there may be (01: 64), one more, and one more of the wrong form; -1 as a parent, and "-"; h-1 as a target
 some-faults : faults (
     [] ∷ states 2 ∷ (states 2 ++ bytes "E\t0") ∷ (states 2 ++ bytes "E\t0\n\n") ∷ (states 2 ++ bytes "E\t32\n")
     ∷ (states 2 ++ bytes "E\t33\n") ∷ (states 2 ++ bytes "V\t0\t1000000001\t01\t0\n") ∷ (states 2 ++ bytes "E\t01\n")
-    ∷ (states 64 ++ bytes "E\t0\n") ∷ (states 65 ++ bytes "E\t0\n")
-    ∷ (states 64 ++ bytes "S\t64\t0\tb\t0\n") ∷ (states 1 ++ bytes "S\t1\t-1\tb\t-\nE\t0\n") ∷ (states 1 ++ bytes "S\t1\t-\tb\t-\nE\t0\n")
+    ∷ (states STATES ++ bytes "E\t0\n") ∷ (states (suc STATES) ++ bytes "E\t0\n")
+    ∷ (states STATES ++ bytes "S\t" ++ numeral (pos STATES) ++ bytes "\t0\tb\t0\n") ∷ (states 1 ++ bytes "S\t1\t-1\tb\t-\nE\t0\n") ∷ (states 1 ++ bytes "S\t1\t-\tb\t-\nE\t0\n")
     ∷ (states 2 ++ bytes "E\t1\nT\t0\t1\t1\t-\t-\t-\th-1\n") ∷ []
     )
     ≡ (1 ∷ 1 ∷ []) ∷ (1 ∷ 3 ∷ []) ∷ (1 ∷ 3 ∷ []) ∷ (1 ∷ 4 ∷ []) ∷ (0 ∷ 0 ∷ []) ∷ (2 ∷ 3 ∷ [])
-    ∷ (1 ∷ 3 ∷ []) ∷ (1 ∷ 3 ∷ []) ∷ (0 ∷ 0 ∷ []) ∷ (2 ∷ 65 ∷ [])
-    ∷ (1 ∷ 65 ∷ []) ∷ (3 ∷ 2 ∷ []) ∷ (1 ∷ 2 ∷ [])
+    ∷ (1 ∷ 3 ∷ []) ∷ (1 ∷ 3 ∷ []) ∷ (0 ∷ 0 ∷ []) ∷ (2 ∷ suc STATES ∷ [])
+    ∷ (1 ∷ suc STATES ∷ []) ∷ (3 ∷ 2 ∷ []) ∷ (1 ∷ 2 ∷ [])
     ∷ (3 ∷ 6 ∷ []) ∷ []
 unfolding all-open fault-of faults states
 some-faults = refl

@@ -7,12 +7,10 @@ use console::put_numeral;
 use engine::Answer;
 use engine::VALUE;
 use files::LENT;
+use files::PLAN;
 use files::chart_text;
 use libc::STDOUT_FILENO;
 use numbers::reference;
-
-// Room for every plan, so that 4 is never given (docs/PLAN.md).
-const ROOM: usize = 462390;
 
 // Room that is enough for one line: ten numbers of at most eleven bytes, each with what parts it from the next.
 const LINE: usize = 120;
@@ -141,7 +139,7 @@ fn main() {
         print(&out, at);
         return;
     }
-    let mut plan = [0; ROOM];
+    let mut plan = [0; PLAN];
     let compiled = engine::plans::compile(&chart, &mut plan);
     let answer = compiled.answer;
     if answer.number != 0 {

@@ -73,7 +73,7 @@ fn meet(plan: &[i32], at: usize, other: usize) -> bool
 pub fn choose(
     plan: &[i32],
     k: Counts,
-    links: &[u8; LINKS],
+    links: &[u16; LINKS],
     event: usize,
     active: &[bool; STATES],
     vars: &[i32; VARIABLES],

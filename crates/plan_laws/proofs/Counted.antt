@@ -81,7 +81,7 @@ lines-most states transitions actions = transitions * block-most states actions 
 -- at most S states, T transitions and A actions
 module _ (c : Chart) (h : Sound-chart c) (S T A : ℕ)
     (s : length (c .states) ≤ S) (t : length (c .transitions) ≤ T) (a : length (c .actions) ≤ A) where
-  block-lines : (i : ℕ) → i < length (c .transitions) → length (block c i) ≤ block-most S A + acts-many c (transition-of i)
+  pub block-lines : (i : ℕ) → i < length (c .transitions) → length (block c i) ≤ block-most S A + acts-many c (transition-of i)
   unfolding block
   block-lines i l =
       omega (arith, block-to-lines c h i (trans-row c i .source) (trans-row c i .target) (h .transitions i l .target), all-owned c)

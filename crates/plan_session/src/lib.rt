@@ -11,6 +11,7 @@ use console::put_digits;
 use engine::State;
 use engine::VALUE;
 use files::LENT;
+use files::PLAN;
 use files::chart_text;
 use libc::STDERR_FILENO;
 use libc::STDIN_FILENO;
@@ -20,9 +21,6 @@ use meaning::answers::WRONG_LINE;
 ghost use Prim.Native.Nat.{_≤_};
 ghost use lib.ListN.{length};
 ghost use Rattle.promises.specs.Promises.{Planned};
-
-// Room for every plan, so that 4 is never given (docs/PLAN.md).
-const PLAN: usize = 462390;
 
 // Room for the trace of a run.
 const TRACE: usize = 3000;

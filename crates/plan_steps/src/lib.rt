@@ -112,7 +112,7 @@ fn fire_all(
 pub fn step(
     plan: &[i32],
     k: Counts,
-    links: &[u8; LINKS],
+    links: &[u16; LINKS],
     event: usize,
     arg: i32,
     picks: &mut [usize; TRANSITIONS],
@@ -149,7 +149,7 @@ pub fn step(
 pub fn settle(
     plan: &[i32],
     k: Counts,
-    links: &[u8; LINKS],
+    links: &[u16; LINKS],
     picks: &mut [usize; TRANSITIONS],
     active: &mut [bool; STATES],
     slots: &mut [i32; STATES],

@@ -3,6 +3,7 @@ use super::lines::read_numbers;
 use super::print;
 use engine::VALUE;
 use engine::plans::compile;
+use files::LENT;
 use libc::STDOUT_FILENO;
 ghost use Prim.Native.Nat.{_≤_};
 ghost use lib.ListN.{length};
@@ -98,7 +99,7 @@ fn wanted_by(argument: usize, wanted: &mut [i32]) -> usize
 
 // One chart, by its file's name; the argument after it names the file of its plan.
 pub fn run_chart(path: &[u8], argument: usize) {
-    let mut text = io::large_buffer();
+    let mut text = [0u8; LENT];
     let got = load(path, &mut text);
     let mut wanted = [0i32; ROOM];
     let n = wanted_by(argument, &mut wanted);

@@ -35,14 +35,14 @@ ghost use Rattle.queue_calls.specs.Parts.{tally-of, Tallied, value-fits,
 
 // How many children a state has, and how many of them are active.
 pub struct Tally {
-    pub all: u8,
-    pub on: u8,
+    pub all: u16,
+    pub on: u16,
 }
 
 // The same of every state.
 struct Tallies {
-    all: [u8; STATES],
-    on: [u8; STATES],
+    all: [u16; STATES],
+    on: [u16; STATES],
 }
 
 // One pass over the states: each is counted at its parent.
@@ -50,8 +50,8 @@ fn count_children(chart: &[i32], active: &[bool; STATES]) -> Tallies
     ensures { λ r. ⌜ Tallied (chart-of (now (chart .entry))) (now (active .entry)) (r .all) (r .on) ⌝ }
 {
     let n = state_count(chart);
-    let mut all = [0u8; STATES];
-    let mut on = [0u8; STATES];
+    let mut all = [0u16; STATES];
+    let mut on = [0u16; STATES];
     let mut next: usize = 0;
     while next < n {
         let d = next;

@@ -30,7 +30,7 @@ pub struct Gone {
 pub fn go_through(
     plan: &[i32],
     k: Counts,
-    links: &[u8; LINKS],
+    links: &[u16; LINKS],
     events: &[i32],
     count: usize,
     active: &mut [bool; STATES],

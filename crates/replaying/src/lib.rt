@@ -99,7 +99,7 @@ fn told(
 fn as_posted(
     plan: &[i32],
     k: Counts,
-    links: &[u8; LINKS],
+    links: &[u16; LINKS],
     state: State,
     events: &[i32],
     done: usize,

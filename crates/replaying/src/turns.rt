@@ -94,7 +94,7 @@ fn pass(queue: &mut [i32; QUEUE_NUMBERS], event: i32, arg: i32) -> Passed
 pub fn post_and_run(
     plan: &[i32],
     k: Counts,
-    links: &[u8; LINKS],
+    links: &[u16; LINKS],
     event: i32,
     arg: i32,
     picks: &mut [usize; TRANSITIONS],

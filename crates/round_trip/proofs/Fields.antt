@@ -284,32 +284,57 @@ field-free sep s history n i row p e =
     free-append sep (104 ∷ []) (numeral (num row (i + 1))) (free-byte sep 104 s (omega arith)) (free-numeral sep s (num row (i + 1)))
 field-free sep s in-place n i row p e = free-byte sep 45 s (omega arith)
 
--- how many bytes a field may take
-abbrev pub longest : Field → ℕ
-longest turn = 11
-longest number = 11
-longest (count low high) = 11
-longest (letter ls) = 1
-longest dash = 1
-longest state = 11
-longest history = 12
-longest in-place = 1
+-- the most bytes of a number of the range
+abbrev pub NUMBER : ℕ
+NUMBER = 11
 
-short-numeral : (z : ℤ) → inRange z ≡ true → length (numeral z) ≤ 11
+-- a number that a text can state has at most so many bytes; those of a row from place i on have at most these
+abbrev pub Bytes : ℕ → ℤ → Type 0
+Bytes w z = inRange z ≡ true → length (numeral z) ≤ w
+
+pub short-numeral : (z : ℤ) → Bytes NUMBER z
 short-numeral z e = numeral-length z (in-range-size z e)
 
-pub field-short : (x : Field) (n i : ℕ) (row : List ℤ) → Plain x → n ≤ MOST → fits-field x i row ≡ true
-    → length (write-field x n i row) ≤ longest x
+abbrev pub Sized : List ℕ → ℕ → List ℤ → Type 0
+Sized [] i row = Unit
+Sized (w ∷ ws) i row = Bytes w (num row i) × Sized ws (i + 1) row
+
+sized-at : (ws : List ℕ) (i k : ℕ) (row : List ℤ) → Sized ws i row → inRange (num row (i + k)) ≡ true
+    → length (numeral (num row (i + k))) ≤ getD ws k NUMBER
+sized-at [] i k row s e = short-numeral (num row (i + k)) e
+sized-at (w ∷ ws) i zero row s e = let z : i + 0 ≡ i = omega arith in rw z (s .0 (rw z at e))
+sized-at (w ∷ ws) i (suc k) row s e =
+    let z : i + suc k ≡ i + 1 + k = omega arith in
+    rw z (sized-at ws (i + 1) k row (s .1) (rw z at e))
+
+sized-here : (ws : List ℕ) (i : ℕ) (row : List ℤ) → Sized ws 0 row → inRange (num row i) ≡ true
+    → length (numeral (num row i)) ≤ getD ws i NUMBER
+sized-here ws i row s e = let z : 0 + i ≡ i = omega arith in rw z at (sized-at ws 0 i row s (rw z e))
+
+-- how many bytes a field at place i may take, where the record's own number has at most t and the row's numbers have at most ws
+abbrev pub longest : ℕ → List ℕ → Field → ℕ → ℕ
+longest t ws turn i = t
+longest t ws number i = getD ws i NUMBER
+longest t ws (count low high) i = NUMBER
+longest t ws (letter ls) i = 1
+longest t ws dash i = 1
+longest t ws state i = getD ws (i + 1) NUMBER
+longest t ws history i = suc (getD ws (i + 1) NUMBER)
+longest t ws in-place i = 1
+
+pub field-short : (x : Field) (t : ℕ) (ws : List ℕ) (n i : ℕ) (row : List ℤ) → Plain x → length (numeral (pos n)) ≤ t → Sized ws 0 row
+    → fits-field x i row ≡ true → length (write-field x n i row) ≤ longest t ws x i
 unfolding write-field
-field-short turn n i row p m e = numeral-length (pos n) m
-field-short number n i row p m e = short-numeral (num row i) e
-field-short (count low high) n i row p m e = numeral-length (num row i) (count-is low high (num row i) e p)
-field-short (letter ls) n i row p m e = omega arith
-field-short dash n i row p m e = omega arith
-field-short state n i row p m e = short-numeral (num row (i + 1)) (both (is-letter 0 (num row i)) (inRange (num row (i + 1))) e .1)
-field-short history n i row p m e =
-    let w = short-numeral (num row (i + 1)) (both (is-letter 104 (num row i)) (inRange (num row (i + 1))) e .1) in omega arith
-field-short in-place n i row p m e = omega arith
+field-short turn t ws n i row p m s e = m
+field-short number t ws n i row p m s e = sized-here ws i row s e
+field-short (count low high) t ws n i row p m s e = numeral-length (num row i) (count-is low high (num row i) e p)
+field-short (letter ls) t ws n i row p m s e = omega arith
+field-short dash t ws n i row p m s e = omega arith
+field-short state t ws n i row p m s e =
+    sized-here ws (i + 1) row s (both (is-letter 0 (num row i)) (inRange (num row (i + 1))) e .1)
+field-short history t ws n i row p m s e =
+    let w = sized-here ws (i + 1) row s (both (is-letter 104 (num row i)) (inRange (num row (i + 1))) e .1) in omega arith
+field-short in-place t ws n i row p m s e = omega arith
 
 -- ---- fields that no text and no row take for one another
 

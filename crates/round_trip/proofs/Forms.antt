@@ -4,20 +4,21 @@
 use mathlib.Core.Path.{_≡_, refl, sym, ap, _∙_, subst}
 use mathlib.Core.Bool.{Bool, true, false, cond, _&&_, _||_, true≢false, false≢true}
 use mathlib.Core.List.{List, [], _∷_, _++_}
-use Prim.Native.Nat.{ℕ, zero, suc, _+_, _-_, _≤_, _<_}
+use Prim.Native.Nat.{ℕ, zero, suc, _+_, _-_, max, _≤_, _<_}
 use native.Mathlib.Omega.{arith}
 use lib.Dec.{eqb, leb}
-use lib.IntN.{ℤ}
+use lib.IntN.{ℤ, pos}
 use lib.ListN.{length, length-append}
 use borrow.Author.Tests.{eqb-true, eqb-false, leb-true}
 use Rattle.sizes.specs.Sizes.{MOST}
 use Rattle.meaning.specs.Grammar.{Field, width, Form, last, _then_, _or_}
 use Rattle.meaning.specs.Value.{num, fits, fits-field}
+use Rattle.meaning.specs.Number.{numeral}
 use Rattle.meaning.specs.Split.{TAB, tails}
 use Rattle.meaning.specs.Line.{Line, worse, line, beside, or-else, read-field, read-by, write-field, write-by}
 use Rattle.round_trip.proofs.Splits.{AllFree}
 use Rattle.round_trip.proofs.Fields.{Good, worse-good, both, Plain, At, numbers, numbers-more, at-both, Kept, field-kept}
-use Rattle.round_trip.proofs.Fields.{field-reads, field-free, longest, field-short, Apart, apart-text, apart-row, tells}
+use Rattle.round_trip.proofs.Fields.{field-reads, field-free, Sized, longest, field-short, Apart, apart-text, apart-row, tells}
 use Rattle.round_trip.proofs.Fields.{tells-own, tells-not}
 
 -- ---- unambiguous forms
@@ -250,32 +251,28 @@ form-free sep s (a or b) n i row c e =
     go true h e p q = p h
     go false h e p q = q e
 
--- m bytes are enough for the fields, each with a tab in front
-abbrev pub within : Form → ℕ → Bool
-within (last x) m = leb (suc (longest x)) m
-within (x then xs) m = leb (suc (longest x)) m && within xs (m - suc (longest x))
-within (a or b) m = within a m && within b m
+-- how many bytes are enough for the fields, each with a tab in front
+abbrev pub most-bytes : ℕ → List ℕ → Form → ℕ → ℕ
+most-bytes t ws (last x) i = suc (longest t ws x i)
+most-bytes t ws (x then xs) i = suc (longest t ws x i) + most-bytes t ws xs (i + width x)
+most-bytes t ws (a or b) i = max (most-bytes t ws a i) (most-bytes t ws b i)
 
-pub form-short : (a : Form) (m n i : ℕ) (row : List ℤ) → within a m ≡ true → Clear a → n ≤ MOST → fits a i row ≡ true
-    → length (tails TAB (write-by a n i row)) ≤ m
-unfolding write-by tails
-form-short (last x) m n i row h c k e =
-    let l = field-short x n i row c k e in
-    let s = leb-true (suc (longest x)) m h in
-    rw (length-append (write-field x n i row) []) (omega arith)
-form-short (x then xs) m n i row h c k e =
-    let w = both (fits-field x i row) (fits xs (i + width x) row) e in
-    let v = both (leb (suc (longest x)) m) (within xs (m - suc (longest x))) h in
-    let s = leb-true (suc (longest x)) m (v .0) in
-    let l = field-short x n i row (c .0) k (w .0) in
-    let r = form-short xs (m - suc (longest x)) n (i + width x) row (v .1) (c .1) k (w .1) in
-    rw (length-append (write-field x n i row) (tails TAB (write-by xs n (i + width x) row))) (omega arith)
-form-short (a or b) m n i row h c k e =
-    let v = both (within a m) (within b m) h in
-    go (fits a i row) refl e (λ q. form-short a m n i row (v .0) (c .0) k q) (λ q. form-short b m n i row (v .1) (c .1 .0) k q)
-  where
-    go : (t : Bool) → fits a i row ≡ t → t || fits b i row ≡ true → (fits a i row ≡ true → length (tails TAB (write-by a n i row)) ≤ m)
-        → (fits b i row ≡ true → length (tails TAB (write-by b n i row)) ≤ m)
-        → length (tails TAB (cond t (write-by a n i row) (write-by b n i row))) ≤ m
-    go true h e p q = p h
-    go false h e p q = q e
+module _ (t : ℕ) (ws : List ℕ) (n : ℕ) (row : List ℤ) (m : length (numeral (pos n)) ≤ t) (s : Sized ws 0 row) where
+  pub form-short : (a : Form) (i : ℕ) → Clear a → fits a i row ≡ true → length (tails TAB (write-by a n i row)) ≤ most-bytes t ws a i
+  unfolding write-by tails
+  form-short (last x) i c e =
+      let l = field-short x t ws n i row c m s e in
+      rw (length-append (write-field x n i row) []) (omega arith)
+  form-short (x then xs) i c e =
+      let w = both (fits-field x i row) (fits xs (i + width x) row) e in
+      let l = field-short x t ws n i row (c .0) m s (w .0) in
+      let r = form-short xs (i + width x) (c .1) (w .1) in
+      rw (length-append (write-field x n i row) (tails TAB (write-by xs n (i + width x) row))) (omega arith)
+  form-short (a or b) i c e = go (fits a i row) refl e (λ q. form-short a i (c .0) q) (λ q. form-short b i (c .1 .0) q)
+    where
+      go : (t₁ : Bool) → fits a i row ≡ t₁ → t₁ || fits b i row ≡ true
+          → (fits a i row ≡ true → length (tails TAB (write-by a n i row)) ≤ most-bytes t ws a i)
+          → (fits b i row ≡ true → length (tails TAB (write-by b n i row)) ≤ most-bytes t ws b i)
+          → length (tails TAB (cond t₁ (write-by a n i row) (write-by b n i row))) ≤ max (most-bytes t ws a i) (most-bytes t ws b i)
+      go true h e p q = let l = p h in omega arith
+      go false h e p q = let l = q e in omega arith

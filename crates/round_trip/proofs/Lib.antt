@@ -8,4 +8,5 @@ pub mod WalkKept
 pub mod WalkRead
 pub mod Values
 pub mod Same
+pub mod Short
 pub mod Round

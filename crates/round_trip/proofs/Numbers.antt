@@ -12,6 +12,7 @@ use lib.ListN.{length, length-append}
 use borrow.Author.Tests.{ltb-true, ltb-false, lt-ltb, le-ltb, leb-true, le-leb, ne-eqb, eqb-true, eqb-false}
 use Rattle.sizes.specs.Sizes.{MOST}
 use Rattle.numbers.specs.Range.{inRange, lowest, highest}
+use Rattle.numbers.specs.Reference.{ref, NOWHERE}
 use Rattle.numbers.proofs.Ranges.{within-low, within-high, within-both}
 use Rattle.meaning.specs.Number.{BEYOND, value, alone, unless-zero, natural, capped, natural-of, with-no-sign, minus, signed, number-of}
 use Rattle.meaning.specs.Number.{by-size, digits-in, digits, numeral}
@@ -298,3 +299,22 @@ pub numeral-length : (z : ℤ) → natAbs z ≤ MOST → length (numeral z) ≤ 
 unfolding numeral
 numeral-length (pos n) h = let e = ten-digits n h in omega arith
 numeral-length (negsuc n) h = let e = ten-digits (suc n) h in omega arith
+
+-- a smaller number has no more digits
+pub digits-grow : (n m : ℕ) → m ≤ n → length (digits m) ≤ length (digits n)
+digits-grow = by-digits (λ n. (m : ℕ) → m ≤ n → length (digits m) ≤ length (digits n))
+    (λ n h m l. rw (digits-one m (omega arith), digits-one n h) (omega arith))
+    (λ n h r m l. go n h r m l (ltb m 10) refl)
+  where
+    go : (n : ℕ) → 10 ≤ n → ((m : ℕ) → m ≤ n / 10 → length (digits m) ≤ length (digits (n / 10))) → (m : ℕ) → m ≤ n
+        → (t : Bool) → ltb m 10 ≡ t → length (digits m) ≤ length (digits n)
+    go n h r m l true e = rw (digits-one m (ltb-true m 10 e), digits-more n h, length-append) (omega arith)
+    go n h r m l false e =
+        let i = r (m / 10) (omega arith) in
+        rw (digits-more m (ltb-false m 10 e), digits-more n h, length-append, length-append) (omega arith)
+
+-- a number that names one of s has no more bytes than s has digits
+pub named-length : (z : ℤ) (s : ℕ) → ref z ≤ s → s < NOWHERE → length (numeral z) ≤ length (digits s)
+unfolding numeral
+named-length (pos n) s l h = digits-grow s n l
+named-length (negsuc n) s l h = absurd (omega arith)

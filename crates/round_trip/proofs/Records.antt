@@ -6,19 +6,20 @@ use mathlib.Core.List.{List, [], _∷_}
 use Prim.Native.Nat.{ℕ, zero, suc, _≤_, _<_}
 use native.Mathlib.Omega.{arith}
 use lib.Dec.{eqb}
-use lib.IntN.{ℤ}
+use lib.IntN.{ℤ, pos}
 use lib.ListN.{length}
 use borrow.Author.Tests.{eqb-true, lt-ltb}
 use Rattle.sizes.specs.Sizes.{STATES, VARIABLES, TRANSITIONS, ACTIONS, MOST}
 use Rattle.meaning.specs.Grammar.{Record, s-record, v-record, e-record, t-record, a-record, no-record, Form, form, name, most, record-by}
 use Rattle.meaning.specs.Value.{STATE-ROW, VAR-ROW, TRANS-ROW, ACT-ROW, fits}
+use Rattle.meaning.specs.Number.{numeral}
 use Rattle.meaning.specs.Split.{TAB, LF, fields, joined, tails}
 use Rattle.meaning.specs.Line.{Line, worse, room, line, letter-of, field, rest-of, read-by, line-by, write-by, text-of-row}
 use Rattle.meaning.specs.Text.{record-of}
 use Rattle.round_trip.proofs.Splits.{Free, AllFree, free-byte, free-joined, fields-joined, joined-fields}
-use Rattle.round_trip.proofs.Fields.{Good, worse-good, room-good, numbers-at, at-self, letter-field, other-letters, dash-number}
-use Rattle.round_trip.proofs.Fields.{place-history, place-state, history-state}
-use Rattle.round_trip.proofs.Forms.{size, Clear, LineKept, form-kept, form-reads, form-free, within, form-short}
+use Rattle.round_trip.proofs.Fields.{Good, Sized, worse-good, room-good, numbers-at, at-self, letter-field, other-letters}
+use Rattle.round_trip.proofs.Fields.{dash-number, place-history, place-state, history-state}
+use Rattle.round_trip.proofs.Forms.{size, Clear, LineKept, form-kept, form-reads, form-free, most-bytes, form-short}
 
 -- ---- the forms
 
@@ -109,9 +110,10 @@ module _ (r : Record) (n : ℕ) (row : List ℤ) (ok : fits (form r n) 0 row ≡
   unfolding text-of-row
   row-free = free-joined ((name r ∷ []) ∷ write-by (form r n) n 0 row) (all-free LF (omega arith))
 
-  pub row-short : (m : ℕ) → within (form r n) m ≡ true → length (text-of-row r n row) ≤ suc m
+  pub row-short : (t : ℕ) (ws : List ℕ) → length (numeral (pos n)) ≤ t → Sized ws 0 row
+      → length (text-of-row r n row) ≤ suc (most-bytes t ws (form r n) 0)
   unfolding text-of-row joined
-  row-short m h = let l = form-short (form r n) m n 0 row h (clear r n) (few r n room-for) ok in omega arith
+  row-short t ws m s = let l = form-short t ws n row m s (form r n) 0 (clear r n) ok in omega arith
 
   its-fields : fields (text-of-row r n row) ≡ (name r ∷ []) ∷ write-by (form r n) n 0 row
   unfolding text-of-row

@@ -19,9 +19,10 @@ use Rattle.meaning.specs.Text.{Outcome, done, refused, value-of, by-rule, check
 use Rattle.round_trip.proofs.Numbers.{no}
 use Rattle.round_trip.proofs.Fields.{both}
 use Rattle.round_trip.proofs.WalkKept.{text-kept}
-use Rattle.round_trip.proofs.WalkRead.{text-short, text-reads}
+use Rattle.round_trip.proofs.WalkRead.{text-reads}
 use Rattle.round_trip.proofs.Values.{rows-back, value-keeps, value-shaped}
 use Rattle.round_trip.proofs.Same.{Same, value-same}
+use Rattle.round_trip.proofs.Short.{text-short}
 
 -- ---- verdicts
 
@@ -107,14 +108,14 @@ read-then-write text n v m e h = rw (read-then-rules text n v e, read-then-text 
 -- the text of a chart that passes the rules is never too long
 pub text-fits : (v : List ℤ) → failing-rule-of v ≡ none → length (text-of v) ≤ TEXT
 unfolding text-of
-text-fits v e = text-short (rows-of v) (value-shaped v (passes v e .keeps))
+text-fits v e = text-short v (passes v e .keeps) (passes v e .rest)
 
 -- a chart that passes the rules, written and read again into enough numbers, is the value of its rows
 pub write-then-read : (v : List ℤ) (n : ℕ) → failing-rule-of v ≡ none → VALUE ≤ n → read (text-of v) n ≡ done (value-of (rows-of v))
 unfolding read text-of
 write-then-read v n e h =
     let p = passes v e in
-    rw (text-reads (rows-of v) (value-shaped v (p .keeps)), le-leb VALUE n h, p .rest)
+    rw (text-reads (rows-of v) (value-shaped v (p .keeps)) (text-short v (p .keeps) (p .rest)), le-leb VALUE n h, p .rest)
 
 -- which is the same chart: the counts and every place within them are the same, and places past the counts are 0
 pub write-then-same : (v : List ℤ) → failing-rule-of v ≡ none → Same v (value-of (rows-of v))

@@ -1,14 +1,12 @@
 -- Cutting and joining: a text cut and joined is the same text; parts without the separator, joined and cut, are the same parts.
--- In the order: parts without a separator; fields of a line; lines of a text; what is free of separators; lengths. Assumes nothing.
+-- In the order: parts without a separator; fields of a line; lines of a text; what is free of separators. Assumes nothing.
 use mathlib.Core.Path.{_≡_, refl, ap, _∙_}
 use mathlib.Core.Bool.{Bool, true, false}
 use mathlib.Core.List.{List, [], _∷_, _++_, append-assoc, append-nil}
-use Prim.Native.Nat.{ℕ, suc, _+_, _*_, _/_, _%_, _≤_, _<_}
+use Prim.Native.Nat.{ℕ, suc, _+_, _/_, _%_, _≤_, _<_}
 use native.Mathlib.Omega.{arith}
-use native.Mathlib.Nat.{mul-suc}
 use lib.Dec.{eqb}
 use lib.IntN.{ℤ, pos, negsuc}
-use lib.ListN.{length, length-append}
 use borrow.Author.Tests.{eq-eqb, ne-eqb, eqb-true}
 use Rattle.meaning.specs.Number.{digits, numeral}
 use Rattle.meaning.specs.Split.{TAB, LF, parts, all, onto, cut, split, fields, lines, tails, joined, ended}
@@ -112,36 +110,3 @@ pub free-joined : (xs : List (List ℕ)) → AllFree LF xs → Free LF (joined x
 unfolding joined AllFree Free
 free-joined [] f = tt
 free-joined (x ∷ xs) f = free-append LF x (tails TAB xs) (f .0) (free-tails xs (f .1))
-
--- ---- lengths
-
-unfoldable pub AllShort : ℕ → List (List ℕ) → Type 0
-AllShort n [] = Unit
-AllShort n (x ∷ xs) = (length x ≤ n) × AllShort n xs
-
-tails-length : (n : ℕ) (xs : List (List ℕ)) → AllShort n xs → length (tails TAB xs) ≤ suc n * length xs
-unfolding AllShort tails
-tails-length n [] f = omega arith
-tails-length n (x ∷ xs) f =
-    let a = f .0 in
-    let b = tails-length n xs (f .1) in
-    rw (length-append x (tails TAB xs)) (step (suc n) (length x) (length (tails TAB xs)) (length xs) (omega arith) b)
-  where
-    step : (m x t k : ℕ) → suc x ≤ m → t ≤ m * k → suc (x + t) ≤ m * suc k
-    step m x t k p q = let e : m * suc k ≡ m * k + m = mul-suc m k in omega arith
-
--- a line of a letter and fields of at most n bytes
-pub joined-length : (n b : ℕ) (xs : List (List ℕ)) → AllShort n xs → length (joined ((b ∷ []) ∷ xs)) ≤ suc (suc n * length xs)
-unfolding joined
-joined-length n b xs f = let h = tails-length n xs f in omega arith
-
-pub ended-length : (n : ℕ) (ls : List (List ℕ)) → AllShort n ls → length (ended ls) ≤ suc n * length ls
-unfolding AllShort ended
-ended-length n [] f = omega arith
-ended-length n (l ∷ ls) f =
-    let a = f .0 in
-    let b = ended-length n ls (f .1) in
-    rw (length-append l (LF ∷ ended ls)) (step (suc n) (length l) (length (ended ls)) (length ls) (omega arith) b)
-  where
-    step : (m x t k : ℕ) → suc x ≤ m → t ≤ m * k → x + suc t ≤ m * suc k
-    step m x t k p q = let e : m * suc k ≡ m * k + m = mul-suc m k in omega arith

@@ -1,5 +1,5 @@
 -- The written form of rows that a text can state reads as those rows. In the order: lines that are taken, one behind another;
--- rows of one kind; the five kinds; all lines; how long they are; the text. Assumes nothing.
+-- rows of one kind; the five kinds; all lines; the text. Assumes nothing.
 use mathlib.Core.Path.{_≡_, refl, sym, ap, _∙_, subst}
 use mathlib.Core.Bool.{Bool, true}
 use mathlib.Core.List.{List, [], _∷_, _++_, append-assoc, append-nil}
@@ -16,9 +16,9 @@ use Rattle.meaning.specs.Split.{LF, fields, lines, ended}
 use Rattle.meaning.specs.Grammar.{s-record, v-record, e-record, t-record, a-record, record-by}
 use Rattle.meaning.specs.Line.{in-order, stage-after, line-of, text-of-row}
 use Rattle.meaning.specs.Text.{Outcome, done, Walk, start, turns-of, with-row, line-taken, ending, walk, read-text, text-by}
-use Rattle.round_trip.proofs.Splits.{Free, AllFree, AllShort, all-free-append, lines-ended, ended-append, ended-length}
+use Rattle.round_trip.proofs.Splits.{Free, AllFree, all-free-append, lines-ended}
 use Rattle.round_trip.proofs.Fields.{both}
-use Rattle.round_trip.proofs.Records.{row-free, row-short, row-named, row-reads}
+use Rattle.round_trip.proofs.Records.{row-free, row-named, row-reads}
 use Rattle.round_trip.proofs.Shaped.{Shaped, Fitting, AllLong}
 
 -- ---- lines that are taken
@@ -63,12 +63,6 @@ module _ (f : ℕ → List ℤ → List ℕ) (P : ℕ → List ℤ → Type 0) w
   fine-free h k [] a = tt
   fine-free h k (x ∷ xs) a = (h k x (a .0), fine-free h (suc k) xs (a .1))
 
-  fine-short : (b : ℕ) → ((k : ℕ) (x : List ℤ) → P k x → length (f k x) ≤ b) → (k : ℕ) (xs : List (List ℤ)) → AllFine P k xs
-      → AllShort b (map-from f k xs)
-  unfolding AllShort map-from
-  fine-short b h k [] a = tt
-  fine-short b h k (x ∷ xs) a = (h k x (a .0), fine-short b h (suc k) xs (a .1))
-
   module _
       (at : ℕ → List (List ℤ) → Walk) (Stage : ℕ → Type 0) (after : ℕ) (stays : Stage after)
       (goes : (stage : ℕ) (acc : List (List ℤ)) (x : List ℤ) → Stage stage → P (length acc) x
@@ -83,11 +77,6 @@ module _ (f : ℕ → List ℤ → List ℕ) (P : ℕ → List ℤ → Type 0) w
           let g : Goes (at stage acc) (f k x) (at after (acc ++ (x ∷ []))) = rw e (goes stage acc x s (rw e at (a .0))) in
           let r = fine-reads after (acc ++ (x ∷ [])) xs (suc k) m stays (a .1) in
           one g (rw (append-assoc acc (x ∷ []) xs) at r)
-
-length-from : (f : ℕ → List ℤ → List ℕ) (k : ℕ) (xs : List (List ℤ)) → length (map-from f k xs) ≡ length xs
-unfolding map-from
-length-from f k [] = refl
-length-from f k (x ∷ xs) = ap suc (length-from f (suc k) xs)
 
 -- rows that fit are fine one by one
 record Row (statable : ℕ → List ℤ → Bool) (size most k : ℕ) (x : List ℤ) : Type 0 where
@@ -178,7 +167,7 @@ a-goes ss vs ts z stage acc x o r n more =
           (r .long),
     )
 
--- ---- free of LF, and short: lines of S and V have at most 49 bytes, of E 13, of T 76, of A 41
+-- ---- free of LF
 
 s-free : (k : ℕ) (x : List ℤ) → SRow k x → Free LF (text-of-row s-record k x)
 unfolding state-statable
@@ -195,23 +184,6 @@ t-free k x r = row-free t-record k x (r .ok) (r .fits)
 a-free : (k : ℕ) (x : List ℤ) → ARow k x → Free LF (text-of-row a-record k x)
 unfolding action-statable
 a-free k x r = row-free a-record k x (r .ok) (r .fits)
-
-s-short : (k : ℕ) (x : List ℤ) → SRow k x → length (text-of-row s-record k x) ≤ 49
-unfolding state-statable
-s-short zero x r = row-short s-record 0 x (r .ok) (r .fits) 48 refl
-s-short (suc k) x r = row-short s-record (suc k) x (r .ok) (r .fits) 48 refl
-
-v-short : (k : ℕ) (x : List ℤ) → VRow k x → length (text-of-row v-record k x) ≤ 49
-unfolding var-statable
-v-short k x r = row-short v-record k x (r .ok) (r .fits) 48 refl
-
-t-short : (k : ℕ) (x : List ℤ) → TRow k x → length (text-of-row t-record k x) ≤ 92
-unfolding trans-statable
-t-short k x r = row-short t-record k x (r .ok) (r .fits) 91 refl
-
-a-short : (k : ℕ) (x : List ℤ) → ARow k x → length (text-of-row a-record k x) ≤ 61
-unfolding action-statable
-a-short k x r = row-short a-record k x (r .ok) (r .fits) 60 refl
 
 -- ---- all lines
 
@@ -275,21 +247,6 @@ module _
               (fine-free (text-of-row t-record) TRow t-free 0 ts ft) (fine-free (text-of-row a-record) ARow a-free 0 qs fa),
         ))
 
-    -- how long they are: lines of S and V have at most 49 bytes, of E 13, of T 92, of A 61
-    all-short : length ss ≤ STATES → length vs ≤ VARIABLES → length ts ≤ TRANSITIONS → length qs ≤ ACTIONS → length (ended all-lines) ≤ TEXT
-    unfolding ended
-    all-short ls lv lt la =
-        let s = ended-length 49 (map-from (text-of-row s-record) 0 ss) (fine-short (text-of-row s-record) SRow 49 s-short 0 ss fs) in
-        let v = ended-length 49 (map-from (text-of-row v-record) 0 vs) (fine-short (text-of-row v-record) VRow 49 v-short 0 vs fv) in
-        let e = row-short e-record 0 (m ∷ []) h (omega arith) 12 refl in
-        let t = ended-length 92 (map-from (text-of-row t-record) 0 ts) (fine-short (text-of-row t-record) TRow 92 t-short 0 ts ft) in
-        let a = ended-length 61 (map-from (text-of-row a-record) 0 qs) (fine-short (text-of-row a-record) ARow 61 a-short 0 qs fa) in
-        let s′ = length-from (text-of-row s-record) 0 ss in
-        let v′ = length-from (text-of-row v-record) 0 vs in
-        let t′ = length-from (text-of-row t-record) 0 ts in
-        let a′ = length-from (text-of-row a-record) 0 qs in
-        simp (ended-append, length-append) (omega arith)
-
 -- ---- the text
 
 fine-states : (xs : List (List ℤ)) → Fitting (every-from state-statable 0) STATE-ROW STATES xs → AllFine SRow 0 xs
@@ -299,7 +256,7 @@ fine-rows : (p : List ℤ → Bool) (size most : ℕ) (xs : List (List ℤ)) →
     → AllFine (Row (λ _ x. p x) size most) 0 xs
 fine-rows p size most xs f = let k = f .few in fine-every p size most 0 xs (f .ok) (f .long) (omega arith)
 
--- rows that a text can state: their text is never too long, and it reads as those rows
+-- rows that a text can state: their text, where it is not too long, reads as those rows
 module _ (r : Rows) (s : Shaped r) where
   fs : AllFine SRow 0 (r .states)
   fs = fine-states (r .states) (s .states)
@@ -313,12 +270,6 @@ module _ (r : Rows) (s : Shaped r) where
   fa : AllFine ARow 0 (r .actions)
   fa = fine-rows action-statable ACT-ROW ACTIONS (r .actions) (s .actions)
 
-  pub text-short : length (text-by r) ≤ TEXT
-  unfolding text-by
-  text-short =
-      all-short (r .states) (r .vars) (r .transitions) (r .actions) (r .events) fs fv (s .events) ft fa
-      (s .states .few) (s .vars .few) (s .transitions .few) (s .actions .few)
-
   lines-read : walk 1 start (lines (text-by r)) ≡ done r
   unfolding text-by
   lines-read =
@@ -327,6 +278,6 @@ module _ (r : Rows) (s : Shaped r) where
       (all-free (r .states) (r .vars) (r .transitions) (r .actions) (r .events) fs fv (s .events) ft fa))
       ∙ all-walked (r .states) (r .vars) (r .transitions) (r .actions) (r .events) fs fv (s .events) ft fa
 
-  pub text-reads : read-text (text-by r) ≡ done r
+  pub text-reads : length (text-by r) ≤ TEXT → read-text (text-by r) ≡ done r
   unfolding read-text
-  text-reads = rw (le-ltb TEXT (length (text-by r)) text-short) lines-read
+  text-reads short = rw (le-ltb TEXT (length (text-by r)) short) lines-read

@@ -66,7 +66,7 @@ pub fn rule_2(chart: &[i32]) -> bool
 
 // For each state how many children it has, and whether all of them are o.
 struct Families {
-    counts: [u8; STATES],
+    counts: [u16; STATES],
     plain: [bool; STATES],
 }
 
@@ -84,7 +84,7 @@ fn count_children(chart: &[i32]) -> Families
     ensures { λ r. ⌜ Family (chart-of (now (chart .entry))) (length (chart-of (now (chart .entry)) .states)) (r .counts) (r .plain) ⌝ }
 {
     let n = state_count(chart);
-    let mut counts = [0u8; STATES];
+    let mut counts = [0u16; STATES];
     let mut plain = [true; STATES];
     let mut next = 0;
     while next < n {
@@ -105,7 +105,7 @@ fn count_children(chart: &[i32]) -> Families
 }
 
 // R3 of one state: b has no child, o at least one, a at least two, all of them o.
-fn children_fit(kind: Kind, count: u8, plain: bool) -> bool
+fn children_fit(kind: Kind, count: u16, plain: bool) -> bool
     ensures { λ r. ⌜ r ≡ count-fits-kind kind count plain ⌝ }
 {
     match kind {

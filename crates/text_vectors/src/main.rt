@@ -3,12 +3,9 @@
 // `differs`, or `-` for a refused one. A file that cannot be opened prints three dashes. The file `stdout` has what must be printed:
 // the table of vectors in its order, then texts that it lacks: 65 states, 128 transitions, 257 actions, and 01's chart K.
 use engine::VALUE;
+use files::LENT;
 use libc::STDOUT_FILENO;
-use sizes::TEXT;
 ghost use Prim.Native.Nat.{_≤_};
-
-// The bytes lent for a text: one more than a text may have, so that a longer one is not cut to one that is accepted.
-const LENT: usize = TEXT + 1;
 
 // How many bytes of a file's name are the text's name: all but `.txt`.
 fn stem(named: usize) -> usize

@@ -96,5 +96,6 @@ returns c = tally-end _ _ (c .before .before .state-count .ensures) (c .before .
 pub count-children-spec : {M : Type 1} → statement M
 count-children-spec =
     tie.close (tie.spec Inv-loop μ-loop (λ c κs. search needs) loop-holds (λ c. omega arith) (λ c. omega arith) loop-again
-    (λ c κs. search needs) (λ c. omega arith) loop-again-2 (λ c. omega arith) add-all (λ c. omega arith) element-copy-out-if3
-    (λ c. omega arith) loop-again-3 (λ c. omega arith) add-on (λ c. omega arith) (λ c. omega arith) loop-again-4 returns)
+    (λ c κs. search needs) (λ c. omega arith) loop-again-2 (λ c. omega arith) (λ c. omega arith) add-all (λ c. omega arith)
+    (λ c. omega arith) element-copy-out-if3 (λ c. omega arith) loop-again-3 (λ c. omega arith) (λ c. omega arith) add-on
+    (λ c. omega arith) (λ c. omega arith) (λ c. omega arith) loop-again-4 returns)

@@ -17,23 +17,35 @@ Inv-loop chart n counts₀ plain₀ next₀ counts plain next = (next ≤ n) × 
 abbrev μ-loop : tie.MeasureT-loop
 μ-loop chart n counts₀ plain₀ next₀ counts plain next = n - next
 
-abbrev parent-of-from-else2 : tie.Else2 Inv-loop μ-loop → tie.After-parent-of Inv-loop μ-loop
-parent-of-from-else2 c = c .before .before .before .before
-
-abbrev at-loop-from-then1 : tie.Then1 Inv-loop μ-loop → tie.At-loop Inv-loop μ-loop
-at-loop-from-then1 c = c .before .before .before .before .before
-
-abbrev start-from-else2 : tie.Else2 Inv-loop μ-loop → tie.Start Inv-loop μ-loop
-start-from-else2 c = parent-of-from-else2 c .before .before .before .before
+state-count-requires : tie.Need-state-count-requires Inv-loop μ-loop
+state-count-requires c κs = search needs
 
 loop-holds : tie.Need-loop-holds Inv-loop μ-loop
 loop-holds c = (omega arith, family-none (chart-of (c .before .args .chart .now)))
 
+add-next : tie.Need-add-next Inv-loop μ-loop
+add-next c = omega arith
+
+parent-of-requires : tie.Need-parent-of-requires Inv-loop μ-loop
+parent-of-requires c κs = search needs
+
+kind-of-requires : tie.Need-kind-of-requires Inv-loop μ-loop
+kind-of-requires c κs = search needs
+
+is-o-requires : tie.Need-is-o-requires Inv-loop μ-loop
+is-o-requires c κs = search needs
+
+loop-less : tie.Need-loop-less Inv-loop μ-loop
+loop-less c = omega arith
+
 loop-again : tie.Need-loop-again Inv-loop μ-loop
 loop-again c =
-    let k = chart-of (at-loop-from-then1 c .before .before .args .chart .now) in
-    let w = at-loop-from-then1 c .loop in
+    let k = chart-of (c .before .before .before .before .before .before .before .args .chart .now) in
+    let w = c .before .before .before .before .before .loop in
     (omega arith, family-root k (w .next) (w .counts) (w .plain) (w .inv .1) (c .if1 .taken))
+
+loop-less-2 : tie.Need-loop-less-2 Inv-loop μ-loop
+loop-less-2 c = omega arith
 
 loop-again-2 : tie.Need-loop-again-2 Inv-loop μ-loop
 loop-again-2 c =
@@ -44,21 +56,45 @@ loop-again-2 c =
           (rw (c .before .before .before .before .parent-of .ensures) at (c .if2 .taken)),
     )
 
+mul-counts : tie.Need-mul-counts Inv-loop μ-loop
+mul-counts c = omega arith
+
+array-read-counts : tie.Need-array-read-counts Inv-loop μ-loop
+array-read-counts c = omega arith
+
 add-counts : tie.Need-add-counts Inv-loop μ-loop
 add-counts c =
-    let k = chart-of (start-from-else2 c .args .chart .now) in
-    let w = parent-of-from-else2 c .before .before .loop in
-    let p = parent-of-from-else2 c .parent-of .result in
+    let k = chart-of (c .before .before .before .before .before .before .before .before .args .chart .now) in
+    let w = c .before .before .before .before .before .before .loop in
+    let p = c .before .before .before .before .parent-of .result in
     omega (
       arith,
       w .inv .0,
       w .inv .1 .counted p (c .if2 .left),
       young-length k
           (w .next) p,
-      parent-of-from-else2 c .before .before .before .state-count .ensures,
+      c .before .before .before .before .before .before .before .state-count .ensures,
       states-most
-          (start-from-else2 c .args .chart .now),
+          (c .before .before .before .before .before .before .before .before .args .chart .now),
     )
+
+mul-counts-2 : tie.Need-mul-counts-2 Inv-loop μ-loop
+mul-counts-2 c = omega arith
+
+array-write-counts : tie.Need-array-write-counts Inv-loop μ-loop
+array-write-counts c = omega arith
+
+array-read-both : tie.Need-array-read-both Inv-loop μ-loop
+array-read-both c = omega arith
+
+both-requires : tie.Need-both-requires Inv-loop μ-loop
+both-requires c κs = search needs
+
+array-write-plain : tie.Need-array-write-plain Inv-loop μ-loop
+array-write-plain c = omega arith
+
+loop-less-3 : tie.Need-loop-less-3 Inv-loop μ-loop
+loop-less-3 c = omega arith
 
 loop-again-3 : tie.Need-loop-again-3 Inv-loop μ-loop
 loop-again-3 c =
@@ -79,7 +115,29 @@ returns c =
     rw e at (w .inv .1)
 
 pub count-children-spec : {M : Type 1} → statement M
-count-children-spec = tie.close
-    (tie.spec Inv-loop μ-loop (λ c κs. search needs) loop-holds (λ c. omega arith) (λ c κs. search needs) (λ c κs. search needs)
-    (λ c κs. search needs) (λ c. omega arith) loop-again (λ c. omega arith) loop-again-2 (λ c. omega arith) add-counts
-    (λ c. omega arith) (λ c. omega arith) (λ c κs. search needs) (λ c. omega arith) (λ c. omega arith) loop-again-3 returns)
+count-children-spec =
+    tie.close
+    (tie.spec
+    Inv-loop
+    μ-loop
+    state-count-requires
+    loop-holds
+    add-next
+    parent-of-requires
+    kind-of-requires
+    is-o-requires
+    loop-less
+    loop-again
+    loop-less-2
+    loop-again-2
+    mul-counts
+    array-read-counts
+    add-counts
+    mul-counts-2
+    array-write-counts
+    array-read-both
+    both-requires
+    array-write-plain
+    loop-less-3
+    loop-again-3
+    returns)

@@ -26,22 +26,30 @@ Inv-loop chart n counts plain s₀ s = every (tried (chart-of chart)) (from s (l
 abbrev μ-loop : tie.MeasureT-loop
 μ-loop chart n counts plain s₀ s = n - s
 
-abbrev start-from-plain : tie.After-plain Inv-loop μ-loop → tie.Start Inv-loop μ-loop
-start-from-plain c = c .before .before .before .before
+state-count-requires : tie.Need-state-count-requires Inv-loop μ-loop
+state-count-requires c κs = search needs
 
-abbrev start-from-kind-of : tie.After-kind-of Inv-loop μ-loop → tie.Start Inv-loop μ-loop
-start-from-kind-of c = start-from-plain (c .before .before .before)
+count-children-requires : tie.Need-count-children-requires Inv-loop μ-loop
+count-children-requires c κs = search needs
 
 loop-holds : tie.Need-loop-holds Inv-loop μ-loop
 unfolding rule-3 all-states
-loop-holds c = all-start (tried (chart-of (start-from-plain c .args .chart .now)))
-    (length (chart-of (start-from-plain c .args .chart .now) .states))
+loop-holds c = all-start (tried (chart-of (c .before .before .before .before .args .chart .now))) (length (chart-of (c .before .before .before .before .args .chart .now) .states))
+
+kind-of-requires : tie.Need-kind-of-requires Inv-loop μ-loop
+kind-of-requires c κs = search needs
+
+mul-children-fit : tie.Need-mul-children-fit Inv-loop μ-loop
+mul-children-fit c = omega (arith, states-most (c .before .before .before .before .before .before .before .args .chart .now))
 
 array-read-children-fit : tie.Need-array-read-children-fit Inv-loop μ-loop
-array-read-children-fit c = omega (arith, states-most (start-from-kind-of c .args .chart .now))
+array-read-children-fit c = omega (arith, states-most (c .before .before .before .before .before .before .before .args .chart .now))
 
 array-read-children-fit-2 : tie.Need-array-read-children-fit-2 Inv-loop μ-loop
-array-read-children-fit-2 c = omega (arith, states-most (start-from-kind-of c .args .chart .now))
+array-read-children-fit-2 c = omega (arith, states-most (c .before .before .before .before .before .before .before .args .chart .now))
+
+children-fit-requires : tie.Need-children-fit-requires Inv-loop μ-loop
+children-fit-requires c κs = search needs
 
 returns : tie.Need-returns Inv-loop μ-loop
 returns c =
@@ -49,10 +57,13 @@ returns c =
     let w = c .before .before .before .before .loop in
     let f = c .before .before .before .before .before .before .before .count-children in
     all-stop (tried k) (length (k .states)) (w .s) (omega arith)
-    (refuted (c .before .children-fit .ensures
-    ∙ rw (c .before .before .kind-of .ensures) (counted-fits k (f .result .counts) (f .result .plain) (w .s) (f .ensures)
-    (omega (arith, states-most (c .before .before .before .before .before .before .before .before .before .args .chart .now)))))
-    (c .if1 .taken)) (w .inv)
+    (refuted (c .before .children-fit .ensures ∙ rw (c .before .before .kind-of .ensures) (counted-fits k (f .result .counts) (f .result .plain) (w .s) (f .ensures) (omega (arith, states-most (c .before .before .before .before .before .before .before .before .before .args .chart .now))))) (c .if1 .taken)) (w .inv)
+
+add-s : tie.Need-add-s Inv-loop μ-loop
+add-s c = omega arith
+
+loop-less : tie.Need-loop-less Inv-loop μ-loop
+loop-less c = omega arith
 
 loop-again : tie.Need-loop-again Inv-loop μ-loop
 loop-again c =
@@ -60,18 +71,30 @@ loop-again c =
     let w = c .before .before .before .before .loop in
     let f = c .before .before .before .before .before .before .before .count-children in
     all-next (tried k) (length (k .states)) (w .s) (omega arith)
-    (held (c .before .children-fit .ensures
-    ∙ rw (c .before .before .kind-of .ensures) (counted-fits k (f .result .counts) (f .result .plain) (w .s) (f .ensures)
-    (omega (arith, states-most (c .before .before .before .before .before .before .before .before .before .args .chart .now)))))
-    (c .if1 .left)) (w .inv)
+    (held (c .before .children-fit .ensures ∙ rw (c .before .before .kind-of .ensures) (counted-fits k (f .result .counts) (f .result .plain) (w .s) (f .ensures) (omega (arith, states-most (c .before .before .before .before .before .before .before .before .before .args .chart .now))))) (c .if1 .left)) (w .inv)
 
 returns-2 : tie.Need-returns-2 Inv-loop μ-loop
 returns-2 c =
     let w = c .before .loop in
-    let k = chart-of (start-from-plain (c .before .before) .args .chart .now) in
+    let k = chart-of (c .before .before .before .before .before .before .args .chart .now) in
     all-done (tried k) (length (k .states)) (w .s) (omega arith) (w .inv)
 
 pub rule-3-spec : {M : Type 1} → statement M
-rule-3-spec = tie.close (tie.spec Inv-loop
-    μ-loop (λ c κs. search needs) (λ c κs. search needs) loop-holds (λ c κs. search needs) array-read-children-fit
-    array-read-children-fit-2 (λ c κs. search needs) returns (λ c. omega arith) (λ c. omega arith) loop-again returns-2)
+rule-3-spec =
+    tie.close
+    (tie.spec
+    Inv-loop
+    μ-loop
+    state-count-requires
+    count-children-requires
+    loop-holds
+    kind-of-requires
+    mul-children-fit
+    array-read-children-fit
+    array-read-children-fit-2
+    children-fit-requires
+    returns
+    add-s
+    loop-less
+    loop-again
+    returns-2)
