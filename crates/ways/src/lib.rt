@@ -4,6 +4,7 @@ use chart_rows::default_child;
 use chart_rows::kind_of;
 use chart_rows::state_count;
 use meaning::chart::Kind;
+use meaning::chart::Target;
 use numbers::Place;
 use numbers::place_of;
 use sizes::STATES;
@@ -16,6 +17,7 @@ ghost use Rattle.meaning.specs.Tree.{kind-of as kind-in};
 ghost use Rattle.meaning.specs.Value.{chart-of};
 ghost use Rattle.meaning.specs.Entry.{towards};
 ghost use Rattle.tree_walks.specs.Walks.{Ruled};
+ghost use Rattle.ways.specs.Aims.{aim-by, aimed-at};
 ghost use Rattle.ways.specs.Ways.{way-by, slot-of as slot-in, stored-way, goal-way, defaulting, On-child, Kids};
 
 // How an o state goes on: with one child, with its default, or not at all.
@@ -29,6 +31,33 @@ pub enum Next {
 pub enum Goal {
     Target(usize),
     Owner(usize),
+}
+
+// What a transition's target says: to go to a goal, or to react in place.
+pub enum Aim {
+    Goes(Goal),
+    Stays,
+}
+
+// Where a transition leads: the one place that goes by the three forms of a target.
+pub fn aim_of(target: Target) -> Aim
+    ensures { λ r. ⌜ r ≡ aim-by target ⌝ }
+{
+    match target {
+        Target::To(t) => Aim::Goes(Goal::Target(t)),
+        Target::History(b) => Aim::Goes(Goal::Owner(b)),
+        Target::InPlace => Aim::Stays,
+    }
+}
+
+// The state that a goal is: the target, or the owner.
+pub fn aimed(goal: Goal) -> usize
+    ensures { λ r. ⌜ r ≡ aimed-at goal ⌝ }
+{
+    match goal {
+        Goal::Target(t) => t,
+        Goal::Owner(b) => b,
+    }
 }
 
 // The children of a state that are entered are among the numbers from first up to below end.

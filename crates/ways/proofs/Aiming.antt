@@ -1,0 +1,40 @@
+-- What holds of each form of a target holds of where it leads. Assumes nothing.
+use mathlib.Core.Path.{_≡_, subst}
+use Prim.Native.Nat.{ℕ, _<_}
+use native.Mathlib.Omega.{arith}
+use lib.ListN.{length}
+use Rattle.laws.proofs.Rules.{Target-facts}
+use Rattle.meaning.specs.Chart.{Chart}
+use Rattle.meaning.specs.declared.chart.Target.{Target}
+use Rattle.meaning.specs.declared.chart.Target.the-variants.{To as to, History as history, InPlace as in-place}
+use Rattle.ways.specs.declared.Aim.{Aim}
+use Rattle.ways.specs.declared.Aim.the-variants.{Goes, Stays}
+use Rattle.ways.specs.declared.Goal.{Goal}
+use Rattle.ways.specs.declared.Goal.the-variants.{Target as target, Owner as owner}
+use Rattle.ways.specs.Aims.{aim-by, aimed-at}
+
+same-goal : (x y : Goal) → Goes x ≡ Goes y → x ≡ y
+same-goal x y e = cc
+
+goes-not : (x : Goal) → Stays ≡ Goes x → ⊥
+goes-not x e = let z : _≡_ {A = ℕ} 0 1 = cc in omega arith
+
+pub goes-by : (P : Target → Goal → Type 0) → ((d : ℕ) → P (to d) (target d)) → ((b : ℕ) → P (history b) (owner b))
+    → (g : Target) (goal : Goal) → aim-by g ≡ Goes goal → P g goal
+goes-by P f h (to d) goal e = subst (P (to d)) (same-goal (target d) goal e) (f d)
+goes-by P f h (history b) goal e = subst (P (history b)) (same-goal (owner b) goal e) (h b)
+goes-by P f h in-place goal e = absurd (goes-not goal e)
+
+stays-not : (x : Goal) → Goes x ≡ Stays → ⊥
+stays-not x e = let z : _≡_ {A = ℕ} 0 1 = cc in omega arith
+
+pub stays-by : (P : Target → Type 0) → P in-place → (g : Target) → aim-by g ≡ Stays → P g
+stays-by P f (to d) e = absurd (stays-not (target d) e)
+stays-by P f (history b) e = absurd (stays-not (owner b) e)
+stays-by P f in-place e = f
+
+-- R6: the state aimed at is one of the chart, and neither it nor the source is the root
+pub goal-facts : (c : Chart) (s : ℕ) (g : Target) (goal : Goal) → aim-by g ≡ Goes goal → Target-facts c s g
+    → (aimed-at goal < length (c .states)) × (0 < aimed-at goal) × (0 < s)
+goal-facts c s = goes-by (λ g goal. Target-facts c s g → (aimed-at goal < length (c .states)) × (0 < aimed-at goal) × (0 < s))
+    (λ d f. (f .0, f .1, f .2)) (λ b f. (f .0, f .1, f .3))
