@@ -25,12 +25,12 @@ ghost use mathlib.Core.List.{[]};
 ghost use Prim.Native.Nat.{_<_, _≤_};
 ghost use lib.ListN.{length};
 ghost use Rattle.sizes.specs.Sizes.{STATES as states, TRANSITIONS as transitions};
-ghost use Rattle.meaning.specs.Tree.{span-of, trans-row};
+ghost use Rattle.meaning.specs.Tree.{trans-row};
 ghost use Rattle.meaning.specs.Value.{chart-of};
 ghost use Rattle.meaning.specs.Reaction.{compare-by, guard-holds, enabled-by};
 ghost use Rattle.tree_walks.specs.Walks.{Ruled};
-ghost use Rattle.choice.specs.Span.{Spans, Aims, Goes};
-ghost use Rattle.choice.specs.Choice.{seen, Reads, meant, Sources, Chose};
+ghost use Rattle.choice.specs.Span.{Spanned, Aims, Goes};
+ghost use Rattle.choice.specs.Choice.{seen, Reads, meant, Sources, noted, Chose, PICKS as picks-size};
 
 // What choosing finds out of each transition that it chooses, in three parts of one array: the transition, the top of its span, and
 // where the states below that top end. Two bytes each, since the array is cleared for each step.
@@ -167,6 +167,16 @@ fn mark_gone(span: Span, gone: &mut [bool; STATES])
     }
 }
 
+// One more is chosen: its number, and what was found out of it.
+fn note(t: usize, span: Span, picks: &mut [u16; PICKS], count: usize)
+    requires { ⌜ (t < transitions) × (span .top < span .end) × (span .end ≤ states) × (count < transitions) × (length (now picks) ≡ picks-size) ⌝ }
+    ensures { λ r. ⌜ now (picks .exit) ≡ noted (now (picks .entry)) count t span ⌝ }
+{
+    picks[count] = t as u16;
+    picks[TOPS_AT + count] = span.top as u16;
+    picks[ENDS_AT + count] = span.end as u16;
+}
+
 // "the enabled, by falling source then rising transition number, less any whose span meets that of one already chosen": they
 // stand in picks, with what was found out of each.
 pub fn choose(
@@ -205,9 +215,7 @@ pub fn choose(
                 }
             }
             mark_gone(span, &mut gone);
-            picks[count] = t as u16;
-            picks[TOPS_AT + count] = span.top as u16;
-            picks[ENDS_AT + count] = span.end as u16;
+            note(t, span, picks, count);
             count += 1;
         }
     }

@@ -3,13 +3,14 @@
 use acts::index::INDEX;
 use acts::perform_all;
 use chart_rows::trans_row;
-use leave_enter::entering::towards;
+use leave_enter::entering::descend;
 use leave_enter::leaving::leave_below;
 use meaning::chart::Owner;
 use queue::lent::QUEUE_NUMBERS;
 use sizes::STATES;
 use sizes::VARIABLES;
 use ways::Aim;
+use ways::Course;
 use ways::Goal;
 use ways::aim_of;
 use widget::Went;
@@ -68,11 +69,11 @@ fn move_to(
     if went.number != 0 {
         return went;
     }
-    towards(
+    descend(
         chart,
         index,
         arg,
-        goal,
+        Course::Towards(goal),
         top,
         active,
         slots,

@@ -18,7 +18,7 @@ ghost use Rattle.meaning.specs.Value.{chart-of};
 ghost use Rattle.meaning.specs.Entry.{towards};
 ghost use Rattle.tree_walks.specs.Walks.{Ruled};
 ghost use Rattle.ways.specs.Aims.{aim-by, aimed-at};
-ghost use Rattle.ways.specs.Ways.{way-by, slot-of as slot-in, stored-way, goal-way, defaulting, On-child, Kids};
+ghost use Rattle.ways.specs.Ways.{way-by, slot-of as slot-in, stored-way, goal-way, course-way, restoring, onward-goal, onward-from, defaulting, On-child, Kids};
 
 // How an o state goes on: with one child, with its default, or not at all.
 pub enum Next {
@@ -58,6 +58,13 @@ pub fn aimed(goal: Goal) -> usize
         Goal::Target(t) => t,
         Goal::Owner(b) => b,
     }
+}
+
+// How a descent goes on below a state: by default, by the slots, or towards a goal.
+pub enum Course {
+    Defaults,
+    Slots,
+    Towards(Goal),
 }
 
 // The children of a state that are entered are among the numbers from first up to below end.
@@ -156,5 +163,58 @@ pub fn next_of(chart: &[i32], goal: Goal, s: usize) -> Next
             }
             next_to(chart, b, s)
         }
+    }
+}
+
+// The way of a course at s.
+pub fn next_by(chart: &[i32], slots: &[i32; STATES], course: Course, s: usize) -> Next
+    requires { ⌜ Ruled (now chart) × (s < states) × (length (now slots) ≡ states) ⌝ }
+    ensures { λ r. ⌜ way-by r ≡ course-way (chart-of (now (chart .entry))) (now (slots .entry)) course s ⌝ }
+{
+    match course {
+        Course::Defaults => Next::Defaults,
+        Course::Slots => stored(slots, s),
+        Course::Towards(goal) => next_of(chart, goal, s),
+    }
+}
+
+// Whether a descent goes by the slots: it meets 14 at an o state whose slot is empty.
+pub fn restores(course: Course) -> bool
+    ensures { λ r. ⌜ r ≡ restoring course ⌝ }
+{
+    match course {
+        Course::Defaults => false,
+        Course::Slots => true,
+        Course::Towards(goal) => false,
+    }
+}
+
+// How a descent to a goal goes on below s, which it just entered: at the owner of a history "if its slot is filled .. down by the
+// slots .. If empty, the default is taken", else as before.
+fn onward_to(slots: &[i32; STATES], goal: Goal, s: usize) -> Course
+    requires { ⌜ (s < states) × (length (now slots) ≡ states) ⌝ }
+    ensures { λ r. ⌜ r ≡ onward-goal (now (slots .entry)) goal s ⌝ }
+{
+    let Goal::Owner(b) = goal else {
+        return Course::Towards(goal);
+    };
+    if s != b {
+        return Course::Towards(goal);
+    }
+    let Place::Empty = slot_of(slots, s) else {
+        return Course::Slots;
+    };
+    Course::Defaults
+}
+
+// How any descent goes on below s, which it just entered.
+pub fn onward(slots: &[i32; STATES], course: Course, s: usize) -> Course
+    requires { ⌜ (s < states) × (length (now slots) ≡ states) ⌝ }
+    ensures { λ r. ⌜ r ≡ onward-from (now (slots .entry)) course s ⌝ }
+{
+    match course {
+        Course::Defaults => Course::Defaults,
+        Course::Slots => Course::Slots,
+        Course::Towards(goal) => onward_to(slots, goal, s),
     }
 }
