@@ -28,11 +28,11 @@ ghost use lib.ListN.{length};
 ghost use Rattle.sizes.specs.Sizes.{STATES as states};
 ghost use Rattle.meaning.specs.Steps.{each};
 ghost use Rattle.meaning.specs.Tree.{kind-of as kind-in};
-ghost use Rattle.meaning.specs.Entry.{plain, all-below, by-defaults, visit as visits, revisit as revisits, restore as restores};
+ghost use Rattle.meaning.specs.Entry.{all-below, visit as visits};
 ghost use Rattle.meaning.specs.Value.{chart-of};
 ghost use Rattle.acts.specs.Index.{Ready};
 ghost use Rattle.widget.specs.View.{Lent, all-lent, with-active, with-vars, with-queue, with-trace, Within, Did};
-ghost use Rattle.ways.specs.Ways.{way-by, stored-way, goal-way, goal-visit, defaulting, visit-as, Inside, Led};
+ghost use Rattle.ways.specs.Ways.{way-by, course-way, course-visit, arrival, defaulting, visit-as, Bound, Led};
 
 // Enters s, a child of p, which goes on so: "a state entered by its parent's default has that default's actions run just
 // before it".

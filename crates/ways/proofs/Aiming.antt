@@ -2,13 +2,14 @@
 use mathlib.Core.Path.{_≡_, refl, sym, ap, subst, _∙_}
 use Prim.Native.Nat.{ℕ, _<_}
 use native.Mathlib.Omega.{arith}
-use mathlib.Core.Bool.{Bool, cond}
+use mathlib.Core.Bool.{Bool, true, false, cond}
 use mathlib.Core.List.{List}
 use borrow.Author.Tests.{eq-eqb, ne-eqb}
 use lib.Dec.{eqb}
 use lib.ListN.{length}
 use lib.IntN.{ℤ}
 use Rattle.numbers.specs.declared.Place.{Place}
+use Rattle.numbers.specs.declared.Place.the-variants.{Empty as empty, At as holds}
 use Rattle.laws.proofs.Rules.{Target-facts}
 use Rattle.meaning.specs.Chart.{Chart}
 use Rattle.meaning.specs.Entry.{Way}
@@ -19,9 +20,9 @@ use Rattle.ways.specs.declared.Aim.the-variants.{Goes, Stays}
 use Rattle.ways.specs.declared.Goal.{Goal}
 use Rattle.ways.specs.declared.Goal.the-variants.{Target as target, Owner as owner}
 use Rattle.ways.specs.declared.Course.{Course}
-use Rattle.ways.specs.declared.Course.the-variants.{Towards}
+use Rattle.ways.specs.declared.Course.the-variants.{Defaults as default-course, Slots as slot-course, Towards}
 use Rattle.ways.specs.Aims.{aim-by, aimed-at}
-use Rattle.ways.specs.Ways.{slot-of, course-way, restored, onward-goal, onward-from}
+use Rattle.ways.specs.Ways.{slot-of, course-way, restored, onward-goal, onward-from, Bound}
 
 same-goal : (x y : Goal) → Goes x ≡ Goes y → x ≡ y
 same-goal x y e = cc
@@ -76,3 +77,15 @@ module _ (sl : List ℤ) (s : ℕ) {goal : Goal} where
 pub onward-as : (sl : List ℤ) (s : ℕ) {course x : Course} → course ≡ x → {y : Course} → y ≡ onward-from sl x s
     → y ≡ onward-from sl course s
 onward-as sl s e q = q ∙ ap (λ z. onward-from sl z s) (sym e)
+
+-- the course that goes on is bound as the one before
+pub onward-bound : (c : Chart) (sl : List ℤ) (s : ℕ) (course : Course) → Bound c course → Bound c (onward-from sl course s)
+onward-bound c sl s default-course b = tt
+onward-bound c sl s slot-course b = tt
+onward-bound c sl s (Towards (target t)) b = b
+onward-bound c sl s (Towards (owner o)) b = go (eqb s o) (slot-of sl s)
+  where
+    go : (x : Bool) (p : Place) → Bound c (cond x (restored p) (Towards (owner o)))
+    go true (holds d) = tt
+    go true empty = tt
+    go false p = b
