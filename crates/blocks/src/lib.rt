@@ -131,7 +131,8 @@ pub fn put_block(
     ensures { λ r. ⌜ pen (now (plan .exit)) r ≡ emits (block (chart-of (now (chart .entry))) t) (pen (now (plan .entry)) at) ⌝ }
 {
     let row = trans_row(chart, t);
-    let aim = aim_of(row.target);
+    let target = row.target;
+    let aim = aim_of(target);
     let Aim::Goes(goal) = aim else {
         return put_acts(chart, index, Owner::TransitionOf(t), plan, at);
     };

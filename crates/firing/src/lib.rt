@@ -26,7 +26,7 @@ ghost use Rattle.meaning.specs.Value.{chart-of};
 ghost use Rattle.acts.specs.Index.{Ready};
 ghost use Rattle.widget.specs.View.{all-lent, Did};
 ghost use Rattle.ways.specs.Aims.{Found};
-ghost use Rattle.ways.specs.Ways.{Inside, Led};
+ghost use Rattle.ways.specs.Ways.{Inside, Owned, Led};
 ghost use Rattle.firing.specs.Moving.{moving};
 
 // The states below the scope are left, then the transition's actions, then the way down to the goal.
@@ -45,7 +45,7 @@ fn move_to(
     trace: &mut [i32],
     at: usize,
 ) -> Went
-    requires { ⌜ Ready (now chart) (now index) × Inside (chart-of (now chart)) goal × (top < length (chart-of (now chart) .states)) × (end ≡ suc top + length (descendants (chart-of (now chart)) top)) × Led (chart-of (now chart)) (now slots) × (length (now queue) ≡ all) × (at ≤ length (now trace)) × (t < transitions) ⌝ }
+    requires { ⌜ Ready (now chart) (now index) × (Inside (chart-of (now chart)) goal × Owned (chart-of (now chart)) goal) × (top < length (chart-of (now chart) .states)) × (end ≡ suc top + length (descendants (chart-of (now chart)) top)) × Led (chart-of (now chart)) (now slots) × (length (now queue) ≡ all) × (at ≤ length (now trace)) × (t < transitions) ⌝ }
     ensures { λ r. ⌜ Did (moving (chart-of (now (chart .entry))) arg t goal top) (all-lent (now (active .entry)) (now (slots .entry)) (now (vars .entry)) (now (queue .entry)) (now (trace .entry))) at r (all-lent (now (active .exit)) (now (slots .exit)) (now (vars .exit)) (now (queue .exit)) (now (trace .exit))) ⌝ }
 {
     let gone = leave_below(
@@ -69,11 +69,12 @@ fn move_to(
     if went.number != 0 {
         return went;
     }
+    let course = Course::Towards(goal);
     descend(
         chart,
         index,
         arg,
-        Course::Towards(goal),
+        course,
         top,
         active,
         slots,
@@ -107,7 +108,8 @@ pub fn fire(
         return taken;
     }
     let row = trans_row(chart, t);
-    let aim = aim_of(row.target);
+    let target = row.target;
+    let aim = aim_of(target);
     let Aim::Goes(goal) = aim else {
         let owner = Owner::TransitionOf(t);
         return perform_all(chart, index, arg, owner, vars, queue, trace, taken.at);

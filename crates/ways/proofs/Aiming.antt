@@ -22,7 +22,7 @@ use Rattle.ways.specs.declared.Goal.the-variants.{Target as target, Owne
 use Rattle.ways.specs.declared.Course.{Course}
 use Rattle.ways.specs.declared.Course.the-variants.{Defaults as default-course, Slots as slot-course, Towards}
 use Rattle.ways.specs.Aims.{aim-by, aimed-at}
-use Rattle.ways.specs.Ways.{slot-of, course-way, restored, onward-goal, onward-from, Bound}
+use Rattle.ways.specs.Ways.{slot-of, course-way, restored, onward-goal, onward-from, Inside, Owned, Bound}
 
 same-goal : (x y : Goal) → Goes x ≡ Goes y → x ≡ y
 same-goal x y e = cc
@@ -49,6 +49,10 @@ pub goal-facts : (c : Chart) (s : ℕ) (g : Target) (goal : Goal) → aim-by g �
     → (aimed-at goal < length (c .states)) × (0 < aimed-at goal) × (0 < s)
 goal-facts c s = goes-by (λ g goal. Target-facts c s g → (aimed-at goal < length (c .states)) × (0 < aimed-at goal) × (0 < s))
     (λ d f. (f .0, f .1, f .2)) (λ b f. (f .0, f .1, f .3))
+
+-- and the owner of a history is an o state
+pub goal-bound : (c : Chart) (s : ℕ) (g : Target) (goal : Goal) → aim-by g ≡ Goes goal → Target-facts c s g → Inside c goal × Owned c goal
+goal-bound c s = goes-by (λ g goal. Target-facts c s g → Inside c goal × Owned c goal) (λ d f. (f .0, tt)) (λ b f. (f .0, f .2))
 
 -- ---- courses
 
