@@ -32,10 +32,11 @@ use Rattle.meaning.specs.Reaction.{choosing-order}
 use Rattle.meaning.specs.Compile.{code-acts, exit-code, enter-code, visit-code, held-code, past-if-out, stored-code, default-arm, stored-arm, arms}
 use Rattle.meaning.specs.Compile.{towards-code, exits-code, block, start-block, head-order, code-of}
 use Rattle.meaning.specs.Value.{chart-of}
+use Rattle.ways.specs.Aims.{aim-by}
 use Rattle.ways.specs.declared.Goal.the-variants.{Target as aim, Owner as owner}
 use Rattle.emitter.proofs.Finding.{code-few}
 use Rattle.blocks.proofs.Putting.{visit-plain, visit-due}
-use Rattle.blocks.proofs.Joining.{arms-long, start-as, move-long, block-at-target, block-at-history, block-in-place}
+use Rattle.blocks.proofs.Joining.{arms-long, start-as, move-long, block-goes, block-stays}
 
 -- ---- the most that each part comes to
 
@@ -146,15 +147,29 @@ module _ (v : List ℤ) where
             let i = scope-facts (chart-of v) (sound v r) (trans-row (chart-of v) t .source) d (g .2) (g .1) .inside in
             let w : length (concat-map (visit-code (chart-of v)) (all-below (chart-of v) (towards (chart-of v) d) top)) ≤ STATES * (VISIT + ARMS)
             = concat-few (visit-code (chart-of v)) (VISIT + ARMS) STATES (all-below (chart-of v) (towards (chart-of v) d) top) (pass-few _ _ _ top (towards-pass (chart-of v) (sound v r) d top (g .0) i)) (each-any _ (λ x. omega (arith, visit-few x)) _) in
-            omega (arith, ap length (block-at-target (chart-of v) t _ refl d e top refl), move-long (chart-of v) t (aim d) top (length (chart-of v .states)) refl, exits-few top, code-few v (transition-of t), w)
+            omega (
+              arith,
+              ap length (block-goes (chart-of v) t _ refl (sym (ap aim-by e)) {goal = aim d} refl {d = d} refl {top = top} refl),
+              move-long (chart-of v) t (aim d) top (length (chart-of v .states)) refl,
+              exits-few top,
+              code-few v (transition-of t),
+              w,
+            )
         go (history b) e f =
             let g = subst (Target-facts (chart-of v) (trans-row (chart-of v) t .source)) e f in
             let top = scope (chart-of v) (trans-row (chart-of v) t .source) b in
             let i = scope-facts (chart-of v) (sound v r) (trans-row (chart-of v) t .source) b (g .3) (g .1) .inside in
             let w : length (concat-map (towards-code (chart-of v) b) (all-below (chart-of v) (towards-owner (chart-of v) b) top)) ≤ STATES * (VISIT + ARMS)
             = concat-few (towards-code (chart-of v) b) (VISIT + ARMS) STATES (all-below (chart-of v) (towards-owner (chart-of v) b) top) (pass-few _ _ _ top (owner-pass (chart-of v) (sound v r) b top (g .0) i)) (each-any _ (towards-few b (g .0)) _) in
-            omega (arith, ap length (block-at-history (chart-of v) t _ refl b e top refl), move-long (chart-of v) t (owner b) top (length (chart-of v .states)) refl, exits-few top, code-few v (transition-of t), w)
-        go in-place e f = omega (arith, ap length (block-in-place (chart-of v) t _ refl e), code-few v (transition-of t))
+            omega (
+              arith,
+              ap length (block-goes (chart-of v) t _ refl (sym (ap aim-by e)) {goal = owner b} refl {d = b} refl {top = top} refl),
+              move-long (chart-of v) t (owner b) top (length (chart-of v .states)) refl,
+              exits-few top,
+              code-few v (transition-of t),
+              w,
+            )
+        go in-place e f = omega (arith, ap length (block-stays (chart-of v) t _ refl (sym (ap aim-by e)) refl), code-few v (transition-of t))
 
     pub start-few : length (start-block (chart-of v)) ≤ START
     unfolding all-below
