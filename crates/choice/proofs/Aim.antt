@@ -22,7 +22,8 @@ use Rattle.choice.specs.declared.Span.{Span}
 use Rattle.choice.specs.Span.{Spans, Spanned, Aims}
 use Rattle.choice.proofs.Walk.{scope-spans, place-spans}
 
-span-goes : (c : Chart) (s : ℕ) (g : Target) (goal : Goal) → aim-by g ≡ Goes goal → span-of c s g ≡ descendants c (scope c s (aimed-at goal))
+span-goes : (c : Chart) (s : ℕ) (g : Target) (goal : Goal) → aim-by g ≡ Goes goal → span-of c s g
+    ≡ descendants c (scope c s (aimed-at goal))
 unfolding span-of
 span-goes c s = goes-by (λ g goal. span-of c s g ≡ descendants c (scope c s (aimed-at goal))) (λ d. refl) (λ b. refl)
 

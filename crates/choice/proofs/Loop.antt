@@ -153,7 +153,8 @@ module _ (picks : List ℕ) (count t : ℕ) (r : Span) (l : count < TRANSITIONS)
       here = three (noted-here .0) (noted-here .1) (noted-here .2) f
 
 pub held-more : (c : Chart) (picks : List ℕ) (count : ℕ) (gone new : List Bool) (t : ℕ) (r : Span) → Held c picks count gone
-    → count < TRANSITIONS → Spans (span c t) r → Found c t (r .top) (r .end) → Goes r gone new → Held c (noted picks count t r) (count + 1) new
+    → count < TRANSITIONS → Spans (span c t) r → Found c t (r .top) (r .end) → Goes r gone new
+    → Held c (noted picks count t r) (count + 1) new
 held-more c picks count gone new t r h l f o g = record {
   few = omega arith;
   size = noted-size picks count t r l (h .size);

@@ -35,7 +35,9 @@ ghost use Rattle.choice.specs.Choice.{seen, Reads, meant, Sources, noted
 // What choosing finds out of each transition that it chooses, in three parts of one array: the transition, the top of its span, and
 // where the states below that top end. Two bytes each, since the array is cleared for each step.
 pub const TOPS_AT: usize = TRANSITIONS;
+
 pub const ENDS_AT: usize = 2 * TRANSITIONS;
+
 pub const PICKS: usize = 3 * TRANSITIONS;
 
 // The numbers from first up to below end; the top is the state below which a firing leaves and enters: the scope, in place the source.

@@ -92,7 +92,12 @@ module _ (w : List ℤ) (f : Ruled w) (n : ℕ) (l : n < length (chart-of w .tra
   pub goes-inside : {top end : ℕ} → Found (chart-of w) n top end → top < length (chart-of w .states)
   goes-inside h =
       let g = goal-facts (chart-of w) (row .source) (row .target) goal (sym q ∙ o) facts in
-      omega (arith, is-scope (chart-of w) n row e q o h, scope-facts (chart-of w) (sound w f) (row .source) (aimed-at goal) (g .2) (g .1) .inside)
+      omega (
+        arith,
+        is-scope (chart-of w) n row e q o h,
+        scope-facts (chart-of w) (sound w f) (row .source) (aimed-at goal) (g .2)
+            (g .1) .inside,
+      )
 
 -- ---- firing
 
@@ -105,7 +110,8 @@ module _ (c : Chart) (arg : ℤ) (n : ℕ) (a : List Bool) (sl v q : List ℤ) {
   unfolding fire
   fired-stop z = then-stop _ noted z
 
-  module _ (z : r .number ≡ 0) (row : TransRow) (e : row ≡ trans-row c n) {aim : Aim} (m : aim ≡ aim-by (row .target)) {y : Went} {k₂ : Lent} where
+  module _ (z : r .number ≡ 0) (row : TransRow) (e : row ≡ trans-row c n) {aim : Aim}
+      (m : aim ≡ aim-by (row .target)) {y : Went} {k₂ : Lent} where
     fired-as : {E : Step Ctx} → E ≡ fire-to c arg n (row .source) (row .target) → Did E (all-lent a sl v q t₁) (r .at) y k₂
         → Did (fire c arg n) (all-lent a sl v q t) at y k₂
     unfolding fire

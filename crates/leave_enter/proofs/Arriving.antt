@@ -13,7 +13,8 @@ use Rattle.laws.proofs.Steps.{bind-cong}
 use Rattle.meaning.specs.declared.State.{State}
 use Rattle.meaning.specs.declared.chart.Kind.the-variants.{O as kind-o}
 use Rattle.meaning.specs.Chart.{Chart}
-use Rattle.meaning.specs.Entry.{Visit, Way, stops, state-of, goes-on, below, all-below, by-defaults, by-slots, visit, revisit, restore, restore-by, towards, towards-owner, visit-towards}
+use Rattle.meaning.specs.Entry.{Visit, stops, state-of, goes-on, below, all-below, by-slots, visit, revisit, restore, restore-by}
+use Rattle.meaning.specs.Entry.{towards, towards-owner, visit-towards}
 use Rattle.meaning.specs.Steps.{Step, bind, _then_, look, when, each}
 use Rattle.meaning.specs.Tree.{kind-of}
 use Rattle.meaning.specs.Widget.{Ctx, slot}
@@ -85,7 +86,8 @@ module _ (c : Chart) (arg : ℤ) (x : Visit) where
       where
         due : Owes D k₀ at₀ (when (eqb (state-of x) b) (restore c arg b) then (descent c arg sl (Towards (Owner b)) i then R))
             (all-lent a sl v q t) (r .at)
-        due = owes-on _ (owes-regroup (visit c arg x) (when (eqb (state-of x) b) (restore c arg b)) (descent c arg sl (Towards (Owner b)) i then R) o) d z
+        due = owes-on _ (owes-regroup (visit c arg x) (when (eqb (state-of x) b) (restore c arg b))
+            (descent c arg sl (Towards (Owner b)) i then R) o) d z
 
         here : (eqb i b ≡ true) → i ≡ b
         here e = eqb-true i b e
@@ -105,6 +107,7 @@ module _ (c : Chart) (arg : ℤ) (x : Visit) where
 
         go : (y : Bool) → eqb i b ≡ y → Then (cond (eqb i b) (restored (slot-of sl i)) (Towards (Owner b)))
         go true e = subst (λ y. Then (cond y (restored (slot-of sl i)) (Towards (Owner b)))) (sym e)
-            (owes-as (descent c arg sl (restored (slot-of sl i)) i then R) (owes-when (restore c arg b) _ due (ap (λ j. eqb j b) n ∙ e)) (restoring e))
+            (owes-as (descent c arg sl (restored (slot-of sl i)) i then R) (owes-when (restore c arg b) _ due (ap (λ j. eqb j b) n ∙ e))
+            (restoring e))
         go false e = subst (λ y. Then (cond y (restored (slot-of sl i)) (Towards (Owner b)))) (sym e)
             (owes-pass (restore c arg b) _ due (ap (λ j. eqb j b) n ∙ e))

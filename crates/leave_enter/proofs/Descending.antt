@@ -37,7 +37,8 @@ module _ {B : Type 0} (g : ℕ → List B) (p : ℕ → Bool) where
       let m : suc i ≡ i + 1 = omega arith in
       ap (from i) n ∙ ap (λ j. i ∷ from j (e - (i + 1))) m
 
-  pub range-skip : (i e : ℕ) → i < e → p i ≡ false → concat-map g (keep p (from i (e - i))) ≡ concat-map g (keep p (from (i + 1) (e - (i + 1))))
+  pub range-skip : (i e : ℕ) → i < e → p i ≡ false → concat-map g (keep p (from i (e - i)))
+      ≡ concat-map g (keep p (from (i + 1) (e - (i + 1))))
   unfolding concat-map keep
   range-skip i e l q = ap (λ xs. concat-map g (keep p xs)) (range-next i e l) ∙ rw q
 
@@ -74,7 +75,8 @@ pub record Going (c : Chart) (arg : ℤ) (sl : List ℤ) (course : Course) (next
   pub owes : Owes (descent c arg sl course s) (all-lent a sl v q t) at (rest c arg sl course next s end i) (all-lent a₁ sl v₁ q₁ t₁) (w .at)
 
 module _ (c : Chart) (arg : ℤ) (sl : List ℤ) (course : Course) (next : Way) (s end : ℕ) {a : List Bool} {v q t : List ℤ} {at : ℕ} where
-  pub going-begin : {first : ℕ} → Sound c (course-way c sl course) → next ≡ course-way c sl course s → Kids c next s first end → at ≤ length t
+  pub going-begin : {first : ℕ} → Sound c (course-way c sl course) → next ≡ course-way c sl course s → Kids c next s first end
+      → at ≤ length t
       → Going c arg sl course next s end a v q t at first a v q t (record { number = 0; at = at })
   unfolding rest
   going-begin g e k h = record {
@@ -107,7 +109,8 @@ module _ (c : Chart) (arg : ℤ) (sl : List ℤ) (course : Course) (next : Way) 
         due : Owes (descent c arg sl course s) (all-lent a sl v q t) at (course-visit c arg course (visited c next s i) then after)
             (all-lent a₁ sl v₁ q₁ t₁) (w .at)
         unfolding rest after
-        due = owes-as _ (left (sym (range-take _ (is-child c s) i end l n))) (sym (each-part (course-visit c arg course) (visited c next s i)
+        due = owes-as _ (left (sym (range-take _ (is-child c s) i end l n)))
+            (sym (each-part (course-visit c arg course) (visited c next s i)
             (all-below c (course-way c sl course) i) _ (ctx (all-lent a₁ sl v₁ q₁ t₁) (w .at))))
 
         -- the visit refuses
@@ -117,7 +120,8 @@ module _ (c : Chart) (arg : ℤ) (sl : List ℤ) (course : Course) (next : Way) 
         module _ (z : r .number ≡ 0) (b : Bound c course) {o : Course} (f : o ≡ onward-from sl course i)
             {y : Went} {a₃ : List Bool} {v₃ q₃ t₃ : List ℤ}
             (d : Did (descent c arg sl o i) (all-lent a₂ sl v₂ q₂ t₂) (r .at) y (all-lent a₃ sl v₃ q₃ t₃)) where
-          entered : Owes (descent c arg sl course s) (all-lent a sl v q t) at (descent c arg sl o i then rest c arg sl course next s end (i + 1))
+          entered : Owes (descent c arg sl course s) (all-lent a sl v q t) at
+              (descent c arg sl o i then rest c arg sl course next s end (i + 1))
               (all-lent a₂ sl v₂ q₂ t₂) (r .at)
           unfolding after
           entered = subst (λ x. Owes (descent c arg sl course s) (all-lent a sl v q t) at

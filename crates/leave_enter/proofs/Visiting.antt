@@ -12,7 +12,7 @@ use Rattle.meaning.specs.declared.chart.Kind.{Kind}
 use Rattle.meaning.specs.declared.chart.Owner.the-variants.{DefaultOf as default-of}
 use Rattle.meaning.specs.Effects.{enter, perform-all}
 use Rattle.meaning.specs.Entry.{Visit, Way, state-of, visit, revisit}
-use Rattle.meaning.specs.Steps.{ok, refuse, Step, _then_, look, when}
+use Rattle.meaning.specs.Steps.{ok, refuse, Step, look, when}
 use Rattle.meaning.specs.Tree.{kind-of, is-o}
 use Rattle.meaning.specs.Widget.{Ctx, slot, is-empty}
 use Rattle.widget.specs.declared.Went.{Went}

@@ -29,7 +29,8 @@ use Rattle.reaction.proofs.Firing.{fires-long}
 
 -- ---- the chosen of a widget
 
-pub chose-fires : {c : Chart} {e : ℕ} {a : List Bool} {vs : List ℤ} {count : ℕ} {picks : List ℕ} → Chose c e a vs count picks → Fires c count picks
+pub chose-fires : {c : Chart} {e : ℕ} {a : List Bool} {vs : List ℤ} {count : ℕ} {picks : List ℕ} → Chose c e a vs count picks
+    → Fires c count picks
 chose-fires {c} {e} {a} {vs} h = record {
   few = h .few;
   size = h .size;
@@ -43,7 +44,8 @@ module _ {c : Chart} {e : ℕ} (k : Lent) {count : ℕ} {picks : List ℕ} (h : 
   chose-here at = chosen-seen c e _ ∙ sym (h .is)
 
   -- one step fires them all
-  pub step-here : (arg : ℤ) {at : ℕ} {w : Went} {k₁ : Lent} → Did (each (fire c arg) (picked count picks)) k at w k₁ → Did (step c e arg) k at w k₁
+  pub step-here : (arg : ℤ) {at : ℕ} {w : Went} {k₁ : Lent} → Did (each (fire c arg) (picked count picks)) k at w k₁
+      → Did (step c e arg) k at w k₁
   unfolding step look
   step-here arg {at} d = going.same-step (step c e arg) (ap (λ ts. each (fire c arg) ts (ctx k at)) (sym (chose-here at))) d
 
@@ -112,7 +114,8 @@ module _ {v : List ℤ} {k : Lent} {at : ℕ} where
 
       module _ (m : turns ≡ NULL-STEPS → ⊥) {w : Went} {k₂ : Lent}
           (d : Did (each (fire (chart-of v) (pos 0)) (picked count picks)) k₁ at₁ w k₂) where
-        due : Owes (settle (chart-of v)) k at (each (fire (chart-of v) (pos 0)) (picked count picks) then settle-in (chart-of v) (NULL-STEPS -
+        due : Owes (settle (chart-of v)) k at (each (fire (chart-of v) (pos 0)) (picked count picks) then settle-in (chart-of v)
+            (NULL-STEPS -
             (turns + 1))) k₁ at₁
         due =
             let l = h .few in

@@ -19,14 +19,16 @@ use Rattle.laws.proofs.Ways.{defaults-sound, towards-sound, owner-sound}
 use Rattle.meaning.specs.Chart.{Chart}
 use Rattle.meaning.specs.declared.chart.Kind.{Kind}
 use Rattle.meaning.specs.declared.chart.Kind.the-variants.{A as kind-a, B as kind-b, O as kind-o}
-use Rattle.meaning.specs.Entry.{Visit, Way, on-to, defaults, stops, plain, goes-on, all-below, by-defaults, slot-way, towards, towards-owner}
+use Rattle.meaning.specs.Entry.{Visit, Way, on-to, defaults, stops, plain, goes-on, all-below, by-defaults, slot-way, towards}
+use Rattle.meaning.specs.Entry.{towards-owner}
 use Rattle.meaning.specs.Lists.{concat-map, from, keep, has, first-that}
 use Rattle.meaning.specs.Tree.{kind-of, default-child, is-child, children, all-states, ancestors}
 use Rattle.meaning.specs.Value.{chart-of}
 use Rattle.tree_walks.specs.Walks.{Ruled, path-child}
 use Rattle.tree_walks.proofs.Passing.{sound}
 use Rattle.ways.proofs.Levels.{all-goes}
-use Rattle.ways.specs.Ways.{way-by, slot-of, stored-way, goal-way, course-way, defaulting, visit-as, On-child, Inside, Bound, Led, Kids}
+use Rattle.ways.specs.Ways.{way-by, slot-of, stored-way, goal-way, course-way, defaulting, visit-as, On-child, Inside, Bound, Led}
+use Rattle.ways.specs.Ways.{Kids}
 use Rattle.ways.specs.declared.Next.{Next}
 use Rattle.ways.specs.declared.Next.the-variants.{OnTo, Defaults, Stops}
 use Rattle.ways.specs.declared.Goal.{Goal}

@@ -19,7 +19,8 @@ use Rattle.meaning.specs.Lists.{concat-map, from, keep}
 use Rattle.meaning.specs.Steps.{Step}
 use Rattle.meaning.specs.Tree.{kind-of, is-child}
 use Rattle.meaning.specs.Widget.{Ctx}
-use Rattle.meaning.specs.Entry.{Visit, plain, by-default, Way, on-to, defaults, stops, goes-on, all-below, by-defaults, slot-way, towards, towards-owner, visit, revisit, visit-towards}
+use Rattle.meaning.specs.Entry.{Visit, plain, by-default, Way, on-to, defaults, stops, goes-on, all-below, by-defaults, slot-way, towards}
+use Rattle.meaning.specs.Entry.{towards-owner, visit, revisit, visit-towards}
 use Rattle.ways.specs.declared.Next.{Next}
 use Rattle.ways.specs.declared.Next.the-variants.{OnTo, Defaults, Stops}
 use Rattle.ways.specs.declared.Goal.{Goal}

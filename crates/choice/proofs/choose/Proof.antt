@@ -126,7 +126,8 @@ enabled-requires c κs =
 transitions-again-2 : tie.Need-transitions-again-2 Inv-loop μ-loop Inv-transitions μ-transitions Inv-sources μ-sources
 transitions-again-2 c =
     let l : c .before .before .before .before .before .before .transitions .t < length
-    (chart-of (c .before .before .before .before .before .before .before .before .before .before .before .before .before .args .chart .now) .transitions) =
+    (chart-of (c .before .before .before .before .before .before .before .before .before .before .before .before
+    .before .args .chart .now) .transitions) =
     omega (
       arith,
       c .before .before .before .before .before .transitions-test .taken,
@@ -153,7 +154,8 @@ loop-holds : tie.Need-loop-holds Inv-loop μ-loop Inv-transitions μ-transitions
 loop-holds c = (refl, omega arith, λ y p q. absurd (omega arith))
 
 -- the row under way, enabled, with its span
-row-there : (c : At-span) → at-transitions-from-span-of c .transitions .t < length (chart-of (start-from-span-of c .args .chart .now) .transitions)
+row-there : (c : At-span) → at-transitions-from-span-of c .transitions .t < length
+    (chart-of (start-from-span-of c .args .chart .now) .transitions)
 row-there c = omega (
   arith,
   row-meant-from-span-of c .before .transitions-test .taken,
@@ -163,7 +165,8 @@ row-there c = omega (
 turn : (c : At-span)
     → Turn (chart-of (start-from-span-of c .args .chart .now)) (start-from-span-of c .args .event)
     (seen (start-from-span-of c .args .active .now) (start-from-span-of c .args .vars .now))
-    (at-transitions-from-span-of c .before .before .before .sources .s - 1) (at-transitions-from-span-of c .transitions .t) (c .span-of .result)
+    (at-transitions-from-span-of c .before .before .before .sources .s - 1) (at-transitions-from-span-of c .transitions .t)
+    (c .span-of .result)
 turn c =
     turn-of _ (start-from-span-of c .pre .0) _ (trans-row-from-span-of c .trans-row .ensures) (row-there c) _ _
     (row-meant-from-span-of c .row-meant .ensures) (not-false _ (trans-row-from-span-of c .before .if2 .left))
@@ -224,7 +227,13 @@ transitions-again-4 c =
 returns : tie.Need-returns Inv-loop μ-loop Inv-transitions μ-transitions Inv-sources μ-sources
 returns c =
     let w = c .before .sources in
-    record { is = sym (none-left _ _ _ _ (w .s) (omega arith)) ∙ w .inv .0; few = w .inv .1 .few; size = w .inv .1 .size; carried = w .inv .1 .carried }
+    record {
+      is = sym (none-left _ _ _ _ (w .s) (omega arith))
+          ∙ w .inv .0;
+      few = w .inv .1 .few;
+      size = w .inv .1 .size;
+      carried = w .inv .1 .carried;
+    }
 
 pub choose-spec : {M : Type 1} → statement M
 choose-spec =
@@ -234,5 +243,6 @@ choose-spec =
     transitions-holds (λ c. omega arith) sources-again-2 row-meant-requires (λ c. omega arith) (λ c. omega arith) transitions-again
     (λ c κs. search needs) enabled-requires (λ c. omega arith)
     (λ c. omega arith) transitions-again-2 span-of-requires loop-holds array-read-if4
-    (λ c. omega arith) (λ c. omega arith) transitions-again-3 (λ c. omega arith) (λ c. omega arith) loop-again mark-gone-requires note-requires
+    (λ c. omega arith) (λ c. omega arith) transitions-again-3 (λ c. omega arith)
+    (λ c. omega arith) loop-again mark-gone-requires note-requires
     add-count (λ c. omega arith) (λ c. omega arith) transitions-again-4 returns)

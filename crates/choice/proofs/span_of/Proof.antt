@@ -18,7 +18,8 @@ end-below-requires-2 : tie.Need-end-below-requires-2
 end-below-requires-2 c κs =
     let k = aim-of-from-scope c in (
       k .before .pre .0,
-      top-inside _ (k .before .pre .0) _ (k .before .args .target) (k .before .pre .1) (k .aim-of .ensures) (c .before .before .before .aim .given .1)
+      top-inside _ (k .before .pre .0) _ (k .before .args .target) (k .before .pre .1) (k .aim-of .ensures)
+          (c .before .before .before .aim .given .1)
           (c .before .aimed .ensures) (c .scope .ensures),
     )
 

@@ -46,7 +46,8 @@ returns-2 c =
     (m .mark-taken .ensures) (aim .before .before .if1 .left) _ (aim .before .trans-row .ensures) (aim .aim-of .ensures)
     (told .enum-told .given .1)
     (rw (toZ-ofZ (start .fits .arg)) at (c .before .perform-all .ensures .1
-    (all-lent (start .args .active .now) (start .args .slots .now) (start .args .vars .now) (start .args .queue .now) (start .args .trace .now))))
+    (all-lent (start .args .active .now) (start .args .slots .now) (start .args .vars .now) (start .args .queue .now)
+    (start .args .trace .now))))
 
 move-to-requires : tie.Need-move-to-requires
 move-to-requires c κs =

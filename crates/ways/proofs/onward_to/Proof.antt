@@ -13,12 +13,14 @@ returns-2 c = onward-past _ _ (c .before .before .goal .given .1) (c .if1 .taken
 returns-3 : tie.Need-returns-3
 returns-3 c =
     let test = c .before .before .before in
-    onward-owner _ _ (test .before .before .goal .given .1) (test .if1 .left) (c .before .before .slot-of .ensures) (c .enum-told3 .given .1)
+    onward-owner _ _ (test .before .before .goal .given .1) (test .if1 .left) (c .before .before .slot-of .ensures)
+    (c .enum-told3 .given .1)
 
 returns-4 : tie.Need-returns-4
 returns-4 c =
     let test = c .before .before .before in
-    onward-owner _ _ (test .before .before .goal .given .1) (test .if1 .left) (c .before .before .slot-of .ensures) (c .enum-told2 .given .1)
+    onward-owner _ _ (test .before .before .goal .given .1) (test .if1 .left) (c .before .before .slot-of .ensures)
+    (c .enum-told2 .given .1)
 
 pub onward-to-spec : {M : Type 1} → statement M
 onward-to-spec =

@@ -158,7 +158,8 @@ loop-holds : (t : ℕ) → lts.Need-loop-holds (knows t) (asks t) own.Post Inv �
 loop-holds t c =
     let start = c .before .before in
     let p = start .pre .1 in
-    going-begin _ _ _ (start .args .course) _ _ _ (course-sound _ (p .0 .ruled) _ (p .3) (start .args .course) (p .1)) (c .before .next-by .ensures)
+    going-begin _ _ _ (start .args .course) _ _ _ (course-sound _ (p .0 .ruled) _ (p .3) (start .args .course) (p .1))
+    (c .before .next-by .ensures)
     (c .goes-on .ensures) (p .4)
 
 loop-again : (t : ℕ) → lts.Need-loop-again (knows t) (asks t) own.Post Inv μ-loop
@@ -178,7 +179,12 @@ same-length-2 : (t : ℕ) → lts.Need-same-length-2 (knows t) (asks t) own.Post
 same-length-2 t c =
     let d = c .before .before .before in
     let m = arrived-from-entered t (entered-from-below t d) in
-    omega (arith, d .descend .ensures .kept, m .arrive .ensures .kept, child-from-arrived t m .before .before .before .loop .inv .owes .kept)
+    omega (
+      arith,
+      d .descend .ensures .kept,
+      m .arrive .ensures .kept,
+      child-from-arrived t m .before .before .before .loop .inv .owes .kept,
+    )
 
 returns-2 : (t : ℕ) → lts.Need-returns-2 (knows t) (asks t) own.Post Inv μ-loop
 returns-2 t c =

@@ -12,7 +12,8 @@ use Rattle.meaning.specs.Value.{chart-of}
 use Rattle.choice.specs.Choice.{picked, TOPS-AT, ENDS-AT}
 use Rattle.widget.specs.View.{all-lent}
 use Rattle.reaction.proofs.Going.{ready-led}
-use Rattle.reaction.proofs.Firing.{Firing, firing-begin, firing-end, firing-stop, firing-on, fires-long, fires-at, fires-named, carried-inside}
+use Rattle.reaction.proofs.Firing.{Firing, firing-begin, firing-end, firing-stop, firing-on, fires-long, fires-at, fires-named}
+use Rattle.reaction.proofs.Firing.{carried-inside}
 use Rattle.reaction.proofs.steps.fire_all.Statement.{statement}
 use Rattle.reaction.proofs.steps.fire_all.Tie as tie
 
@@ -46,7 +47,8 @@ few c = omega (arith, c .before .before .pre .1 .few, c .loop-test .taken)
 
 -- what stands there
 named : (c : tie.In-loop Inv-loop μ-loop)
-    → getD (c .before .before .args .picks .now) (c .before .loop .j) 0 < length (chart-of (c .before .before .args .chart .now) .transitions)
+    → getD (c .before .before .args .picks .now) (c .before .loop .j) 0 < length
+    (chart-of (c .before .before .args .chart .now) .transitions)
 named c = fires-named _ _ _ (c .before .before .pre .1) _ (c .loop-test .taken)
 
 inside : (c : tie.In-loop Inv-loop μ-loop)
@@ -103,5 +105,6 @@ pub fire-all-spec : {M : Type 1} → statement M
 fire-all-spec =
     tie.close (tie.spec Inv-loop μ-loop loop-holds (λ c. omega (arith, few c)) (λ c. omega (arith, few c)) cast-t
     (λ c. omega (arith, few (c .before))) (λ c. omega (arith, few (c .before))) (λ c. omega (arith, few (c .before))) cast-top
-    (λ c. omega (arith, few (c .before .before))) (λ c. omega (arith, few (c .before .before))) (λ c. omega (arith, few (c .before .before)))
+    (λ c. omega (arith, few (c .before .before))) (λ c. omega (arith, few (c .before .before)))
+    (λ c. omega (arith, few (c .before .before)))
     cast-end fire-requires (λ c. search needs) returns (λ c. omega arith) (λ c. omega arith) loop-again (λ c. search needs) returns-2)
