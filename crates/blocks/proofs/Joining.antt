@@ -13,7 +13,6 @@ use Rattle.laws.specs.Facts.{Target-facts}
 use Rattle.meaning.specs.Chart.{Chart}
 use Rattle.meaning.specs.declared.chart.Owner.the-variants.{TransitionOf as transition-of}
 use Rattle.meaning.specs.declared.chart.Target.{Target}
-use Rattle.meaning.specs.declared.chart.Target.the-variants.{To as to, History as history, InPlace as in-place}
 use Rattle.meaning.specs.declared.chart.TransRow.{TransRow}
 use Rattle.meaning.specs.declared.plan.Instr.{Instr}
 use Rattle.meaning.specs.declared.plan.Instr.the-variants.{SkipEmpty as skip-empty, SkipFull as skip-full}
@@ -27,7 +26,11 @@ use Rattle.tree_walks.specs.Walks.{Ruled}
 use Rattle.tree_walks.proofs.Passing.{sound}
 use Rattle.ways.specs.declared.Goal.{Goal}
 use Rattle.ways.specs.declared.Goal.the-variants.{Target as aim, Owner as owner}
-use Rattle.ways.specs.Ways.{goal-way, defaulting, visit-as}
+use Rattle.ways.specs.declared.Aim.{Aim}
+use Rattle.ways.specs.declared.Aim.the-variants.{Goes, Stays}
+use Rattle.ways.specs.Aims.{aim-by, aimed-at}
+use Rattle.ways.specs.Ways.{goal-way, defaulting, visit-as, Inside}
+use Rattle.ways.proofs.Aiming.{goes-by, stays-by, goal-facts, goal-bound}
 use Rattle.emitter.specs.Pen.{Pen, emits, Room}
 use Rattle.emitter.proofs.Laws.{put-first, put-both}
 use Rattle.blocks.specs.Parts.{goal-code, move-code}
@@ -138,36 +141,36 @@ module _ (c : Chart) (t : ℕ) (goal : Goal) (top n : ℕ) (e : n ≡ length (c 
       ∙ ap (λ k. length (exits-code c (descendants c top)) + k)
       (length-append (code-acts c (transition-of t)) (concat-map (goal-code c goal) (below c (goal-way c goal) n top)))
 
-module _ (v : List ℤ) (r : Ruled v) (t : ℕ) (l : t < length (chart-of v .transitions))
-    (row : TransRow) (e : row ≡ trans-row (chart-of v) t) where
-  facts : (x : Target) → row .target ≡ x → Target-facts (chart-of v) (row .source) x
-  facts x q = subst (Target-facts (chart-of v) (row .source)) q
-      (subst (λ y. Target-facts (chart-of v) (y .source) (y .target)) (sym e) (sound v r .transitions t l .target))
+block-to-goes : (c : Chart) (t s : ℕ) (g : Target) (goal : Goal) → aim-by g ≡ Goes goal
+    → block-to c t s g ≡ move-code c t goal (scope c s (aimed-at goal))
+unfolding block-to move-code
+block-to-goes c t s = goes-by (λ g goal. block-to c t s g ≡ move-code c t goal (scope c s (aimed-at goal))) (λ d. refl) (λ b. refl)
 
-  pub to-inside : (d : ℕ) → row .target ≡ to d → (top : ℕ)
-      → top ≡ scope (chart-of v) (row .source) d → (d < length (chart-of v .states)) × (top < length (chart-of v .states))
-  to-inside d q top f = let x = facts (to d) q in
-      (x .0, omega (arith, scope-facts (chart-of v) (sound v r) (row .source) d (x .2) (x .1) .inside))
+block-to-stays : (c : Chart) (t s : ℕ) (g : Target) → aim-by g ≡ Stays → block-to c t s g ≡ code-acts c (transition-of t)
+unfolding block-to
+block-to-stays c t s = stays-by (λ g. block-to c t s g ≡ code-acts c (transition-of t)) refl
 
-  pub history-inside : (b : ℕ) → row .target ≡ history b → (top : ℕ)
-      → top ≡ scope (chart-of v) (row .source) b → (b < length (chart-of v .states)) × (top < length (chart-of v .states))
-  history-inside b q top f = let x = facts (history b) q in
-      (x .0, omega (arith, scope-facts (chart-of v) (sound v r) (row .source) b (x .3) (x .1) .inside))
+module _ (v : List ℤ) (r : Ruled v) (t : ℕ) (l : t < length (chart-of v .transitions)) (row : TransRow) (e : row ≡ trans-row (chart-of v) t)
+    {x : Aim} (q : x ≡ aim-by (row .target)) {goal : Goal} (o : x ≡ Goes goal) {d : ℕ} (m : d ≡ aimed-at goal) where
+  facts : Target-facts (chart-of v) (row .source) (row .target)
+  facts = subst (λ y. Target-facts (chart-of v) (y .source) (y .target)) (sym e) (sound v r .transitions t l .target)
 
-module _ (c : Chart) (t : ℕ) (row : TransRow) (e : row ≡ trans-row c t) where
+  pub goes-inside : {top : ℕ} → top ≡ scope (chart-of v) (row .source) d → Inside (chart-of v) goal × (top < length (chart-of v .states))
+  goes-inside h =
+      let f = goal-facts (chart-of v) (row .source) (row .target) goal (sym q ∙ o) facts in (
+        goal-bound (chart-of v) (row .source) (row .target) goal (sym q ∙ o) facts .0,
+        omega (arith, h ∙ ap (scope (chart-of v) (row .source)) m, scope-facts (chart-of v) (sound v r) (row .source) (aimed-at goal) (f .2) (f .1) .inside),
+      )
+
+module _ (c : Chart) (t : ℕ) (row : TransRow) (e : row ≡ trans-row c t) {x : Aim} (q : x ≡ aim-by (row .target)) where
   block-of : block c t ≡ block-to c t (row .source) (row .target)
   unfolding block
-  block-of = ap (λ x. block-to c t (x .source) (x .target)) (sym e)
+  block-of = ap (λ y. block-to c t (y .source) (y .target)) (sym e)
 
-  pub block-at-target : (d : ℕ) → row .target ≡ to d → (top : ℕ) → top ≡ scope c (row .source) d → block c t ≡ move-code c t (aim d) top
-  unfolding block-to move-code
-  block-at-target d q top f = block-of ∙ ap (block-to c t (row .source)) q ∙ ap (move-code c t (aim d)) (sym f)
+  pub block-goes : {goal : Goal} → x ≡ Goes goal → {d : ℕ} → d ≡ aimed-at goal → {top : ℕ} → top ≡ scope c (row .source) d
+      → block c t ≡ move-code c t goal top
+  block-goes {goal} o m f = block-of ∙ block-to-goes c t (row .source) (row .target) goal (sym q ∙ o)
+      ∙ ap (move-code c t goal) (sym (f ∙ ap (scope c (row .source)) m))
 
-  pub block-at-history : (b : ℕ) → row .target ≡ history b
-      → (top : ℕ) → top ≡ scope c (row .source) b → block c t ≡ move-code c t (owner b) top
-  unfolding block-to move-code
-  block-at-history b q top f = block-of ∙ ap (block-to c t (row .source)) q ∙ ap (move-code c t (owner b)) (sym f)
-
-  pub block-in-place : row .target ≡ in-place → block c t ≡ code-acts c (transition-of t)
-  unfolding block-to
-  block-in-place q = block-of ∙ ap (block-to c t (row .source)) q
+  pub block-stays : x ≡ Stays → block c t ≡ code-acts c (transition-of t)
+  block-stays o = block-of ∙ block-to-stays c t (row .source) (row .target) (sym q ∙ o)

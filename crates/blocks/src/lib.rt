@@ -14,13 +14,15 @@ use emitter::WIDTH;
 use emitter::actions::put_acts;
 use kids::kids_within;
 use meaning::chart::Owner;
-use meaning::chart::Target;
 use pieces::put_enter;
 use pieces::put_exit;
 use pieces::put_visit;
 use tree_walks::end_below;
 use tree_walks::scope;
+use ways::Aim;
 use ways::Goal;
+use ways::aim_of;
+use ways::aimed;
 use ways::next_of;
 ghost use mathlib.Core.Path.{_≡_};
 ghost use Prim.Native.Nat.{_<_};
@@ -142,17 +144,12 @@ pub fn put_block(
 {
     let row = trans_row(chart, t);
     let target = row.target;
-    match target {
-        Target::To(d) => {
-            let top = scope(chart, row.source, d);
-            put_move(chart, index, t, Goal::Target(d), top, plan, at)
-        }
-        Target::History(b) => {
-            let top = scope(chart, row.source, b);
-            put_move(chart, index, t, Goal::Owner(b), top, plan, at)
-        }
-        Target::InPlace => put_acts(chart, index, Owner::TransitionOf(t), plan, at),
-    }
+    let aim = aim_of(target);
+    let Aim::Goes(goal) = aim else {
+        return put_acts(chart, index, Owner::TransitionOf(t), plan, at);
+    };
+    let top = scope(chart, row.source, aimed(goal));
+    put_move(chart, index, t, goal, top, plan, at)
 }
 
 // How many instructions the block of a transition has.

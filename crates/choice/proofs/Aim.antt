@@ -1,45 +1,67 @@
--- Laws of a span by the form of its target: the scope is a state of the chart, and what lies below it is the span. Assumes nothing.
+-- Laws of a span by where its target leads: the scope is a state of the chart, and what lies below it is the span. Assumes nothing.
 use mathlib.Core.Path.{_≡_, refl, sym, ap, _∙_, subst}
 use Prim.Native.Nat.{ℕ, suc, _+_, _<_}
 use native.Mathlib.Omega.{arith}
-use mathlib.Core.List.{List}
+use mathlib.Core.List.{List, _∷_}
 use lib.ListN.{length}
 use lib.IntN.{ℤ}
+use Rattle.meaning.specs.Chart.{Chart}
 use Rattle.meaning.specs.declared.chart.Target.{Target}
-use Rattle.meaning.specs.declared.chart.Target.the-variants.{History as history, InPlace as in-place, To as to}
-use Rattle.meaning.specs.Tree.{scope, span-of, descendants}
+use Rattle.meaning.specs.declared.chart.Kind.the-variants.{O as kind-o}
+use Rattle.meaning.specs.Tree.{kind-of, scope, span-of, descendants}
 use Rattle.meaning.specs.Value.{chart-of}
+use Rattle.laws.proofs.Scope.{Scope-facts, scope-facts}
 use Rattle.tree_walks.specs.Walks.{Ruled}
 use Rattle.tree_walks.proofs.Passing.{sound}
+use Rattle.ways.specs.declared.Aim.{Aim}
+use Rattle.ways.specs.declared.Aim.the-variants.{Goes, Stays}
+use Rattle.ways.specs.declared.Goal.{Goal}
+use Rattle.ways.specs.Aims.{aim-by, aimed-at, top-of}
+use Rattle.ways.proofs.Aiming.{goes-by, stays-by, goal-facts}
 use Rattle.choice.specs.declared.Span.{Span}
-use Rattle.choice.specs.Span.{Spans, Aims}
-use Rattle.choice.proofs.Walk.{scope-o, scope-below, scope-spans, place-spans}
+use Rattle.choice.specs.Span.{Spans, Spanned, Aims}
+use Rattle.choice.proofs.Walk.{scope-spans, place-spans}
 
-module _ (v : List ℤ) (h : Ruled v) (s : ℕ) (g : Target) (a : Aims (chart-of v) s g) where
-  module _ (d top : ℕ) (q : top ≡ scope (chart-of v) s d) where
-    pub to-inside : g ≡ to d → top < length (chart-of v .states)
-    to-inside e =
-        let b : Aims (chart-of v) s (to d) = subst (Aims (chart-of v) s) e a in
-        omega (arith, scope-below (chart-of v) (sound v h) d (b .1 .1) s (b .1 .2))
+span-goes : (c : Chart) (s : ℕ) (g : Target) (goal : Goal) → aim-by g ≡ Goes goal → span-of c s g
+    ≡ descendants c (scope c s (aimed-at goal))
+unfolding span-of
+span-goes c s = goes-by (λ g goal. span-of c s g ≡ descendants c (scope c s (aimed-at goal))) (λ d. refl) (λ b. refl)
 
-    pub history-inside : g ≡ history d → top < length (chart-of v .states)
-    history-inside e =
-        let b : Aims (chart-of v) s (history d) = subst (Aims (chart-of v) s) e a in
-        omega (arith, scope-below (chart-of v) (sound v h) d (b .1 .1) s (b .1 .3))
+span-stays : (c : Chart) (s : ℕ) (g : Target) → aim-by g ≡ Stays → span-of c s g ≡ s ∷ descendants c s
+unfolding span-of
+span-stays c s = stays-by (λ g. span-of c s g ≡ s ∷ descendants c s) refl
 
-    module _ (r : ℕ) (n : r ≡ suc top + length (descendants (chart-of v) top)) (w : Span) (f : w .first ≡ top + 1) (l : w .end ≡ r) where
-      pub to-spans : g ≡ to d → Spans (span-of (chart-of v) s g) w
-      unfolding span-of
-      to-spans e =
-          let b : Aims (chart-of v) s (to d) = subst (Aims (chart-of v) s) e a in
-          rw (e, ← q) (scope-spans (chart-of v) (sound v h) top r w (to-inside e) n l (rw q (scope-o (chart-of v) (sound v h) d (b .1 .1) s (b .1 .2))) f)
+module _ (v : List ℤ) (h : Ruled v) (s : ℕ) (g : Target) (a : Aims (chart-of v) s g) {aim : Aim} (q : aim ≡ aim-by g) where
+  module _ {goal : Goal} (e : aim ≡ Goes goal) {d top : ℕ} (o : d ≡ aimed-at goal) (p : top ≡ scope (chart-of v) s d) where
+    goes : aim-by g ≡ Goes goal
+    goes = sym q ∙ e
 
-      pub history-spans : g ≡ history d → Spans (span-of (chart-of v) s g) w
-      unfolding span-of
-      history-spans e =
-          let b : Aims (chart-of v) s (history d) = subst (Aims (chart-of v) s) e a in
-          rw (e, ← q) (scope-spans (chart-of v) (sound v h) top r w (history-inside e) n l (rw q (scope-o (chart-of v) (sound v h) d (b .1 .1) s (b .1 .3))) f)
+    is-scope : top ≡ scope (chart-of v) s (aimed-at goal)
+    is-scope = p ∙ ap (scope (chart-of v) s) o
 
-  pub in-place-spans : (r : ℕ) → r ≡ suc s + length (descendants (chart-of v) s) → (w : Span) → w .first ≡ s → w .end ≡ r → g ≡ in-place → Spans (span-of (chart-of v) s g) w
-  unfolding span-of
-  in-place-spans r n w f l e = rw e (place-spans (chart-of v) (sound v h) s r w (a .0) n l f)
+    facts : Scope-facts (chart-of v) s (aimed-at goal) (scope (chart-of v) s (aimed-at goal))
+    facts =
+        let f = goal-facts (chart-of v) s g goal goes (a .1) in
+        scope-facts (chart-of v) (sound v h) s (aimed-at goal) (f .2) (f .1)
+
+    pub top-inside : top < length (chart-of v .states)
+    top-inside = omega (arith, is-scope, facts .inside)
+
+    pub goes-spanned : (w : Span) → w .top ≡ top → w .first ≡ top + 1 → w .end ≡ suc top + length (descendants (chart-of v) top)
+        → Spanned (chart-of v) s g w
+    goes-spanned w f l n = record {
+      spans = subst (λ x. Spans x w) (ap (descendants (chart-of v)) is-scope ∙ sym (span-goes (chart-of v) s g goal goes))
+          (scope-spans (chart-of v) (sound v h) top w top-inside n
+          (subst (λ x. kind-of (chart-of v) x ≡ kind-o) (sym is-scope) (facts .kind)) l);
+      top = f ∙ is-scope ∙ ap (top-of (chart-of v) s) (sym goes);
+      below = n ∙ ap (λ x. suc x + length (descendants (chart-of v) x)) (sym f);
+    }
+
+  pub stays-spanned : aim ≡ Stays → (w : Span) → w .top ≡ s → w .first ≡ s → w .end ≡ suc s + length (descendants (chart-of v) s)
+      → Spanned (chart-of v) s g w
+  stays-spanned e w f l n = record {
+    spans = subst (λ x. Spans x w) (sym (span-stays (chart-of v) s g (sym q ∙ e)))
+        (place-spans (chart-of v) (sound v h) s w (a .0) n l);
+    top = f ∙ ap (top-of (chart-of v) s) (sym (sym q ∙ e));
+    below = n ∙ ap (λ x. suc x + length (descendants (chart-of v) x)) (sym f);
+  }

@@ -22,7 +22,8 @@ last-in m a (suc n) (one-more p ps) = omega (arith, last-in m (suc a) n ps)
 below-in : (c : Chart) (s : ℕ) → Each (λ x. x < length (c .states)) (descendants c s)
 unfolding descendants all-states
 below-in c s =
-    each-kept _ (λ d. has s (ancestors c d)) (from 0 (length (c .states))) (each-range 0 (length (c .states)) (length (c .states)) (omega arith))
+    each-kept _ (λ d. has s (ancestors c d)) (from 0 (length (c .states)))
+    (each-range 0 (length (c .states)) (length (c .states)) (omega arith))
 
 span-in : (c : Chart) (s : ℕ) → s < length (c .states) → (t : Target) → Each (λ x. x < length (c .states)) (span-of c s t)
 unfolding span-of
@@ -30,7 +31,8 @@ span-in c s l (to d) = below-in c (scope c s d)
 span-in c s l (history b) = below-in c (scope c s b)
 span-in c s l in-place = one-more {x = s} l (below-in c s)
 
-pub span-ends : (c : Chart) (s : ℕ) → s < length (c .states) → (t : Target) (r : Span) → Spans (span-of c s t) r → r .end ≤ length (c .states)
+pub span-ends : (c : Chart) (s : ℕ) → s < length (c .states) → (t : Target) (r : Span) → Spans (span-of c s t) r
+    → r .end ≤ length (c .states)
 span-ends c s l t r w =
     let z : r .end - r .first ≡ suc ((r .end - 1) - r .first) = omega (arith, w .some) in
     let y = last-in (length (c .states)) (r .first) ((r .end - 1) - r .first)

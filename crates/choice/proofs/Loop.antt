@@ -1,13 +1,13 @@
 -- The chooser's loop over the transitions of one source, as laws over plain variables: what is known of a row, and the ways of a turn.
 -- Assumes nothing.
 use mathlib.Core.Path.{_≡_, refl, sym, ap, _∙_, subst}
-use Prim.Native.Nat.{ℕ, suc, _+_, _-_, _≤_, _<_}
+use Prim.Native.Nat.{ℕ, zero, suc, _+_, _-_, _≤_, _<_}
 use native.Mathlib.Omega.{arith}
 use mathlib.Core.Bool.{Bool, true, false}
 use mathlib.Core.List.{List, [], _∷_, _++_}
 use native.Mathlib.Numerals.{add-one}
 use lib.ListN.{length, getD, take, set, replicate, length-replicate, length-set}
-use lib.Seq.{take-suc-set}
+use lib.Seq.{take-suc-set, getD-set-same, getD-set-other}
 use lib.IntN.{ℤ}
 use Rattle.sizes.specs.Sizes.{STATES, VARIABLES, TRANSITIONS}
 use Rattle.meaning.specs.declared.State.{State}
@@ -25,8 +25,9 @@ use Rattle.laws.proofs.Value.{sized-chart}
 use Rattle.tree_walks.specs.Walks.{Ruled}
 use Rattle.tree_walks.proofs.Passing.{sound, rules-passed}
 use Rattle.choice.specs.declared.Span.{Span}
-use Rattle.choice.specs.Span.{Spans, Aims, Goes}
-use Rattle.choice.specs.Choice.{Reads}
+use Rattle.choice.specs.Span.{Spans, Spanned, Aims, Goes}
+use Rattle.ways.specs.Aims.{aim-by, top-of, Found}
+use Rattle.choice.specs.Choice.{Reads, PICKS, TOPS-AT, ENDS-AT, noted, Carried}
 use Rattle.choice.proofs.Meets.{Gone, gone-none, gone-more, clash-hit, clash-none}
 use Rattle.choice.proofs.Thin.{gone-after, gone-snoc}
 
@@ -51,6 +52,13 @@ module _ (v : List ℤ) (h : Ruled v) (t : ℕ) (row : TransRow) (e : row ≡ tr
   unfolding span
   row-spans s w q f = rw (← e, q) f
 
+  pub row-found : (s : ℕ) (w : Span) → row .source ≡ s → Spanned (chart-of v) s (row .target) w → Found (chart-of v) t (w .top) (w .end)
+  row-found s w q f = record {
+    is = f .top ∙ ap (λ n. top-of (chart-of v) n (aim-by (row .target))) (sym q)
+        ∙ ap (λ x. top-of (chart-of v) (x .source) (aim-by (x .target))) e;
+    ends = f .below;
+  }
+
   pub row-enabled : (ev : ℕ) (u : State) (b : Bool) → b ≡ enabled-by row ev u → enabled (chart-of v) ev u t ≡ b
   unfolding enabled
   row-enabled ev u b q = rw (← e) (sym q)
@@ -71,23 +79,87 @@ up-to P j h p i l = ⊎-elim (λ q. let z : j ≡ i = omega arith in subst P z p
 
 pub record Held (c : Chart) (picks : List ℕ) (count : ℕ) (gone : List Bool) : Type 0 where
   pub few : count ≤ TRANSITIONS
-  pub size : length picks ≡ TRANSITIONS
+  pub size : length picks ≡ PICKS
+  pub carried : Carried c count picks
   pub marks : Gone (gone-after c [] (take count picks)) gone
   pub long : length gone ≡ STATES
 
-pub held-none : (c : Chart) (picks : List ℕ) → length picks ≡ TRANSITIONS → Held c picks 0 (replicate STATES false)
+pub held-none : (c : Chart) (picks : List ℕ) → length picks ≡ PICKS → Held c picks 0 (replicate STATES false)
 unfolding gone-after
-held-none c picks l = record { few = omega arith; size = l; marks = gone-none; long = length-replicate STATES false }
+held-none c picks l = record {
+  few = omega arith;
+  size = l;
+  carried = λ j p. absurd (omega arith);
+  marks = gone-none;
+  long = length-replicate STATES false;
+}
 
-pub one-more : (picks : List ℕ) (count t : ℕ) → count < length picks → take (count + 1) (set picks count t) ≡ take count picks ++ (t ∷ [])
-one-more picks count t l = rw (add-one count, take-suc-set picks count t l)
+-- a store past the first numbers leaves them as they are
+take-past : (n : ℕ) (xs : List ℕ) (i x : ℕ) → n ≤ i → take n (set xs i x) ≡ take n xs
+take-past zero xs i x l = refl
+take-past (suc n) [] i x l = refl
+take-past (suc n) (y ∷ ys) zero x l = absurd (omega arith)
+take-past (suc n) (y ∷ ys) (suc i) x l = ap (λ zs. y ∷ zs) (take-past n ys i x (omega arith))
+
+module _ (picks : List ℕ) (count t : ℕ) (r : Span) (l : count < TRANSITIONS) (n : length picks ≡ PICKS) where
+  pub one-more : take (count + 1) (noted picks count t r) ≡ take count picks ++ (t ∷ [])
+  one-more =
+      take-past (count + 1) (set (set picks count t) (TOPS-AT + count) (r .top)) (ENDS-AT + count) (r .end) (omega arith)
+      ∙ take-past (count + 1) (set picks count t) (TOPS-AT + count) (r .top) (omega arith)
+      ∙ rw (add-one count, take-suc-set picks count t (omega (arith, n)))
+
+  noted-size : length (noted picks count t r) ≡ PICKS
+  noted-size =
+      length-set (set (set picks count t) (TOPS-AT + count) (r .top)) (ENDS-AT + count) (r .end)
+      ∙ length-set (set picks count t) (TOPS-AT + count) (r .top) ∙ length-set picks count t ∙ n
+
+  -- what stands at another place is what stood there
+  other : (i : ℕ) → (i ≡ count → ⊥) → (i ≡ TOPS-AT + count → ⊥) → (i ≡ ENDS-AT + count → ⊥)
+      → getD (noted picks count t r) i 0 ≡ getD picks i 0
+  other i p q o =
+      getD-set-other (set (set picks count t) (TOPS-AT + count) (r .top)) (ENDS-AT + count) i (r .end) 0 o
+      ∙ getD-set-other (set picks count t) (TOPS-AT + count) i (r .top) 0 q ∙ getD-set-other picks count i t 0 p
+
+  noted-here : (getD (noted picks count t r) count 0 ≡ t) × (getD (noted picks count t r) (TOPS-AT + count) 0 ≡ r .top)
+      × (getD (noted picks count t r) (ENDS-AT + count) 0 ≡ r .end)
+  noted-here =
+      let two = set (set picks count t) (TOPS-AT + count) (r .top) in
+      let size = length-set (set picks count t) (TOPS-AT + count) (r .top) ∙ length-set picks count t ∙ n in (
+        getD-set-other two (ENDS-AT + count) count (r .end) 0 (λ e. omega arith)
+            ∙ getD-set-other (set picks count t) (TOPS-AT + count) count (r .top) 0 (λ e. omega arith)
+            ∙ getD-set-same picks count t 0 (omega (arith, n)),
+        getD-set-other two (ENDS-AT + count) (TOPS-AT + count) (r .end) 0 (λ e. omega arith)
+            ∙ getD-set-same (set picks count t) (TOPS-AT + count) (r .top) 0 (omega (arith, n, length-set picks count t)),
+        getD-set-same two (ENDS-AT + count) (r .end) 0 (omega (arith, size)),
+      )
+
+  noted-carried : (c : Chart) → Carried c count picks → Found c t (r .top) (r .end) → Carried c (count + 1) (noted picks count t r)
+  noted-carried c h f = up-to (λ j. Found c (at j) (at (TOPS-AT + j)) (at (ENDS-AT + j))) count before here
+    where
+      at : ℕ → ℕ
+      at i = getD (noted picks count t r) i 0
+
+      three : {a b d x y z : ℕ} → a ≡ x → b ≡ y → d ≡ z → Found c x y z → Found c a b d
+      three p q o g = rw (p, q, o) g
+
+      before : (j : ℕ) → j < count → Found c (at j) (at (TOPS-AT + j)) (at (ENDS-AT + j))
+      before j p = three
+          (other j (λ e. omega arith) (λ e. omega arith) (λ e. omega arith))
+          (other (TOPS-AT + j) (λ e. omega arith) (λ e. omega arith) (λ e. omega arith))
+          (other (ENDS-AT + j) (λ e. omega arith) (λ e. omega arith) (λ e. omega arith))
+          (h j p)
+
+      here : Found c (at count) (at (TOPS-AT + count)) (at (ENDS-AT + count))
+      here = three (noted-here .0) (noted-here .1) (noted-here .2) f
 
 pub held-more : (c : Chart) (picks : List ℕ) (count : ℕ) (gone new : List Bool) (t : ℕ) (r : Span) → Held c picks count gone
-    → count < TRANSITIONS → Spans (span c t) r → Goes r gone new → Held c (set picks count t) (count + 1) new
-held-more c picks count gone new t r h l f g = record {
+    → count < TRANSITIONS → Spans (span c t) r → Found c t (r .top) (r .end) → Goes r gone new
+    → Held c (noted picks count t r) (count + 1) new
+held-more c picks count gone new t r h l f o g = record {
   few = omega arith;
-  size = length-set picks count t ∙ h .size;
-  marks = subst (λ ps. Gone (gone-after c [] ps) new) (sym (one-more picks count t (omega (arith, h .size))))
+  size = noted-size picks count t r l (h .size);
+  carried = noted-carried picks count t r l (h .size) c (h .carried) o;
+  marks = subst (λ ps. Gone (gone-after c [] ps) new) (sym (one-more picks count t r l (h .size)))
       (subst (λ ps. Gone ps new) (sym (gone-snoc c [] (take count picks) t)) (gone-more (span c t) _ r gone new f g (h .marks)));
   long = g .long ∙ h .long;
 }

@@ -91,9 +91,9 @@ gone-more xs g r old new f m h x l =
 pub goes-none : (r : Span) (marks : List Bool) → r .end ≡ r .first → Goes r marks marks
 goes-none r marks e = record { within = λ x l m. absurd (omega arith); below = λ x l. refl; long = refl; above = λ x l. refl }
 
-module _ {first x : ℕ} {old marks : List Bool} (h : Goes (record { first = first; end = x }) old marks)
+module _ {top first x : ℕ} {old marks : List Bool} (h : Goes (record { top = top; first = first; end = x }) old marks)
     (l : x < length marks) (m : first ≤ x) where
-  pub goes-more : Goes (record { first = first; end = x + 1 }) old (set marks x true)
+  pub goes-more : Goes (record { top = top; first = first; end = x + 1 }) old (set marks x true)
   goes-more = record {
     within = λ y p q. ⊎-elim (λ o. let z : x ≡ y = omega arith in rw (← z, getD-set-same marks x true false l) refl)
         (λ o. rw (getD-set-other marks x y true false (λ z. omega arith)) (h .within y p o)) (le-or-lt x y);
@@ -102,6 +102,6 @@ module _ {first x : ℕ} {old marks : List Bool} (h : Goes (record { first = fir
     above = λ y p. getD-set-other marks x y true false (λ z. omega arith) ∙ h .above y (omega arith);
   }
 
-pub goes-end : (r : Span) {x : ℕ} {old marks : List Bool} → Goes (record { first = r .first; end = x }) old marks → x ≡ r .end
+pub goes-end : (r : Span) {x : ℕ} {old marks : List Bool} → Goes (record { top = r .top; first = r .first; end = x }) old marks → x ≡ r .end
     → Goes r old marks
-goes-end r {x} {old} {marks} h e = subst (λ y. Goes (record { first = r .first; end = y }) old marks) e h
+goes-end r {x} {old} {marks} h e = subst (λ y. Goes (record { top = r .top; first = r .first; end = y }) old marks) e h

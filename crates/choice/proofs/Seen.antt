@@ -40,6 +40,7 @@ pub off-source : (r : TransRow) (e : ℕ) (u : State) → getD (u .active) (r .s
 unfolding enabled-by is-active
 off-source r e u n = rw n (sym (and-false (eqb (r .trigger) e)))
 
-pub on-guard : (r : TransRow) (e : ℕ) (u w : State) → w .vars ≡ u .vars → r .trigger ≡ e → getD (u .active) (r .source) false ≡ true → guard-holds (r .guard) w ≡ enabled-by r e u
+pub on-guard : (r : TransRow) (e : ℕ) (u w : State) → w .vars ≡ u .vars → r .trigger ≡ e → getD (u .active) (r .source) false ≡ true
+    → guard-holds (r .guard) w ≡ enabled-by r e u
 unfolding enabled-by is-active
 on-guard r e u w v t s = rw (eq-eqb (r .trigger) e t, s) (guard-seen (r .guard) w u v)

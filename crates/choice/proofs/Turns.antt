@@ -4,7 +4,7 @@ use Prim.Native.Nat.{ℕ, suc, _+_, _-_, _≤_, _<_}
 use native.Mathlib.Omega.{arith}
 use mathlib.Core.Bool.{Bool, true, false, _&&_}
 use mathlib.Core.List.{List, []}
-use lib.ListN.{length, getD, take, set}
+use lib.ListN.{length, getD, take}
 use lib.Seq.{length-take-le}
 use lib.IntN.{ℤ}
 use lib.Dec.{eqb}
@@ -13,19 +13,20 @@ use Rattle.sizes.specs.Sizes.{STATES, TRANSITIONS}
 use Rattle.meaning.specs.declared.State.{State}
 use Rattle.meaning.specs.declared.chart.TransRow.{TransRow}
 use Rattle.meaning.specs.Chart.{Chart}
-use Rattle.meaning.specs.Tree.{trans-row, span, span-of}
+use Rattle.meaning.specs.Tree.{trans-row, span}
 use Rattle.meaning.specs.Value.{chart-of}
 use Rattle.meaning.specs.Reaction.{enabled-by, enabled, meets, chosen}
 use Rattle.laws.proofs.Lists.{and-left}
 use Rattle.laws.proofs.Value.{sized-chart}
 use Rattle.tree_walks.specs.Walks.{Ruled}
 use Rattle.tree_walks.proofs.Passing.{rules-passed}
+use Rattle.ways.specs.Aims.{Found}
 use Rattle.choice.specs.declared.Span.{Span}
-use Rattle.choice.specs.Span.{Spans, Aims, Goes}
-use Rattle.choice.specs.Choice.{meant}
+use Rattle.choice.specs.Span.{Spans, Spanned, Aims, Goes}
+use Rattle.choice.specs.Choice.{meant, noted}
 use Rattle.choice.proofs.Inside.{span-ends}
 use Rattle.choice.proofs.Thin.{gone-after, with-rest, rest-passed, rest-off, rest-clash, rest-take}
-use Rattle.choice.proofs.Loop.{row-aims, row-spans, row-enabled, Held, held-more, held-clash, held-apart, one-more}
+use Rattle.choice.proofs.Loop.{row-aims, row-spans, row-found, row-enabled, Held, held-more, held-clash, held-apart, one-more}
 use Rattle.choice.proofs.All.{with-sources, take-room}
 
 -- before transition t of the source s: the picks, with what is still to come, are the chosen of all
@@ -38,6 +39,7 @@ pub record Turn (c : Chart) (e : ℕ) (u : State) (s t : ℕ) (r : Span) : Type 
   pub source : trans-row c t .source ≡ s
   pub on : enabled c e u t ≡ true
   pub spans : Spans (span c t) r
+  pub found : Found c t (r .top) (r .end)
   pub ends : r .end ≤ STATES
 
 -- what the tests of a row say of it
@@ -51,13 +53,14 @@ module _ (v : List ℤ) (h : Ruled v) (t : ℕ) {row : TransRow} (q : row ≡ tr
   pub meant-aims : Aims (chart-of v) s (row .target)
   meant-aims = row-aims v h t row q l s meant-source
 
-  pub turn-of : {u : State} {b : Bool} {r : Span} → b ≡ enabled-by row e u → b ≡ true → Spans (span-of (chart-of v) s (row .target)) r
+  pub turn-of : {u : State} {b : Bool} {r : Span} → b ≡ enabled-by row e u → b ≡ true → Spanned (chart-of v) s (row .target) r
       → Turn (chart-of v) e u s t r
   turn-of {u} {b} {r} f z w = record {
     source = sym (ap (λ x. x .source) q) ∙ meant-source;
     on = row-enabled v h t row q l e u b f ∙ z;
-    spans = row-spans v h t row q l s r meant-source w;
-    ends = omega (arith, span-ends (chart-of v) s (meant-aims .0) (row .target) r w, sized-chart v (rules-passed v h .0) .states);
+    spans = row-spans v h t row q l s r meant-source (w .spans);
+    found = row-found v h t row q l s r meant-source w;
+    ends = omega (arith, span-ends (chart-of v) s (meant-aims .0) (row .target) r (w .spans), sized-chart v (rules-passed v h .0) .states);
   }
 
 module _ {c : Chart} {e : ℕ} {u : State} {s t n : ℕ} {picks : List ℕ} {count : ℕ} {gone : List Bool}
@@ -91,10 +94,15 @@ module _ {c : Chart} {e : ℕ} {u : State} {s t n : ℕ} {picks : List ℕ} {cou
         take-room c e u s t n (take count picks) (w .owes) l (g .source) (g .on) apart k,
       )
 
-      pub choosing-take : {new : List Bool} → Goes r gone new → Choosing c e u s (t + 1) n (set picks count t) (count + 1) new
+      pub choosing-take : {new : List Bool} → Goes r gone new → Choosing c e u s (t + 1) n (noted picks count t r) (count + 1) new
       choosing-take {new} m = record {
         owes = ap (λ ps. with-sources c e u s (with-rest c e u s (t + 1) (n - (t + 1)) ps))
-            (one-more picks count t (omega (arith, choosing-room, w .held .size)))
+            (one-more picks count t r choosing-room (w .held .size))
             ∙ ap (with-sources c e u s) (rest-take c e u s t n l (take count picks) (g .source) (g .on) apart) ∙ w .owes;
-        held = held-more c picks count gone new t r (w .held) choosing-room (g .spans) m;
+        held = held-more c picks count gone new t r (w .held) choosing-room (g .spans) (g .found) m;
       }
+
+      -- the same as the code has it: the pick is noted
+      pub choosing-noted : {new : List Bool} {x : ℕ} {ps : List ℕ} → x ≡ t → ps ≡ noted picks count x r → Goes r gone new
+          → Choosing c e u s (x + 1) n ps (count + 1) new
+      choosing-noted q o m = rw (o, q) (choosing-take m)

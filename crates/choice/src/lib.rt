@@ -17,20 +17,32 @@ use sizes::TRANSITIONS;
 use sizes::VARIABLES;
 use tree_walks::end_below;
 use tree_walks::scope;
+use ways::Aim;
+use ways::aim_of;
+use ways::aimed;
 ghost use mathlib.Core.Path.{_≡_};
 ghost use mathlib.Core.List.{[]};
 ghost use Prim.Native.Nat.{_<_, _≤_};
 ghost use lib.ListN.{length};
 ghost use Rattle.sizes.specs.Sizes.{STATES as states, TRANSITIONS as transitions};
-ghost use Rattle.meaning.specs.Tree.{span-of, trans-row};
+ghost use Rattle.meaning.specs.Tree.{trans-row};
 ghost use Rattle.meaning.specs.Value.{chart-of};
 ghost use Rattle.meaning.specs.Reaction.{compare-by, guard-holds, enabled-by};
 ghost use Rattle.tree_walks.specs.Walks.{Ruled};
-ghost use Rattle.choice.specs.Span.{Spans, Aims, Goes};
-ghost use Rattle.choice.specs.Choice.{seen, Reads, meant, Sources, Chose};
+ghost use Rattle.choice.specs.Span.{Spanned, Aims, Goes};
+ghost use Rattle.choice.specs.Choice.{seen, Reads, meant, Sources, noted, Chose, PICKS as picks-size};
 
-// The numbers from first up to below end.
+// What choosing finds out of each transition that it chooses, in three parts of one array: the transition, the top of its span, and
+// where the states below that top end. Two bytes each, since the array is cleared for each step.
+pub const TOPS_AT: usize = TRANSITIONS;
+
+pub const ENDS_AT: usize = 2 * TRANSITIONS;
+
+pub const PICKS: usize = 3 * TRANSITIONS;
+
+// The numbers from first up to below end; the top is the state below which a firing leaves and enters: the scope, in place the source.
 pub struct Span {
+    pub top: usize,
     pub first: usize,
     pub end: usize,
 }
@@ -38,29 +50,23 @@ pub struct Span {
 // "all proper descendants of the scope; for a reaction in place, the source and its descendants"
 pub fn span_of(chart: &[i32], s: usize, target: Target) -> Span
     requires { ⌜ Ruled (now chart) × Aims (chart-of (now chart)) s target ⌝ }
-    ensures { λ r. ⌜ Spans (span-of (chart-of (now (chart .entry))) s target) r ⌝ }
+    ensures { λ r. ⌜ Spanned (chart-of (now (chart .entry))) s target r ⌝ }
 {
-    match target {
-        Target::To(t) => {
-            let top = scope(chart, s, t);
-            let end = end_below(chart, top);
-            Span {
-                first: top + 1,
-                end: end,
-            }
-        }
-        Target::History(b) => {
-            let top = scope(chart, s, b);
-            let end = end_below(chart, top);
-            Span {
-                first: top + 1,
-                end: end,
-            }
-        }
-        Target::InPlace => Span {
+    let aim = aim_of(target);
+    let Aim::Goes(goal) = aim else {
+        let below = end_below(chart, s);
+        return Span {
+            top: s,
             first: s,
-            end: end_below(chart, s),
-        },
+            end: below,
+        };
+    };
+    let top = scope(chart, s, aimed(goal));
+    let end = end_below(chart, top);
+    Span {
+        top: top,
+        first: top + 1,
+        end: end,
     }
 }
 
@@ -163,16 +169,26 @@ fn mark_gone(span: Span, gone: &mut [bool; STATES])
     }
 }
 
-// "the enabled, by falling source then rising transition number, less any whose span meets that of one already chosen": their
-// numbers stand in picks.
+// One more is chosen: its number, and what was found out of it.
+fn note(t: usize, span: Span, picks: &mut [u16; PICKS], count: usize)
+    requires { ⌜ (t < transitions) × (span .top < span .end) × (span .end ≤ states) × (count < transitions) × (length (now picks) ≡ picks-size) ⌝ }
+    ensures { λ r. ⌜ now (picks .exit) ≡ noted (now (picks .entry)) count t span ⌝ }
+{
+    picks[count] = t as u16;
+    picks[TOPS_AT + count] = span.top as u16;
+    picks[ENDS_AT + count] = span.end as u16;
+}
+
+// "the enabled, by falling source then rising transition number, less any whose span meets that of one already chosen": they
+// stand in picks, with what was found out of each.
 pub fn choose(
     chart: &[i32],
     event: usize,
     active: &[bool; STATES],
     vars: &[i32; VARIABLES],
-    picks: &mut [usize; TRANSITIONS],
+    picks: &mut [u16; PICKS],
 ) -> usize
-    requires { ⌜ Ruled (now chart) × (length (now picks) ≡ transitions) ⌝ }
+    requires { ⌜ Ruled (now chart) × (length (now picks) ≡ picks-size) ⌝ }
     ensures { λ r. ⌜ Chose (chart-of (now (chart .entry))) event (now (active .entry)) (now (vars .entry)) r (now (picks .exit)) ⌝ }
 {
     let n = transition_count(chart);
@@ -201,7 +217,7 @@ pub fn choose(
                 }
             }
             mark_gone(span, &mut gone);
-            picks[count] = t;
+            note(t, span, picks, count);
             count += 1;
         }
     }

@@ -1,5 +1,6 @@
 -- The laws by which `move_to` and `fire` meet their promises. Assumes nothing.
-use mathlib.Core.Path.{_≡_, sym, subst}
+use mathlib.Core.Path.{_≡_, refl, sym, ap, subst, _∙_}
+use native.Mathlib.Omega.{arith}
 use Prim.Native.Nat.{ℕ, _<_}
 use mathlib.Core.Bool.{Bool}
 use mathlib.Core.List.{List}
@@ -10,24 +11,26 @@ use Rattle.laws.proofs.Scope.{scope-facts}
 use Rattle.chart_rows.proofs.Rows.{states-most}
 use Rattle.meaning.specs.Chart.{Chart}
 use Rattle.meaning.specs.declared.chart.Owner.the-variants.{TransitionOf as transition-of}
-use Rattle.meaning.specs.declared.chart.Target.{Target as Aim}
-use Rattle.meaning.specs.declared.chart.Target.the-variants.{History as history, InPlace as in-place, To as to}
+use Rattle.meaning.specs.declared.chart.Target.{Target}
 use Rattle.meaning.specs.declared.chart.TransRow.{TransRow}
 use Rattle.meaning.specs.Effects.{perform-all}
 use Rattle.meaning.specs.Entry.{all-below}
 use Rattle.meaning.specs.Reaction.{fire, fire-to, leave-all}
-use Rattle.meaning.specs.Steps.{_then_, each}
+use Rattle.meaning.specs.Steps.{Step, _then_, each}
 use Rattle.meaning.specs.Tree.{descendants, scope, trans-row}
 use Rattle.meaning.specs.Value.{chart-of}
-use Rattle.meaning.specs.Widget.{emit, taken}
+use Rattle.meaning.specs.Widget.{Ctx, emit, taken}
 use Rattle.tree_walks.specs.Walks.{Ruled}
 use Rattle.tree_walks.proofs.Passing.{sound}
 use Rattle.widget.specs.declared.Went.{Went}
 use Rattle.widget.specs.View.{Lent, all-lent, with-vars, with-queue, with-trace, Whole, Within, Did}
 use Rattle.widget.proofs.Going.{then-on, then-stop}
-use Rattle.ways.specs.Ways.{goal-way, goal-visit, Led}
+use Rattle.ways.specs.Aims.{aim-by, aimed-at, top-of, Found}
+use Rattle.ways.specs.Ways.{goal-way, goal-visit, Inside, Owned, Led}
+use Rattle.ways.specs.declared.Aim.{Aim}
+use Rattle.ways.specs.declared.Aim.the-variants.{Goes, Stays}
 use Rattle.ways.specs.declared.Goal.{Goal}
-use Rattle.ways.specs.declared.Goal.the-variants.{Target, Owner}
+use Rattle.ways.proofs.Aiming.{goes-by, stays-by, goal-facts, goal-bound}
 use Rattle.firing.specs.Moving.{moving}
 use Rattle.firing.proofs.Leading.{leave-all-led, led-after}
 
@@ -62,21 +65,39 @@ pub left-led : (w : List ℤ) → Ruled w → (arg : ℤ) (s : ℕ) {k : Lent} {
     → Whole k → r .number ≡ 0 → Led (chart-of w) (k .slots) → Led (chart-of w) (k₁ .slots)
 left-led w f arg s d h z l = led-after (chart-of w) (leave-all-led (chart-of w) (sound w f) (states-most w) arg s) d h z l
 
--- ---- R6: where a transition leads
+-- ---- a transition that leads somewhere: what choosing found out of it is its scope
 
-module _ (w : List ℤ) (f : Ruled w) (n : ℕ) (l : n < length (chart-of w .transitions)) (row : TransRow) (e : row ≡ trans-row
-    (chart-of w) n) where
-  facts : (x : Aim) → row .target ≡ x → Target-facts (chart-of w) (row .source) x
-  facts x q = subst (λ y. Target-facts (chart-of w) (row .source) y) q
-      (subst (λ y. Target-facts (chart-of w) (y .source) (y .target)) (sym e) (sound w f .transitions n l .target))
+fire-goes : (c : Chart) (arg : ℤ) (n s : ℕ) (g : Target) (goal : Goal) → aim-by g ≡ Goes goal
+    → fire-to c arg n s g ≡ moving c arg n goal (scope c s (aimed-at goal))
+unfolding fire-to moving
+fire-goes c arg n s = goes-by (λ g goal. fire-to c arg n s g ≡ moving c arg n goal (scope c s (aimed-at goal))) (λ d. refl) (λ b. refl)
 
-  pub to-inside : (d : ℕ) → row .target ≡ to d
-      → (d < length (chart-of w .states)) × (scope (chart-of w) (row .source) d < length (chart-of w .states))
-  to-inside d q = let t = facts (to d) q in (t .0, scope-facts (chart-of w) (sound w f) (row .source) d (t .2) (t .1) .inside)
+fire-stays : (c : Chart) (arg : ℤ) (n s : ℕ) (g : Target) → aim-by g ≡ Stays → fire-to c arg n s g ≡ perform-all c arg (transition-of n)
+unfolding fire-to
+fire-stays c arg n s = stays-by (λ g. fire-to c arg n s g ≡ perform-all c arg (transition-of n)) refl
 
-  pub history-inside : (b : ℕ) → row .target ≡ history b
-      → (b < length (chart-of w .states)) × (scope (chart-of w) (row .source) b < length (chart-of w .states))
-  history-inside b q = let t = facts (history b) q in (t .0, scope-facts (chart-of w) (sound w f) (row .source) b (t .3) (t .1) .inside)
+module _ (c : Chart) (n : ℕ) (row : TransRow) (e : row ≡ trans-row c n) {aim : Aim} (q : aim ≡ aim-by (row .target))
+    {goal : Goal} (o : aim ≡ Goes goal) {top end : ℕ} (h : Found c n top end) where
+  is-scope : top ≡ scope c (row .source) (aimed-at goal)
+  is-scope = h .is ∙ ap (λ x. top-of c (x .source) (aim-by (x .target))) (sym e) ∙ ap (top-of c (row .source)) (sym q ∙ o)
+
+module _ (w : List ℤ) (f : Ruled w) (n : ℕ) (l : n < length (chart-of w .transitions)) (row : TransRow) (e : row ≡ trans-row (chart-of w) n)
+    {aim : Aim} (q : aim ≡ aim-by (row .target)) {goal : Goal} (o : aim ≡ Goes goal) where
+  facts : Target-facts (chart-of w) (row .source) (row .target)
+  facts = subst (λ y. Target-facts (chart-of w) (y .source) (y .target)) (sym e) (sound w f .transitions n l .target)
+
+  pub goes-bound : Inside (chart-of w) goal × Owned (chart-of w) goal
+  goes-bound = goal-bound (chart-of w) (row .source) (row .target) goal (sym q ∙ o) facts
+
+  pub goes-inside : {top end : ℕ} → Found (chart-of w) n top end → top < length (chart-of w .states)
+  goes-inside h =
+      let g = goal-facts (chart-of w) (row .source) (row .target) goal (sym q ∙ o) facts in
+      omega (
+        arith,
+        is-scope (chart-of w) n row e q o h,
+        scope-facts (chart-of w) (sound w f) (row .source) (aimed-at goal) (g .2)
+            (g .1) .inside,
+      )
 
 -- ---- firing
 
@@ -89,27 +110,19 @@ module _ (c : Chart) (arg : ℤ) (n : ℕ) (a : List Bool) (sl v q : List ℤ) {
   unfolding fire
   fired-stop z = then-stop _ noted z
 
-  module _ (z : r .number ≡ 0) (row : TransRow) (e : row ≡ trans-row c n) {y : Went} {k₂ : Lent} where
-    fired-by : (x : Aim) → row .target ≡ x → Did (fire-to c arg n (row .source) x) (all-lent a sl v q t₁) (r .at) y k₂
+  module _ (z : r .number ≡ 0) (row : TransRow) (e : row ≡ trans-row c n) {aim : Aim}
+      (m : aim ≡ aim-by (row .target)) {y : Went} {k₂ : Lent} where
+    fired-as : {E : Step Ctx} → E ≡ fire-to c arg n (row .source) (row .target) → Did E (all-lent a sl v q t₁) (r .at) y k₂
         → Did (fire c arg n) (all-lent a sl v q t) at y k₂
     unfolding fire
-    fired-by x p d = then-on noted z
-        (subst (λ o. Did (fire-to c arg n (o .source) (o .target)) (all-lent a sl v q t₁) (r .at) y k₂) e
-        (subst (λ o. Did (fire-to c arg n (row .source) o) (all-lent a sl v q t₁) (r .at) y k₂) (sym p) d))
+    fired-as p d = then-on noted z
+        (subst (λ F. Did F (all-lent a sl v q t₁) (r .at) y k₂) (p ∙ ap (λ x. fire-to c arg n (x .source) (x .target)) e) d)
 
-    pub fired-to : {d : ℕ} → row .target ≡ to d → {s : ℕ} → s ≡ scope c (row .source) d
-        → Did (moving c arg n (Target d) s) (all-lent a sl v q t₁) (r .at) y k₂
-        → Did (fire c arg n) (all-lent a sl v q t) at y k₂
-    unfolding fire-to moving
-    fired-to {d} p o g = fired-by (to d) p (subst (λ x. Did (moving c arg n (Target d) x) (all-lent a sl v q t₁) (r .at) y k₂) o g)
+    pub fired-goes : {goal : Goal} → aim ≡ Goes goal → {top end : ℕ} → Found c n top end
+        → Did (moving c arg n goal top) (all-lent a sl v q t₁) (r .at) y k₂ → Did (fire c arg n) (all-lent a sl v q t) at y k₂
+    fired-goes {goal} o h d = fired-as (ap (moving c arg n goal) (is-scope c n row e m o h)
+        ∙ sym (fire-goes c arg n (row .source) (row .target) goal (sym m ∙ o))) d
 
-    pub fired-history : {b : ℕ} → row .target ≡ history b → {s : ℕ} → s ≡ scope c (row .source) b
-        → Did (moving c arg n (Owner b) s) (all-lent a sl v q t₁) (r .at) y k₂
+    pub fired-stays : aim ≡ Stays → Did (perform-all c arg (transition-of n)) (all-lent a sl v q t₁) (r .at) y k₂
         → Did (fire c arg n) (all-lent a sl v q t) at y k₂
-    unfolding fire-to moving
-    fired-history {b} p o g = fired-by (history b) p (subst (λ x. Did (moving c arg n (Owner b) x) (all-lent a sl v q t₁) (r .at) y k₂) o g)
-
-    pub fired-in-place : row .target ≡ in-place → Did (perform-all c arg (transition-of n)) (all-lent a sl v q t₁) (r .at) y k₂
-        → Did (fire c arg n) (all-lent a sl v q t) at y k₂
-    unfolding fire-to
-    fired-in-place p g = fired-by in-place p g
+    fired-stays o d = fired-as (sym (fire-stays c arg n (row .source) (row .target) (sym m ∙ o))) d

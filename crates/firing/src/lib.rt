@@ -3,27 +3,30 @@
 use acts::index::INDEX;
 use acts::perform_all;
 use chart_rows::trans_row;
-use leave_enter::entering::towards;
+use leave_enter::entering::descend;
 use leave_enter::leaving::leave_below;
 use meaning::chart::Owner;
-use meaning::chart::Target;
 use queue::lent::QUEUE_NUMBERS;
 use sizes::STATES;
 use sizes::VARIABLES;
-use tree_walks::scope;
+use ways::Aim;
+use ways::Course;
 use ways::Goal;
+use ways::aim_of;
 use widget::Went;
 use widget::mark_taken;
 ghost use mathlib.Core.Path.{_≡_};
-ghost use Prim.Native.Nat.{_≤_, _<_};
+ghost use Prim.Native.Nat.{suc, _+_, _≤_, _<_};
 ghost use lib.ListN.{length};
 ghost use Rattle.sizes.specs.Sizes.{TRANSITIONS as transitions};
 ghost use Rattle.queue.specs.Numbers.{QUEUE-NUMBERS as all};
 ghost use Rattle.meaning.specs.Reaction.{fire as fires};
+ghost use Rattle.meaning.specs.Tree.{descendants};
 ghost use Rattle.meaning.specs.Value.{chart-of};
 ghost use Rattle.acts.specs.Index.{Ready};
 ghost use Rattle.widget.specs.View.{all-lent, Did};
-ghost use Rattle.ways.specs.Ways.{Inside, Led};
+ghost use Rattle.ways.specs.Aims.{Found};
+ghost use Rattle.ways.specs.Ways.{Inside, Owned, Led};
 ghost use Rattle.firing.specs.Moving.{moving};
 
 // The states below the scope are left, then the transition's actions, then the way down to the goal.
@@ -34,6 +37,7 @@ fn move_to(
     t: usize,
     goal: Goal,
     top: usize,
+    end: usize,
     active: &mut [bool; STATES],
     slots: &mut [i32; STATES],
     vars: &mut [i32; VARIABLES],
@@ -41,7 +45,7 @@ fn move_to(
     trace: &mut [i32],
     at: usize,
 ) -> Went
-    requires { ⌜ Ready (now chart) (now index) × Inside (chart-of (now chart)) goal × (top < length (chart-of (now chart) .states)) × Led (chart-of (now chart)) (now slots) × (length (now queue) ≡ all) × (at ≤ length (now trace)) × (t < transitions) ⌝ }
+    requires { ⌜ Ready (now chart) (now index) × (Inside (chart-of (now chart)) goal × Owned (chart-of (now chart)) goal) × (top < length (chart-of (now chart) .states)) × (end ≡ suc top + length (descendants (chart-of (now chart)) top)) × Led (chart-of (now chart)) (now slots) × (length (now queue) ≡ all) × (at ≤ length (now trace)) × (t < transitions) ⌝ }
     ensures { λ r. ⌜ Did (moving (chart-of (now (chart .entry))) arg t goal top) (all-lent (now (active .entry)) (now (slots .entry)) (now (vars .entry)) (now (queue .entry)) (now (trace .entry))) at r (all-lent (now (active .exit)) (now (slots .exit)) (now (vars .exit)) (now (queue .exit)) (now (trace .exit))) ⌝ }
 {
     let gone = leave_below(
@@ -49,6 +53,7 @@ fn move_to(
         index,
         arg,
         top,
+        end,
         active,
         slots,
         vars,
@@ -64,11 +69,12 @@ fn move_to(
     if went.number != 0 {
         return went;
     }
-    towards(
+    let course = Course::Towards(goal);
+    descend(
         chart,
         index,
         arg,
-        goal,
+        course,
         top,
         active,
         slots,
@@ -79,12 +85,14 @@ fn move_to(
     )
 }
 
-// 01, "Firing": the transition t is taken.
+// 01, "Firing": the transition t is taken; top and end are what choosing found out of it.
 pub fn fire(
     chart: &[i32],
     index: &[usize; INDEX],
     arg: i32,
     t: usize,
+    top: usize,
+    end: usize,
     active: &mut [bool; STATES],
     slots: &mut [i32; STATES],
     vars: &mut [i32; VARIABLES],
@@ -92,7 +100,7 @@ pub fn fire(
     trace: &mut [i32],
     at: usize,
 ) -> Went
-    requires { ⌜ Ready (now chart) (now index) × (t < length (chart-of (now chart) .transitions)) × Led (chart-of (now chart)) (now slots) × (length (now queue) ≡ all) × (at ≤ length (now trace)) ⌝ }
+    requires { ⌜ Ready (now chart) (now index) × (t < length (chart-of (now chart) .transitions)) × Found (chart-of (now chart)) t top end × Led (chart-of (now chart)) (now slots) × (length (now queue) ≡ all) × (at ≤ length (now trace)) ⌝ }
     ensures { λ r. ⌜ Did (fires (chart-of (now (chart .entry))) arg t) (all-lent (now (active .entry)) (now (slots .entry)) (now (vars .entry)) (now (queue .entry)) (now (trace .entry))) at r (all-lent (now (active .exit)) (now (slots .exit)) (now (vars .exit)) (now (queue .exit)) (now (trace .exit))) ⌝ }
 {
     let taken = mark_taken(t, trace, at);
@@ -101,48 +109,25 @@ pub fn fire(
     }
     let row = trans_row(chart, t);
     let target = row.target;
-    match target {
-        Target::To(d) => {
-            let goal = Goal::Target(d);
-            let top = scope(chart, row.source, d);
-            let then = taken.at;
-            move_to(
-                chart,
-                index,
-                arg,
-                t,
-                goal,
-                top,
-                active,
-                slots,
-                vars,
-                queue,
-                trace,
-                then,
-            )
-        }
-        Target::History(b) => {
-            let goal = Goal::Owner(b);
-            let top = scope(chart, row.source, b);
-            let then = taken.at;
-            move_to(
-                chart,
-                index,
-                arg,
-                t,
-                goal,
-                top,
-                active,
-                slots,
-                vars,
-                queue,
-                trace,
-                then,
-            )
-        }
-        Target::InPlace => {
-            let owner = Owner::TransitionOf(t);
-            perform_all(chart, index, arg, owner, vars, queue, trace, taken.at)
-        }
-    }
+    let aim = aim_of(target);
+    let Aim::Goes(goal) = aim else {
+        let owner = Owner::TransitionOf(t);
+        return perform_all(chart, index, arg, owner, vars, queue, trace, taken.at);
+    };
+    let then = taken.at;
+    move_to(
+        chart,
+        index,
+        arg,
+        t,
+        goal,
+        top,
+        end,
+        active,
+        slots,
+        vars,
+        queue,
+        trace,
+        then,
+    )
 }

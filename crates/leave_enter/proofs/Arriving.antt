@@ -1,101 +1,113 @@
--- The restore at the owner of a history, and entering a state on the way to a goal: the laws that `restore` and `arrive` cite.
--- Assumes nothing.
+-- How a descent goes on below a state that it just entered: at the owner of a history by what its slot says. Assumes nothing.
 use mathlib.Core.Path.{_≡_, refl, sym, ap, subst, fun-ext, _∙_}
-use Prim.Native.Nat.{ℕ}
-use mathlib.Core.Bool.{Bool, true, false}
-use mathlib.Core.List.{List}
+use Prim.Native.Nat.{ℕ, zero, suc}
+use mathlib.Core.Bool.{Bool, true, false, cond}
+use mathlib.Core.List.{List, []}
+use lib.ListN.{length}
 use lib.Dec.{eqb}
 use lib.IntN.{ℤ}
-use borrow.Author.Tests.{eq-eqb, ne-eqb}
+use borrow.Author.Tests.{eq-eqb, eqb-true}
 use Rattle.numbers.specs.declared.Place.{Place}
 use Rattle.numbers.specs.declared.Place.the-variants.{Empty as empty, At as holds}
+use Rattle.laws.proofs.Steps.{bind-cong}
 use Rattle.meaning.specs.declared.State.{State}
+use Rattle.meaning.specs.declared.chart.Kind.the-variants.{O as kind-o}
 use Rattle.meaning.specs.Chart.{Chart}
-use Rattle.meaning.specs.Entry.{Visit, state-of, all-below, by-defaults, by-slots, visit, revisit, restore, restore-by, visit-towards}
-use Rattle.meaning.specs.Steps.{Step, _then_, when, each}
+use Rattle.meaning.specs.Entry.{Visit, stops, state-of, goes-on, below, all-below, by-slots, visit, revisit, restore, restore-by}
+use Rattle.meaning.specs.Entry.{towards, towards-owner, visit-towards}
+use Rattle.meaning.specs.Steps.{Step, bind, _then_, look, when, each}
 use Rattle.meaning.specs.Tree.{kind-of}
 use Rattle.meaning.specs.Widget.{Ctx, slot}
 use Rattle.widget.specs.declared.Went.{Went}
-use Rattle.widget.specs.View.{Lent, all-lent, ctx, tracing, widget, Did}
-use Rattle.widget.proofs.Going.{then-on, then-stop, then-none}
-use Rattle.widget.proofs.Loops.{look-at, when-on}
-use Rattle.ways.specs.Ways.{way-by, slot-of, stored-way, goal-way, goal-visit, defaulting, visit-as}
-use Rattle.ways.specs.declared.Next.{Next}
-use Rattle.ways.specs.declared.Goal.{Goal}
+use Rattle.widget.specs.View.{Lent, all-lent, ctx, tracing, widget, Did, Owes}
+use Rattle.widget.proofs.Going.{owes-as, owes-on, then-stop}
+use Rattle.widget.proofs.Loops.{owes-regroup, owes-when, owes-pass}
+use Rattle.ways.specs.Ways.{slot-of, stored-way, course-way, course-visit, arrival, restored, onward-from, Bound}
 use Rattle.ways.specs.declared.Goal.the-variants.{Target, Owner}
-use Rattle.leave_enter.proofs.Visiting.{Enters}
-
--- ---- the restore
+use Rattle.ways.specs.declared.Course.{Course}
+use Rattle.ways.specs.declared.Course.the-variants.{Defaults as default-course, Slots as slot-course, Towards}
 
 by-slots-is : (u : State) → by-slots u ≡ stored-way (u .slots)
 unfolding by-slots slot stored-way
 by-slots-is u = fun-ext (λ s. refl)
 
-module _ (c : Chart) (arg : ℤ) (b : ℕ) {p : Place} {a : List Bool} {sl v q t : List ℤ} {at : ℕ}
-    (h : p ≡ slot-of sl b) {r : Went} {a₁ : List Bool} {v₁ q₁ t₁ : List ℤ} where
-  -- what a restore does is said by the slot
-  restored : {D : Step Ctx} {o : Place} → p ≡ o → D ≡ restore-by c arg b (widget (all-lent a sl v q t)) o
-      → Did D (all-lent a sl v q t) at r (all-lent a₁ sl v₁ q₁ t₁)
-      → Did (restore c arg b) (all-lent a sl v q t) at r (all-lent a₁ sl v₁ q₁ t₁)
-  unfolding restore slot ctx tracing
-  restored e f g = look-at _
-      (subst (λ D. Did D (all-lent a sl v q t) at r (all-lent a₁ sl v₁ q₁ t₁)) (f
-      ∙ ap (restore-by c arg b (widget (all-lent a sl v q t))) (sym e ∙ h)) g)
+-- all that is entered below s on a course
+abbrev pub descent : Chart → ℤ → List ℤ → Course → ℕ → Step Ctx
+descent c arg sl course s = each (course-visit c arg course) (all-below c (course-way c sl course) s)
 
-  pub restored-stored : {d : ℕ} → p ≡ holds d
-      → Did (each (revisit c arg) (all-below c (stored-way sl) b)) (all-lent a sl v q t) at r (all-lent a₁ sl v₁ q₁ t₁)
-      → Did (restore c arg b) (all-lent a sl v q t) at r (all-lent a₁ sl v₁ q₁ t₁)
-  unfolding restore-by
-  restored-stored e g = restored e (ap (λ w. each (revisit c arg) (all-below c w b)) (sym (by-slots-is (widget (all-lent a sl v q t))))) g
+-- ---- at the owner of a history
 
-  pub restored-default : p ≡ empty
-      → Did (each (visit c arg) (all-below c by-defaults b)) (all-lent a sl v q t) at r (all-lent a₁ sl v₁ q₁ t₁)
-      → Did (restore c arg b) (all-lent a sl v q t) at r (all-lent a₁ sl v₁ q₁ t₁)
-  unfolding restore-by
-  restored-default e g = restored e refl g
-
--- ---- on the way to a goal
-
-state-as : (x : Bool) (p s : ℕ) → state-of (visit-as x p s) ≡ s
-unfolding state-of
-state-as true p s = refl
-state-as false p s = refl
-
-module _ (c : Chart) (arg : ℤ) (goal : Goal) (p s : ℕ) (next : Next) (e : way-by next ≡ goal-way c goal p) (sl : List ℤ)
-    {a : List Bool} {v q t : List ℤ} {at : ℕ} {r : Went} {a₁ : List Bool} {v₁ q₁ t₁ : List ℤ}
-    (w : Enters (visit c arg (visit-as (defaulting (kind-of c p) (way-by next)) p s)) a v q t at r a₁ v₁ q₁ t₁) where
-  -- the visit of s on the way to the goal
-  abbrev here : Visit
-  here = visit-as (defaulting (kind-of c p) (goal-way c goal p)) p s
-
-  visited : Did (visit c arg here) (all-lent a sl v q t) at r (all-lent a₁ sl v₁ q₁ t₁)
-  visited =
-      subst (λ x. Did (visit c arg (visit-as (defaulting (kind-of c p) x) p s)) (all-lent a sl v q t) at r (all-lent a₁ sl v₁ q₁ t₁)) e
-      (w .1 (all-lent a sl v q t))
-
-  as-goal : (g : Goal) → goal ≡ g → {y : Went} {k : Lent} → Did (goal-visit c arg g here) (all-lent a sl v q t) at y k
-      → Did (goal-visit c arg goal here) (all-lent a sl v q t) at y k
-  as-goal g o {y} {k} d = subst (λ x. Did (goal-visit c arg x here) (all-lent a sl v q t) at y k) (sym o) d
-
-  pub arrived-stop : (r .number ≡ 0 → ⊥) → Did (goal-visit c arg goal here) (all-lent a sl v q t) at r (all-lent a₁ sl v₁ q₁ t₁)
-  unfolding visit-towards
-  arrived-stop z = go goal refl
+module _ (c : Chart) (arg : ℤ) (b : ℕ) where
+  -- a restore is the descent that the slot says
+  restores : (k : Lent) (at : ℕ) → descent c arg (k .slots) (restored (slot-of (k .slots) b)) b (ctx k at) ≡ restore c arg b (ctx k at)
+  unfolding restore restore-by look slot ctx tracing
+  restores k at = go (slot-of (k .slots) b)
     where
-      go : (g : Goal) → goal ≡ g → Did (goal-visit c arg goal here) (all-lent a sl v q t) at r (all-lent a₁ sl v₁ q₁ t₁)
-      go (Target x) o = as-goal (Target x) o visited
-      go (Owner b) o = as-goal (Owner b) o (then-stop _ visited z)
+      go : (p : Place) → descent c arg (k .slots) (restored p) b (ctx k at) ≡ restore-by c arg b (widget k) p (ctx k at)
+      go empty = refl
+      go (holds d) = ap (λ w. each (revisit c arg) (all-below c w b) (ctx k at)) (sym (by-slots-is (widget k)))
 
-  pub arrived-target : {x : ℕ} → goal ≡ Target x → Did (goal-visit c arg goal here) (all-lent a sl v q t) at r (all-lent a₁ sl v₁ q₁ t₁)
-  arrived-target {x} o = as-goal (Target x) o visited
+  -- the way to the owner stops there
+  nothing-below : kind-of c b ≡ kind-o → all-below c (towards-owner c b) b ≡ []
+  unfolding all-below below goes-on towards-owner
+  nothing-below o = go (length (c .states))
+    where
+      stopped : towards-owner c b b ≡ stops
+      stopped = ap (λ x. cond x stops (towards c b b)) (eq-eqb b b refl)
 
-  module _ {b : ℕ} (o : goal ≡ Owner b) (z : r .number ≡ 0) where
-    pub arrived-past : (s ≡ b → ⊥) → Did (goal-visit c arg goal here) (all-lent a sl v q t) at r (all-lent a₁ sl v₁ q₁ t₁)
-    unfolding visit-towards when
-    arrived-past n = as-goal (Owner b) o (then-none _ visited z (ap (λ x. when x (restore c arg b) (ctx (all-lent a₁ sl v₁ q₁ t₁) (r .at)))
-        (ap (λ x. eqb x b) (state-as (defaulting (kind-of c p) (goal-way c goal p)) p s) ∙ ne-eqb s b n)))
+      go : (f : ℕ) → below c (towards-owner c b) f b ≡ []
+      go zero = refl
+      go (suc f) = ap (λ x. goes-on c (below c (towards-owner c b) f) b x (towards-owner c b b)) o
+          ∙ ap (goes-on c (below c (towards-owner c b) f) b kind-o) stopped
 
-    pub arrived-owner : s ≡ b → {y : Went} {k : Lent} → Did (restore c arg b) (all-lent a₁ sl v₁ q₁ t₁) (r .at) y k
-        → Did (goal-visit c arg goal here) (all-lent a sl v q t) at y k
-    unfolding visit-towards
-    arrived-owner n g = as-goal (Owner b) o
-        (then-on visited z (when-on (ap (λ x. eqb x b) (state-as (defaulting (kind-of c p) (goal-way c goal p)) p s) ∙ eq-eqb s b n) g))
+-- ---- on any course
+
+module _ (c : Chart) (arg : ℤ) (x : Visit) where
+  -- what is refused on arriving is refused
+  pub refused : (course : Course) {k : Lent} {at : ℕ} {r : Went} {k₁ : Lent} → Did (arrival c arg course x) k at r k₁ → (r .number ≡ 0 → ⊥)
+      → Did (course-visit c arg course x) k at r k₁
+  unfolding visit-towards
+  refused default-course d z = d
+  refused slot-course d z = d
+  refused (Towards (Target t)) d z = d
+  refused (Towards (Owner b)) d z = then-stop _ d z
+
+  module _ (sl : List ℤ) (i : ℕ) (n : state-of x ≡ i) (R : Step Ctx) {D : Step Ctx} {k₀ : Lent} {at₀ : ℕ} {k : Lent} {at : ℕ}
+      {r : Went} {a : List Bool} {v q t : List ℤ} (z : r .number ≡ 0) where
+    pub arrived : (course : Course) → Bound c course
+        → Owes D k₀ at₀ (course-visit c arg course x then (descent c arg sl course i then R)) k at
+        → Did (arrival c arg course x) k at r (all-lent a sl v q t)
+        → Owes D k₀ at₀ (descent c arg sl (onward-from sl course i) i then R) (all-lent a sl v q t) (r .at)
+    unfolding visit-towards _then_ each bind
+    arrived default-course b o d = owes-on _ o d z
+    arrived slot-course b o d = owes-on _ o d z
+    arrived (Towards (Target t)) b o d = owes-on _ o d z
+    arrived (Towards (Owner b)) l o d = go (eqb i b) refl
+      where
+        due : Owes D k₀ at₀ (when (eqb (state-of x) b) (restore c arg b) then (descent c arg sl (Towards (Owner b)) i then R))
+            (all-lent a sl v q t) (r .at)
+        due = owes-on _ (owes-regroup (visit c arg x) (when (eqb (state-of x) b) (restore c arg b))
+            (descent c arg sl (Towards (Owner b)) i then R) o) d z
+
+        here : (eqb i b ≡ true) → i ≡ b
+        here e = eqb-true i b e
+
+        restoring : eqb i b ≡ true → (descent c arg sl (restored (slot-of sl i)) i then R) (ctx (all-lent a sl v q t) (r .at))
+            ≡ (restore c arg b then (descent c arg sl (Towards (Owner b)) i then R)) (ctx (all-lent a sl v q t) (r .at))
+        restoring e = subst
+            (λ j. bind (descent c arg sl (restored (slot-of sl j)) j (ctx (all-lent a sl v q t) (r .at))) R
+            ≡ bind (restore c arg b (ctx (all-lent a sl v q t) (r .at))) (λ u. bind (descent c arg sl (Towards (Owner b)) j u) R))
+            (sym (here e))
+            (ap (λ y. bind y R) (restores c arg b (all-lent a sl v q t) (r .at))
+            ∙ bind-cong (restore c arg b (ctx (all-lent a sl v q t) (r .at)))
+            (λ u. sym (ap (λ ys. bind (each (visit-towards c arg b) ys u) R) (nothing-below c arg b (l .1)))))
+
+        Then : Course → Type 0
+        Then y = Owes D k₀ at₀ (descent c arg sl y i then R) (all-lent a sl v q t) (r .at)
+
+        go : (y : Bool) → eqb i b ≡ y → Then (cond (eqb i b) (restored (slot-of sl i)) (Towards (Owner b)))
+        go true e = subst (λ y. Then (cond y (restored (slot-of sl i)) (Towards (Owner b)))) (sym e)
+            (owes-as (descent c arg sl (restored (slot-of sl i)) i then R) (owes-when (restore c arg b) _ due (ap (λ j. eqb j b) n ∙ e))
+            (restoring e))
+        go false e = subst (λ y. Then (cond y (restored (slot-of sl i)) (Towards (Owner b)))) (sym e)
+            (owes-pass (restore c arg b) _ due (ap (λ j. eqb j b) n ∙ e))

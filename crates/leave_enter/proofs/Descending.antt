@@ -1,5 +1,4 @@
--- Going down one level, child by child: the laws that `by_defaults`, `by_slots` and `towards` cite. They are over any way and any step for
--- a visit, and over whatever else is lent or one list of slots, as the promise is. Assumes nothing.
+-- Going down one level, child by child: the laws that `descend` cites, over any course. Assumes nothing.
 use mathlib.Core.Path.{_≡_, refl, sym, ap, subst, _∙_}
 use Prim.Native.Nat.{ℕ, suc, _+_, _-_, _≤_, _<_}
 use mathlib.Core.Bool.{Bool, true, false}
@@ -10,17 +9,19 @@ use lib.IntN.{ℤ}
 use Rattle.laws.specs.Facts.{Sound}
 use Rattle.laws.proofs.Steps.{each-append, bind-cong}
 use Rattle.meaning.specs.Chart.{Chart}
-use Rattle.meaning.specs.Entry.{Visit, Way, all-below, plain, revisit}
+use Rattle.meaning.specs.Entry.{Visit, Way, all-below}
 use Rattle.meaning.specs.Lists.{concat-map, from, keep}
 use Rattle.meaning.specs.Steps.{Step, _then_, each}
-use Rattle.meaning.specs.Tree.{kind-of, is-child}
+use Rattle.meaning.specs.Tree.{is-child}
 use Rattle.meaning.specs.Widget.{Ctx}
 use Rattle.widget.specs.declared.Went.{Went}
-use Rattle.widget.specs.View.{Lent, all-lent, ctx, Within, Did, Owes}
-use Rattle.widget.proofs.Going.{owes-all, owes-as, owes-none, owes-on, owes-stop}
-use Rattle.ways.specs.Ways.{defaulting, stored-way, visit-as, Kids}
-use Rattle.ways.proofs.Among.{stored-plain}
-use Rattle.leave_enter.proofs.Visiting.{enter-lent}
+use Rattle.widget.specs.View.{Lent, all-lent, ctx, Did, Owes}
+use Rattle.widget.proofs.Going.{owes-all, owes-as, owes-on, owes-stop}
+use Rattle.widget.proofs.Loops.{each-none}
+use Rattle.ways.specs.Ways.{course-way, course-visit, arrival, onward-from, Bound, Kids}
+use Rattle.ways.specs.declared.Course.{Course}
+use Rattle.leave_enter.proofs.Visiting.{visited, visited-is}
+use Rattle.leave_enter.proofs.Arriving.{descent, refused, arrived}
 
 -- ---- lists
 
@@ -36,7 +37,8 @@ module _ {B : Type 0} (g : ℕ → List B) (p : ℕ → Bool) where
       let m : suc i ≡ i + 1 = omega arith in
       ap (from i) n ∙ ap (λ j. i ∷ from j (e - (i + 1))) m
 
-  pub range-skip : (i e : ℕ) → i < e → p i ≡ false → concat-map g (keep p (from i (e - i))) ≡ concat-map g (keep p (from (i + 1) (e - (i + 1))))
+  pub range-skip : (i e : ℕ) → i < e → p i ≡ false → concat-map g (keep p (from i (e - i)))
+      ≡ concat-map g (keep p (from (i + 1) (e - (i + 1))))
   unfolding concat-map keep
   range-skip i e l q = ap (λ xs. concat-map g (keep p xs)) (range-next i e l) ∙ rw q
 
@@ -58,117 +60,77 @@ went-on {D} {k} {at} w {k₁} z d = subst (λ n. Did D k at (record { number = n
 
 -- ---- the loop
 
--- a child of s as it is entered, with what is below it
+-- a child with what is below it
 abbrev part : Chart → (ℕ → Way) → Way → ℕ → ℕ → List Visit
-part c way next s d = visit-as (defaulting (kind-of c s) next) s d ∷ all-below c way d
+part c way next s d = visited c next s d ∷ all-below c way d
 
 -- what is still to be entered from the number i on
-unfoldable pub rest : (Visit → Step Ctx) → Chart → (ℕ → Way) → Way → ℕ → ℕ → ℕ → Step Ctx
-rest f c way next s end i = each f (concat-map (part c way next s) (keep (is-child c s) (from i (end - i))))
+unfoldable pub rest : Chart → ℤ → List ℤ → Course → Way → ℕ → ℕ → ℕ → Step Ctx
+rest c arg sl course next s end i =
+    each (course-visit c arg course) (concat-map (part c (course-way c sl course) next s) (keep (is-child c s) (from i (end - i))))
 
-pub record Going {K : Type 0} (on : K → Lent) (f : Visit → Step Ctx) (c : Chart) (way : ℕ → Way) (next : Way) (s first end : ℕ)
-    (a : List Bool) (v q t : List ℤ) (at : ℕ) (i : ℕ) (a₁ : List Bool) (v₁ q₁ t₁ : List ℤ) (w : Went) : Type 0 where
-  pub since : first ≤ i
+pub record Going (c : Chart) (arg : ℤ) (sl : List ℤ) (course : Course) (next : Way) (s end : ℕ) (a : List Bool) (v q t : List ℤ) (at i : ℕ)
+    (a₁ : List Bool) (v₁ q₁ t₁ : List ℤ) (w : Went) : Type 0 where
   pub going : w .number ≡ 0
-  pub fits : w .at ≤ length t₁
-  pub kept : length t₁ ≡ length t
-  pub owes : (k : K) → Owes (each f (all-below c way s)) (enter-lent a v q t (on k)) at (rest f c way next s end i)
-      (enter-lent a₁ v₁ q₁ t₁ (on k)) (w .at)
+  pub owes : Owes (descent c arg sl course s) (all-lent a sl v q t) at (rest c arg sl course next s end i) (all-lent a₁ sl v₁ q₁ t₁) (w .at)
 
--- the promise of a function that leaves the slots alone
-abbrev pub Does : {K : Type 0} → (K → Lent) → Step Ctx → List Bool → List ℤ → List ℤ → List ℤ → ℕ → Went → List Bool → List ℤ → List ℤ
-    → List ℤ → Type 0
-Does {K} on D a v q t at r a₁ v₁ q₁ t₁ = Within t r t₁ × ((k : K) → Did D (enter-lent a v q t (on k)) at r (enter-lent a₁ v₁ q₁ t₁ (on k)))
-
-module _ {K : Type 0} (on : K → Lent) (f : Visit → Step Ctx) (c : Chart) (way : ℕ → Way) (next : Way) (s first end : ℕ)
-    {a : List Bool} {v q t : List ℤ} {at : ℕ} where
-  pub going-begin : Sound c way → way s ≡ next → Kids c next s first end → at ≤ length t
-      → Going on f c way next s first end a v q t at first a v q t (record { number = 0; at = at })
+module _ (c : Chart) (arg : ℤ) (sl : List ℤ) (course : Course) (next : Way) (s end : ℕ) {a : List Bool} {v q t : List ℤ} {at : ℕ} where
+  pub going-begin : {first : ℕ} → Sound c (course-way c sl course) → next ≡ course-way c sl course s → Kids c next s first end
+      → at ≤ length t
+      → Going c arg sl course next s end a v q t at first a v q t (record { number = 0; at = at })
   unfolding rest
   going-begin g e k h = record {
-    since = omega arith;
     going = refl;
-    fits = h;
-    kept = refl;
-    owes = λ x. owes-as _ (owes-all h) (ap (λ l. each f l (ctx (enter-lent a v q t (on x)) at)) (sym (k .goes way g e)));
+    owes = owes-as _ (owes-all h)
+        (ap (λ l. each (course-visit c arg course) l (ctx (all-lent a sl v q t) at)) (sym (k .goes (course-way c sl course) g (sym e))));
   }
 
-  module _ {i : ℕ} {a₁ : List Bool} {v₁ q₁ t₁ : List ℤ} {w : Went} (h : Going on f c way next s first end a v q t at i a₁ v₁ q₁ t₁ w) where
-    pub going-end : end ≤ i → Does on (each f (all-below c way s)) a v q t at w a₁ v₁ q₁ t₁
-    unfolding rest each
-    going-end l = (
-      record { fits = h .fits; kept = h .kept },
-      λ x. went-on w (h .going)
-          (owes-none (h .owes x) (ap
-          (λ y. each f y (ctx (enter-lent a₁ v₁ q₁ t₁ (on x)) (w .at))) (range-none (part c way next s) (is-child c s) i end l))),
-    )
+  module _ {i : ℕ} {a₁ : List Bool} {v₁ q₁ t₁ : List ℤ} {w : Went} (h : Going c arg sl course next s end a v q t at i a₁ v₁ q₁ t₁ w) where
+    -- the same from here, with what is left as a list
+    left : {xs : List Visit}
+        → xs ≡ concat-map (part c (course-way c sl course) next s) (keep (is-child c s) (from i (end - i)))
+        → Owes (descent c arg sl course s) (all-lent a sl v q t) at (each (course-visit c arg course) xs) (all-lent a₁ sl v₁ q₁ t₁) (w .at)
+    unfolding rest
+    left e = owes-as _ (h .owes) (ap (λ l. each (course-visit c arg course) l (ctx (all-lent a₁ sl v₁ q₁ t₁) (w .at))) e)
+
+    pub going-end : end ≤ i → Did (descent c arg sl course s) (all-lent a sl v q t) at w (all-lent a₁ sl v₁ q₁ t₁)
+    going-end l = went-on w (h .going) (each-none (course-visit c arg course) (left (sym (range-none _ (is-child c s) i end l))))
 
     module _ (l : i < end) where
-      pub going-skip : is-child c s i ≡ false → Going on f c way next s first end a v q t at (i + 1) a₁ v₁ q₁ t₁ w
+      pub going-skip : is-child c s i ≡ false → Going c arg sl course next s end a v q t at (i + 1) a₁ v₁ q₁ t₁ w
       unfolding rest
-      going-skip n = record {
-        since = omega (arith, h .since);
-        going = h .going;
-        fits = h .fits;
-        kept = h .kept;
-        owes = λ x. owes-as _ (h .owes x)
-            (ap (λ y. each f y (ctx (enter-lent a₁ v₁ q₁ t₁ (on x)) (w .at))) (sym (range-skip (part c way next s)
-            (is-child c s) i end l n)));
-      }
+      going-skip n = record { going = h .going; owes = left (sym (range-skip _ (is-child c s) i end l n)) }
 
       module _ (n : is-child c s i ≡ true) {r : Went} {a₂ : List Bool} {v₂ q₂ t₂ : List ℤ}
-          (g : Does on (f (visit-as (defaulting (kind-of c s) next) s i)) a₁ v₁ q₁ t₁ (w .at) r a₂ v₂ q₂ t₂) where
+          (g : Did (arrival c arg course (visited c next s i)) (all-lent a₁ sl v₁ q₁ t₁) (w .at) r (all-lent a₂ sl v₂ q₂ t₂)) where
         after : Step Ctx
-        after = each f (all-below c way i) then rest f c way next s end (i + 1)
+        after = descent c arg sl course i then rest c arg sl course next s end (i + 1)
 
-        due : (x : K) → Owes (each f (all-below c way s)) (enter-lent a v q t (on x)) at (f (visit-as (defaulting
-            (kind-of c s) next) s i) then after) (enter-lent a₁ v₁ q₁ t₁ (on x)) (w .at)
+        due : Owes (descent c arg sl course s) (all-lent a sl v q t) at (course-visit c arg course (visited c next s i) then after)
+            (all-lent a₁ sl v₁ q₁ t₁) (w .at)
         unfolding rest after
-        due x = owes-as _ (h .owes x)
-            (sym (ap (λ y. each f y (ctx (enter-lent a₁ v₁ q₁ t₁ (on x)) (w .at))) (range-take (part c way next s) (is-child c s) i end l n)
-            ∙ each-part f (visit-as (defaulting (kind-of c s) next) s i) (all-below c way i) _ (ctx (enter-lent a₁ v₁ q₁ t₁ (on x))
-            (w .at))))
+        due = owes-as _ (left (sym (range-take _ (is-child c s) i end l n)))
+            (sym (each-part (course-visit c arg course) (visited c next s i)
+            (all-below c (course-way c sl course) i) _ (ctx (all-lent a₁ sl v₁ q₁ t₁) (w .at))))
 
         -- the visit refuses
-        pub going-stop : (r .number ≡ 0 → ⊥) → Does on (each f (all-below c way s)) a v q t at r a₂ v₂ q₂ t₂
-        going-stop z = (record { fits = g .0 .fits; kept = g .0 .kept ∙ h .kept }, λ x. owes-stop after (due x) (g .1 x) z)
+        pub going-stop : (r .number ≡ 0 → ⊥) → Did (descent c arg sl course s) (all-lent a sl v q t) at r (all-lent a₂ sl v₂ q₂ t₂)
+        going-stop z = owes-stop after due (refused c arg (visited c next s i) course g z) z
 
-        module _ (z : r .number ≡ 0) {y : Went} {a₃ : List Bool} {v₃ q₃ t₃ : List ℤ}
-            (b : Does on (each f (all-below c way i)) a₂ v₂ q₂ t₂ (r .at) y a₃ v₃ q₃ t₃) where
-          entered : (x : K) → Owes (each f (all-below c way s)) (enter-lent a v q t (on x)) at (each f
-              (all-below c way i) then rest f c way next s end (i + 1)) (enter-lent a₂ v₂ q₂ t₂ (on x)) (r .at)
+        module _ (z : r .number ≡ 0) (b : Bound c course) {o : Course} (f : o ≡ onward-from sl course i)
+            {y : Went} {a₃ : List Bool} {v₃ q₃ t₃ : List ℤ}
+            (d : Did (descent c arg sl o i) (all-lent a₂ sl v₂ q₂ t₂) (r .at) y (all-lent a₃ sl v₃ q₃ t₃)) where
+          entered : Owes (descent c arg sl course s) (all-lent a sl v q t) at
+              (descent c arg sl o i then rest c arg sl course next s end (i + 1))
+              (all-lent a₂ sl v₂ q₂ t₂) (r .at)
           unfolding after
-          entered x = owes-on after (due x) (g .1 x) z
+          entered = subst (λ x. Owes (descent c arg sl course s) (all-lent a sl v q t) at
+              (descent c arg sl x i then rest c arg sl course next s end (i + 1)) (all-lent a₂ sl v₂ q₂ t₂) (r .at)) (sym f)
+              (arrived c arg (visited c next s i) sl i (visited-is c next s i) _ z course b due g)
 
           -- something below it refuses
-          pub going-stop-below : (y .number ≡ 0 → ⊥) → Does on (each f (all-below c way s)) a v q t at y a₃ v₃ q₃ t₃
-          going-stop-below u = (
-            record { fits = b .0 .fits; kept = b .0 .kept ∙ g .0 .kept ∙ h .kept },
-            λ x. owes-stop (rest f c way next s end (i + 1)) (entered x) (b .1 x) u,
-          )
+          pub going-stop-below : (y .number ≡ 0 → ⊥) → Did (descent c arg sl course s) (all-lent a sl v q t) at y (all-lent a₃ sl v₃ q₃ t₃)
+          going-stop-below u = owes-stop _ entered d u
 
-          pub going-on : y .number ≡ 0 → Going on f c way next s first end a v q t at (i + 1) a₃ v₃ q₃ t₃ y
-          going-on u = record {
-            since = omega (arith, h .since);
-            going = u;
-            fits = b .0 .fits;
-            kept = b .0 .kept ∙ g .0 .kept ∙ h .kept;
-            owes = λ x. owes-on (rest f c way next s end (i + 1)) (entered x) (b .1 x) u;
-          }
-
--- one list of slots, and nothing else that is lent
-abbrev pub at-slots : List ℤ → Unit {0} → Lent
-at-slots sl x = all-lent [] sl [] [] []
-
--- a promise over one list of slots
-pub one-list : {D : Step Ctx} {a : List Bool} {sl v q t : List ℤ} {at : ℕ} {r : Went} {a₁ : List Bool} {v₁ q₁ t₁ : List ℤ}
-    → Did D (all-lent a sl v q t) at r (all-lent a₁ sl v₁ q₁ t₁) → Does (at-slots sl) D a v q t at r a₁ v₁ q₁ t₁
-one-list d = (record { fits = d .fits; kept = d .kept }, λ x. d)
-
--- a visit of a restore, as one of the way by the slots
-pub revisited : (c : Chart) (arg : ℤ) (s i : ℕ) {a : List Bool} {sl v q t : List ℤ} {at : ℕ} {r : Went} {a₁ : List Bool} {v₁ q₁ t₁ : List ℤ}
-    → Did (revisit c arg (plain i)) (all-lent a sl v q t) at r (all-lent a₁ sl v₁ q₁ t₁)
-    → Does (at-slots sl) (revisit c arg (visit-as (defaulting (kind-of c s) (stored-way sl s)) s i)) a v q t at r a₁ v₁ q₁ t₁
-revisited c arg s i {a} {sl} {v} {q} {t} {at} {r} {a₁} {v₁} {q₁} {t₁} d =
-    one-list (subst (λ b. Did (revisit c arg (visit-as b s i)) (all-lent a sl v q t) at r (all-lent a₁ sl v₁ q₁ t₁)) (sym
-    (stored-plain sl s (kind-of c s))) d)
+          pub going-on : y .number ≡ 0 → Going c arg sl course next s end a v q t at (i + 1) a₃ v₃ q₃ t₃ y
+          going-on u = record { going = u; owes = owes-on _ entered d u }

@@ -1,4 +1,4 @@
 pub mod Falling
 pub mod Visiting
-pub mod Descending
 pub mod Arriving
+pub mod Descending

@@ -4,9 +4,9 @@ use acts::leave;
 use queue::lent::QUEUE_NUMBERS;
 use sizes::STATES;
 use sizes::VARIABLES;
-use tree_walks::end_below;
 use widget::Went;
-ghost use Prim.Native.Nat.{_≤_, _<_};
+ghost use mathlib.Core.Path.{_≡_};
+ghost use Prim.Native.Nat.{suc, _+_, _≤_, _<_};
 ghost use lib.ListN.{length};
 ghost use Rattle.meaning.specs.Reaction.{leave-all};
 ghost use Rattle.meaning.specs.Tree.{descendants};
@@ -14,12 +14,13 @@ ghost use Rattle.meaning.specs.Value.{chart-of};
 ghost use Rattle.acts.specs.Index.{Ready};
 ghost use Rattle.widget.specs.View.{all-lent, Did};
 
-// "The active states of the span are left, highest number first": those below s.
+// "The active states of the span are left, highest number first": those below s, which are the numbers that follow it up to below end.
 pub fn leave_below(
     chart: &[i32],
     index: &[usize; INDEX],
     arg: i32,
     s: usize,
+    end: usize,
     active: &mut [bool; STATES],
     slots: &mut [i32; STATES],
     vars: &mut [i32; VARIABLES],
@@ -27,11 +28,11 @@ pub fn leave_below(
     trace: &mut [i32],
     at: usize,
 ) -> Went
-    requires { ⌜ Ready (now chart) (now index) × (s < length (chart-of (now chart) .states)) × (at ≤ length (now trace)) ⌝ }
+    requires { ⌜ Ready (now chart) (now index) × (s < length (chart-of (now chart) .states)) × (end ≡ suc s + length (descendants (chart-of (now chart)) s)) × (at ≤ length (now trace)) ⌝ }
     ensures { λ r. ⌜ Did (leave-all (chart-of (now (chart .entry))) arg (descendants (chart-of (now (chart .entry))) s)) (all-lent (now (active .entry)) (now (slots .entry)) (now (vars .entry)) (now (queue .entry)) (now (trace .entry))) at r (all-lent (now (active .exit)) (now (slots .exit)) (now (vars .exit)) (now (queue .exit)) (now (trace .exit))) ⌝ }
 {
     let mut next = at;
-    let mut d = end_below(chart, s);
+    let mut d = end;
     while s + 1 < d {
         d -= 1;
         if !active[d] {

@@ -9,8 +9,18 @@ use lib.IntN.{ℤ}
 use Rattle.meaning.specs.Steps.{_then_, each}
 use Rattle.meaning.specs.Chart.{Chart}
 use Rattle.meaning.specs.Reaction.{fire}
+use Rattle.meaning.specs.Tree.{trans-row}
 use Rattle.meaning.specs.Value.{chart-of}
+use Rattle.meaning.specs.declared.chart.Target.{Target}
+use Rattle.meaning.specs.declared.chart.Target.the-variants.{To as to, History as history, InPlace as in-place}
 use Rattle.laws.proofs.Lists.{each-at}
+use Rattle.laws.proofs.Rules.{Target-facts}
+use Rattle.laws.proofs.Scope.{scope-facts}
+use Rattle.laws.proofs.Sound.{Sound-chart}
+use Rattle.sizes.specs.Sizes.{STATES}
+use Rattle.tree_walks.specs.Walks.{Ruled}
+use Rattle.tree_walks.proofs.On.{end-within}
+use Rattle.ways.specs.Aims.{aim-by, top-of, Found}
 use Rattle.tree_walks.proofs.Passing.{sound}
 use Rattle.widget.specs.View.{Lent, ctx, Did, Owes}
 use Rattle.widget.specs.declared.Went.{Went}
@@ -31,6 +41,23 @@ module _ (c : Chart) (count : ℕ) (picks : List ℕ) (f : Fires c count picks) 
   pub fires-named : (j : ℕ) → j < count → getD picks j 0 < length (c .transitions)
   fires-named j l = subst (λ t. t < length (c .transitions)) (fires-at j l) (each-at
       (λ t. t < length (c .transitions)) (picked count picks) (f .named) j (omega (arith, fires-long)) 0)
+
+-- what is carried beside a transition names states of the chart
+top-inside : (c : Chart) → Sound-chart c → (s : ℕ) → s < length (c .states) → (g : Target) → Target-facts c s g
+    → top-of c s (aim-by g) < length (c .states)
+top-inside c h s l (to d) f = scope-facts c h s d (f .2) (f .1) .inside
+top-inside c h s l (history b) f = scope-facts c h s b (f .3) (f .1) .inside
+top-inside c h s l in-place f = l
+
+pub carried-inside : (v : List ℤ) → Ruled v → (t : ℕ) → t < length (chart-of v .transitions) → {top end : ℕ} → Found (chart-of v) t top end
+    → (top < STATES) × (end ≤ STATES)
+carried-inside v r t l {top} h =
+    let f = sound v r .transitions t l in
+    let row = trans-row (chart-of v) t in
+    let i : top < length (chart-of v .states) =
+    omega (arith, h .is, top-inside (chart-of v) (sound v r) (row .source) (f .source) (row .target) (f .target)) in
+    let m = sized v r .states in
+    (omega arith, omega (arith, h .ends, end-within (chart-of v) (sound v r .ordered) top i))
 
 pub record Firing (v : List ℤ) (arg : ℤ) (ps : List ℕ) (k : Lent) (at : ℕ) (j : ℕ) (k₁ : Lent) (at₁ : ℕ) : Type 0 where
   pub ready : Ready v k₁ at₁

@@ -36,6 +36,7 @@ chose-fires {c} {e} {a} {vs} h = record {
   few = h .few;
   size = h .size;
   named = subst (Each (λ t. t < length (c .transitions))) (sym (h .is)) (each-weaker _ _ _ (λ t q. q .0) (chosen-enabled c e (seen a vs)));
+  carried = h .carried;
 }
 
 module _ {c : Chart} {e : ℕ} (k : Lent) {count : ℕ} {picks : List ℕ} (h : Chose c e (k .active) (k .vars) count picks) where

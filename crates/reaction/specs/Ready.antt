@@ -10,9 +10,9 @@ use Rattle.meaning.specs.Chart.{Chart}
 use Rattle.meaning.specs.Value.{chart-of}
 use Rattle.tree_walks.specs.Walks.{Ruled}
 use Rattle.widget.specs.View.{Lent, Whole, ctx}
-use Rattle.laws.specs.Facts.{Each}
-use Rattle.invariants.specs.Good.{Good}
-use Rattle.choice.specs.Choice.{picked}
+use Rattle.laws.proofs.Lists.{Each}
+use Rattle.invariants.proofs.Good.{Good}
+use Rattle.choice.specs.Choice.{picked, PICKS, Carried}
 
 pub record Ready (v : List ℤ) (k : Lent) (at : ℕ) : Type 0 where
   pub ruled : Ruled v
@@ -20,8 +20,9 @@ pub record Ready (v : List ℤ) (k : Lent) (at : ℕ) : Type 0 where
   pub whole : Whole k
   pub fits : at ≤ length (k .trace)
 
--- chosen transitions are transitions of the chart
+-- chosen transitions are transitions of the chart, each with what choosing found out of it
 pub record Fires (c : Chart) (count : ℕ) (picks : List ℕ) : Type 0 where
   pub few : count ≤ TRANSITIONS
-  pub size : length picks ≡ TRANSITIONS
+  pub size : length picks ≡ PICKS
   pub named : Each (λ t. t < length (c .transitions)) (picked count picks)
+  pub carried : Carried c count picks

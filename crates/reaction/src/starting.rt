@@ -6,7 +6,7 @@ use acts::index::index_of;
 use chart_rows::var_count;
 use chart_rows::var_row;
 use ends::finish;
-use leave_enter::entering::by_defaults;
+use leave_enter::entering::descend;
 use meaning::Called;
 use meaning::State;
 use queue::Queue;
@@ -14,6 +14,7 @@ use queue::lent::QUEUE_NUMBERS;
 use queue::lent::lend;
 use sizes::STATES;
 use sizes::VARIABLES;
+use ways::Course;
 use widget::Went;
 ghost use mathlib.Core.Path.{_≡_};
 ghost use mathlib.Core.List.{map};
@@ -62,7 +63,20 @@ fn begin(
     if root.number != 0 {
         return root;
     }
-    let down = by_defaults(chart, index, 0, 0, active, vars, queue, trace, root.at);
+    let course = Course::Defaults;
+    let down = descend(
+        chart,
+        index,
+        0,
+        course,
+        0,
+        active,
+        slots,
+        vars,
+        queue,
+        trace,
+        root.at,
+    );
     if down.number != 0 {
         return down;
     }

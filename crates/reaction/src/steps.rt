@@ -1,12 +1,14 @@
 // Steps (01, "One reaction"): all chosen transitions fire, in their order; null steps follow until none is enabled.
 use acts::index::INDEX;
+use choice::ENDS_AT;
+use choice::PICKS;
+use choice::TOPS_AT;
 use choice::choose;
 use firing::fire;
 use meaning::answers::UNSETTLED;
 use queue::lent::QUEUE_NUMBERS;
 use sizes::NULL_STEPS;
 use sizes::STATES;
-use sizes::TRANSITIONS;
 use sizes::VARIABLES;
 use widget::Went;
 ghost use Rattle.meaning.specs.Steps.{each};
@@ -23,7 +25,7 @@ fn fire_all(
     index: &[usize; INDEX],
     arg: i32,
     count: usize,
-    picks: &[usize; TRANSITIONS],
+    picks: &[u16; PICKS],
     active: &mut [bool; STATES],
     slots: &mut [i32; STATES],
     vars: &mut [i32; VARIABLES],
@@ -40,12 +42,16 @@ fn fire_all(
     let mut next = at;
     let mut j: usize = 0;
     while j < count {
-        let t = picks[j];
+        let t = picks[j] as usize;
+        let top = picks[TOPS_AT + j] as usize;
+        let end = picks[ENDS_AT + j] as usize;
         let went = fire(
             chart,
             index,
             arg,
             t,
+            top,
+            end,
             active,
             slots,
             vars,
@@ -84,7 +90,7 @@ pub fn step(
         (all-lent (now (active .entry)) (now (slots .entry)) (now (vars .entry)) (now (queue .entry)) (now (trace .entry))) at r
         (all-lent (now (active .exit)) (now (slots .exit)) (now (vars .exit)) (now (queue .exit)) (now (trace .exit))) ⌝ }
 {
-    let mut picks = [0; TRANSITIONS];
+    let mut picks = [0; PICKS];
     let count = choose(chart, event, active, vars, &mut picks);
     fire_all(
         chart,
@@ -120,7 +126,7 @@ pub fn settle(
 {
     let mut next = at;
     let mut turns: usize = 0;
-    let mut picks = [0; TRANSITIONS];
+    let mut picks = [0; PICKS];
     let out = loop {
         let count = choose(chart, 0, active, vars, &mut picks);
         if count == 0 {

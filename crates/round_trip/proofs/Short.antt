@@ -36,7 +36,8 @@ use Rattle.meaning.specs.Value.{guard-by, target-by, trans-by}
 use Rattle.meaning.specs.Value.{owner-by, action-by, fits, chart-by, rows-of, chart-of, rule-0}
 use Rattle.meaning.specs.Value.{state-statable, var-statable, trans-statable, action-statable}
 use Rattle.laws.proofs.Lists.{and-left, and-right, or-cases, every-at}
-use Rattle.laws.proofs.Rules.{Guard-facts, Target-facts, Transition-facts, Owner-facts}
+use Rattle.laws.proofs.Rules.{Guard-facts, Transition-facts, Owner-facts}
+use Rattle.laws.specs.Facts.{Target-facts}
 use Rattle.laws.proofs.Sound.{Sound-chart, sound-chart}
 use Rattle.laws.proofs.Value.{Sized-chart, sized-chart, getD-map}
 use Rattle.round_trip.proofs.Fields.{Bytes, Sized, NUMBER, short-numeral, absent-number}

@@ -15,22 +15,26 @@ use Rattle.laws.specs.Facts.{Sound}
 use Rattle.laws.proofs.Lists.{is-false}
 use Rattle.laws.proofs.Sound.{Sound-chart, child-later}
 use Rattle.laws.proofs.Tree.{keep-cut}
-use Rattle.laws.proofs.Ways.{towards-sound, owner-sound}
+use Rattle.laws.proofs.Ways.{defaults-sound, towards-sound, owner-sound}
 use Rattle.meaning.specs.Chart.{Chart}
 use Rattle.meaning.specs.declared.chart.Kind.{Kind}
 use Rattle.meaning.specs.declared.chart.Kind.the-variants.{A as kind-a, B as kind-b, O as kind-o}
-use Rattle.meaning.specs.Entry.{Visit, Way, on-to, defaults, stops, plain, goes-on, all-below, by-defaults, slot-way, towards, towards-owner}
+use Rattle.meaning.specs.Entry.{Visit, Way, on-to, defaults, stops, plain, goes-on, all-below, by-defaults, slot-way, towards}
+use Rattle.meaning.specs.Entry.{towards-owner}
 use Rattle.meaning.specs.Lists.{concat-map, from, keep, has, first-that}
 use Rattle.meaning.specs.Tree.{kind-of, default-child, is-child, children, all-states, ancestors}
 use Rattle.meaning.specs.Value.{chart-of}
 use Rattle.tree_walks.specs.Walks.{Ruled, path-child}
 use Rattle.tree_walks.proofs.Passing.{sound}
 use Rattle.ways.proofs.Levels.{all-goes}
-use Rattle.ways.specs.Ways.{way-by, slot-of, stored-way, goal-way, defaulting, visit-as, On-child, Inside, Led, Kids}
+use Rattle.ways.specs.Ways.{way-by, slot-of, stored-way, goal-way, course-way, defaulting, visit-as, On-child, Inside, Bound, Led}
+use Rattle.ways.specs.Ways.{Kids}
 use Rattle.ways.specs.declared.Next.{Next}
 use Rattle.ways.specs.declared.Next.the-variants.{OnTo, Defaults, Stops}
 use Rattle.ways.specs.declared.Goal.{Goal}
 use Rattle.ways.specs.declared.Goal.the-variants.{Target, Owner}
+use Rattle.ways.specs.declared.Course.{Course}
+use Rattle.ways.specs.declared.Course.the-variants.{Defaults as default-course, Slots as slot-course, Towards}
 
 -- ---- the children to enter
 
@@ -213,15 +217,6 @@ unfolding slot-way
 held-on empty d e = let z : _≡_ {A = ℕ} 0 1 = cc in absurd (omega arith)
 held-on (holds x) d e = let z : x ≡ d = cc in ap holds z
 
-pub stored-child : (c : Chart) (slots : List ℤ) (s : ℕ) (next : Next) → way-by next ≡ stored-way slots s → Led c slots
-    → On-child c s (way-by next)
-unfolding stored-way
-stored-child c slots s next e h d k q = h .holding s d (held-on (slot-of slots s) d (sym e ∙ q))
-
-pub stored-kids : (c : Chart) (slots : List ℤ) (s first end : ℕ) (next : Next) → way-by next ≡ stored-way slots s
-    → Kids c (way-by next) s first end → Kids c (stored-way slots s) s first end
-stored-kids c slots s first end next e k = subst (λ w. Kids c w s first end) e k
-
 not-defaults : (p : Place) → slot-way p ≡ defaults → ⊥
 unfolding slot-way
 not-defaults empty e = let z : _≡_ {A = ℕ} 0 1 = cc in omega arith
@@ -236,17 +231,6 @@ stored-sound v r slots h = record {
   leaf = sound v r .leaf;
 }
 
--- by the slots nothing is entered by default
-pub stored-plain : (slots : List ℤ) (s : ℕ) (k : Kind) → defaulting k (stored-way slots s) ≡ false
-unfolding stored-way defaulting slot-way
-stored-plain slots s k = never k (slot-of slots s)
-  where
-    never : (k₁ : Kind) (p : Place) → defaulting k₁ (slot-way p) ≡ false
-    never kind-o empty = refl
-    never kind-o (holds d) = refl
-    never kind-a p = refl
-    never kind-b p = refl
-
 pub goal-child : (v : List ℤ) → Ruled v → (goal : Goal) → Inside (chart-of v) goal → (s : ℕ) (next : Next)
     → way-by next ≡ goal-way (chart-of v) goal s → On-child (chart-of v) s (way-by next)
 goal-child v r (Target t) l s next e d k q = towards-sound (chart-of v) (sound v r) t l .on s d k (sym e ∙ q)
@@ -256,6 +240,13 @@ pub goal-sound : (v : List ℤ) → Ruled v → (goal : Goal) → Inside (chart-
 goal-sound v r (Target t) l = towards-sound (chart-of v) (sound v r) t l
 goal-sound v r (Owner b) l = owner-sound (chart-of v) (sound v r) b l
 
-pub goal-kids : (c : Chart) (goal : Goal) (s first end : ℕ) (next : Next) → way-by next ≡ goal-way c goal s
-    → Kids c (way-by next) s first end → Kids c (goal-way c goal s) s first end
-goal-kids c goal s first end next e k = subst (λ w. Kids c w s first end) e k
+-- every course goes on with children
+pub course-sound : (v : List ℤ) → Ruled v → (slots : List ℤ) → Led (chart-of v) slots → (course : Course) → Bound (chart-of v) course
+    → Sound (chart-of v) (course-way (chart-of v) slots course)
+course-sound v r slots l default-course b = defaults-sound (chart-of v) (sound v r)
+course-sound v r slots l slot-course b = stored-sound v r slots l
+course-sound v r slots l (Towards goal) b = goal-sound v r goal (b .0)
+
+pub course-child : (v : List ℤ) → Ruled v → (slots : List ℤ) → Led (chart-of v) slots → (course : Course) → Bound (chart-of v) course
+    → (s : ℕ) (next : Next) → way-by next ≡ course-way (chart-of v) slots course s → On-child (chart-of v) s (way-by next)
+course-child v r slots l course b s next e d k q = course-sound v r slots l course b .on s d k (sym e ∙ q)

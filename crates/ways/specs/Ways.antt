@@ -2,15 +2,16 @@
 -- the children among which it looks, and slots that hold children. Assumes nothing.
 use mathlib.Core.Path.{_≡_}
 use Prim.Native.Nat.{ℕ, _-_, _≤_, _<_}
-use mathlib.Core.Bool.{Bool, true, false}
+use mathlib.Core.Bool.{Bool, true, false, cond}
 use mathlib.Core.List.{List, _∷_}
 use lib.ListN.{length, getD}
+use lib.Dec.{eqb}
 use lib.IntN.{ℤ, negsuc}
 use Rattle.sizes.specs.Sizes.{STATES}
 use Rattle.numbers.specs.Place.{placeOf}
 use Rattle.numbers.specs.declared.Place.{Place}
-use Rattle.numbers.specs.declared.Place.the-variants.{At as holds}
-use Rattle.laws.specs.Facts.{Sound}
+use Rattle.numbers.specs.declared.Place.the-variants.{At as holds, Empty as empty}
+use Rattle.laws.proofs.Descent.{Sound}
 use Rattle.meaning.specs.Chart.{Chart}
 use Rattle.meaning.specs.declared.chart.Kind.{Kind}
 use Rattle.meaning.specs.declared.chart.Kind.the-variants.{A as kind-a, B as kind-b, O as kind-o}
@@ -18,11 +19,14 @@ use Rattle.meaning.specs.Lists.{concat-map, from, keep}
 use Rattle.meaning.specs.Steps.{Step}
 use Rattle.meaning.specs.Tree.{kind-of, is-child}
 use Rattle.meaning.specs.Widget.{Ctx}
-use Rattle.meaning.specs.Entry.{Visit, plain, by-default, Way, on-to, defaults, stops, goes-on, all-below, slot-way, towards, towards-owner, visit, visit-towards}
+use Rattle.meaning.specs.Entry.{Visit, plain, by-default, Way, on-to, defaults, stops, goes-on, all-below, by-defaults, slot-way, towards}
+use Rattle.meaning.specs.Entry.{towards-owner, visit, revisit, visit-towards}
 use Rattle.ways.specs.declared.Next.{Next}
 use Rattle.ways.specs.declared.Next.the-variants.{OnTo, Defaults, Stops}
 use Rattle.ways.specs.declared.Goal.{Goal}
 use Rattle.ways.specs.declared.Goal.the-variants.{Target, Owner}
+use Rattle.ways.specs.declared.Course.{Course}
+use Rattle.ways.specs.declared.Course.the-variants.{Defaults as default-course, Slots as slot-course, Towards}
 
 -- how an o state goes on, as the code says it
 abbrev pub way-by : Next → Way
@@ -51,6 +55,55 @@ goal-visit c a (Owner b) = visit-towards c a b
 abbrev pub Inside : Chart → Goal → Type 0
 Inside c (Target t) = t < length (c .states)
 Inside c (Owner b) = b < length (c .states)
+
+-- the ways of a descent: by default, by the slots, towards a goal
+abbrev pub course-way : Chart → List ℤ → Course → ℕ → Way
+course-way c slots default-course = by-defaults
+course-way c slots slot-course = stored-way slots
+course-way c slots (Towards goal) = goal-way c goal
+
+-- how a state on them is entered
+abbrev pub course-visit : Chart → ℤ → Course → Visit → Step Ctx
+course-visit c a default-course = visit c a
+course-visit c a slot-course = revisit c a
+course-visit c a (Towards goal) = goal-visit c a goal
+
+-- the same without what follows below the owner of a history
+abbrev pub arrival : Chart → ℤ → Course → Visit → Step Ctx
+arrival c a default-course = visit c a
+arrival c a slot-course = revisit c a
+arrival c a (Towards goal) = visit c a
+
+-- whether it goes by the slots
+abbrev pub restoring : Course → Bool
+restoring default-course = false
+restoring slot-course = true
+restoring (Towards goal) = false
+
+-- "If its slot is filled, its stored child is entered and so on down by the slots .. If empty, the default is taken"
+abbrev pub restored : Place → Course
+restored (holds d) = slot-course
+restored empty = default-course
+
+-- how a descent goes on below s, which it just entered
+abbrev pub onward-goal : List ℤ → Goal → ℕ → Course
+onward-goal slots (Target t) s = Towards (Target t)
+onward-goal slots (Owner b) s = cond (eqb s b) (restored (slot-of slots s)) (Towards (Owner b))
+
+abbrev pub onward-from : List ℤ → Course → ℕ → Course
+onward-from slots default-course s = default-course
+onward-from slots slot-course s = slot-course
+onward-from slots (Towards goal) s = onward-goal slots goal s
+
+-- a goal is a state of the chart, the owner of a history an o state
+abbrev pub Owned : Chart → Goal → Type 0
+Owned c (Target t) = Unit {0}
+Owned c (Owner b) = kind-of c b ≡ kind-o
+
+abbrev pub Bound : Chart → Course → Type 0
+Bound c default-course = Unit {0}
+Bound c slot-course = Unit {0}
+Bound c (Towards goal) = Inside c goal × Owned c goal
 
 -- whether a state of this kind that goes on this way enters its child by default
 unfoldable pub defaulting : Kind → Way → Bool

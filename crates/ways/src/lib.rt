@@ -4,6 +4,7 @@ use chart_rows::default_child;
 use chart_rows::kind_of;
 use chart_rows::state_count;
 use meaning::chart::Kind;
+use meaning::chart::Target;
 use numbers::Place;
 use numbers::place_of;
 use sizes::STATES;
@@ -16,7 +17,8 @@ ghost use Rattle.meaning.specs.Tree.{kind-of as kind-in};
 ghost use Rattle.meaning.specs.Value.{chart-of};
 ghost use Rattle.meaning.specs.Entry.{towards};
 ghost use Rattle.tree_walks.specs.Walks.{Ruled};
-ghost use Rattle.ways.specs.Ways.{way-by, slot-of as slot-in, stored-way, goal-way, defaulting, On-child, Kids};
+ghost use Rattle.ways.specs.Aims.{aim-by, aimed-at};
+ghost use Rattle.ways.specs.Ways.{way-by, slot-of as slot-in, stored-way, goal-way, course-way, restoring, onward-goal, onward-from, defaulting, On-child, Kids};
 
 // How an o state goes on: with one child, with its default, or not at all.
 pub enum Next {
@@ -29,6 +31,40 @@ pub enum Next {
 pub enum Goal {
     Target(usize),
     Owner(usize),
+}
+
+// What a transition's target says: to go to a goal, or to react in place.
+pub enum Aim {
+    Goes(Goal),
+    Stays,
+}
+
+// Where a transition leads: the one place that goes by the three forms of a target.
+pub fn aim_of(target: Target) -> Aim
+    ensures { λ r. ⌜ r ≡ aim-by target ⌝ }
+{
+    match target {
+        Target::To(t) => Aim::Goes(Goal::Target(t)),
+        Target::History(b) => Aim::Goes(Goal::Owner(b)),
+        Target::InPlace => Aim::Stays,
+    }
+}
+
+// The state that a goal is: the target, or the owner.
+pub fn aimed(goal: Goal) -> usize
+    ensures { λ r. ⌜ r ≡ aimed-at goal ⌝ }
+{
+    match goal {
+        Goal::Target(t) => t,
+        Goal::Owner(b) => b,
+    }
+}
+
+// How a descent goes on below a state: by default, by the slots, or towards a goal.
+pub enum Course {
+    Defaults,
+    Slots,
+    Towards(Goal),
 }
 
 // The children of a state that are entered are among the numbers from first up to below end.
@@ -127,5 +163,58 @@ pub fn next_of(chart: &[i32], goal: Goal, s: usize) -> Next
             }
             next_to(chart, b, s)
         }
+    }
+}
+
+// The way of a course at s.
+pub fn next_by(chart: &[i32], slots: &[i32; STATES], course: Course, s: usize) -> Next
+    requires { ⌜ Ruled (now chart) × (s < states) × (length (now slots) ≡ states) ⌝ }
+    ensures { λ r. ⌜ way-by r ≡ course-way (chart-of (now (chart .entry))) (now (slots .entry)) course s ⌝ }
+{
+    match course {
+        Course::Defaults => Next::Defaults,
+        Course::Slots => stored(slots, s),
+        Course::Towards(goal) => next_of(chart, goal, s),
+    }
+}
+
+// Whether a descent goes by the slots: it meets 14 at an o state whose slot is empty.
+pub fn restores(course: Course) -> bool
+    ensures { λ r. ⌜ r ≡ restoring course ⌝ }
+{
+    match course {
+        Course::Defaults => false,
+        Course::Slots => true,
+        Course::Towards(goal) => false,
+    }
+}
+
+// How a descent to a goal goes on below s, which it just entered: at the owner of a history "if its slot is filled .. down by the
+// slots .. If empty, the default is taken", else as before.
+fn onward_to(slots: &[i32; STATES], goal: Goal, s: usize) -> Course
+    requires { ⌜ (s < states) × (length (now slots) ≡ states) ⌝ }
+    ensures { λ r. ⌜ r ≡ onward-goal (now (slots .entry)) goal s ⌝ }
+{
+    let Goal::Owner(b) = goal else {
+        return Course::Towards(goal);
+    };
+    if s != b {
+        return Course::Towards(goal);
+    }
+    let Place::Empty = slot_of(slots, s) else {
+        return Course::Slots;
+    };
+    Course::Defaults
+}
+
+// How any descent goes on below s, which it just entered.
+pub fn onward(slots: &[i32; STATES], course: Course, s: usize) -> Course
+    requires { ⌜ (s < states) × (length (now slots) ≡ states) ⌝ }
+    ensures { λ r. ⌜ r ≡ onward-from (now (slots .entry)) course s ⌝ }
+{
+    match course {
+        Course::Defaults => Course::Defaults,
+        Course::Slots => Course::Slots,
+        Course::Towards(goal) => onward_to(slots, goal, s),
     }
 }

@@ -13,8 +13,8 @@ use Rattle.chart_rows.proofs.Rows.{states-most, transitions-most}
 use Rattle.choice.specs.Choice.{seen}
 use Rattle.choice.proofs.Loop.{row-fits, row-enabled, up-to, Held, held-none}
 use Rattle.choice.proofs.All.{with-sources, chosen-all, none-left, source-off, source-begins, source-ends}
-use Rattle.choice.proofs.Turns.{Choosing, meant-aims, turn-of, choosing-passed, choosing-off}
-use Rattle.choice.proofs.Turns.{choosing-clash, choosing-room, choosing-take}
+use Rattle.choice.proofs.Turns.{Choosing, Turn, meant-aims, turn-of, choosing-passed, choosing-off}
+use Rattle.choice.proofs.Turns.{choosing-clash, choosing-room, choosing-noted}
 use Rattle.choice.proofs.choose.Statement.{statement}
 use Rattle.choice.proofs.choose.Tie as tie
 
@@ -40,23 +40,26 @@ Inv-sources chart event active vars picks₀ n sources gone₀ count₀ s₀ pic
 abbrev μ-sources : tie.MeasureT-sources
 μ-sources chart event active vars picks₀ n sources gone₀ count₀ s₀ picks gone count s = s
 
-abbrev trans-row-from-span-of : tie.After-span-of Inv-loop μ-loop Inv-transitions μ-transitions Inv-sources μ-sources
+abbrev At-span : Type 0
+At-span = tie.After-span-of Inv-loop μ-loop Inv-transitions μ-transitions Inv-sources μ-sources
+
+abbrev trans-row-from-span-of : At-span
     → tie.After-trans-row Inv-loop μ-loop Inv-transitions μ-transitions Inv-sources μ-sources
 trans-row-from-span-of c = c .before .before .before
 
-abbrev row-meant-from-span-of : tie.After-span-of Inv-loop μ-loop Inv-transitions μ-transitions Inv-sources μ-sources
+abbrev row-meant-from-span-of : At-span
     → tie.After-row-meant Inv-loop μ-loop Inv-transitions μ-transitions Inv-sources μ-sources
 row-meant-from-span-of c = trans-row-from-span-of c .before .before
 
-abbrev at-transitions-from-span-of : tie.After-span-of Inv-loop μ-loop Inv-transitions μ-transitions Inv-sources μ-sources
+abbrev at-transitions-from-span-of : At-span
     → tie.At-transitions Inv-loop μ-loop Inv-transitions μ-transitions Inv-sources μ-sources
 at-transitions-from-span-of c = row-meant-from-span-of c .before .before
 
-abbrev transition-count-from-span-of : tie.After-span-of Inv-loop μ-loop Inv-transitions μ-transitions Inv-sources μ-sources
+abbrev transition-count-from-span-of : At-span
     → tie.After-transition-count Inv-loop μ-loop Inv-transitions μ-transitions Inv-sources μ-sources
 transition-count-from-span-of c = at-transitions-from-span-of c .before .before .before .before .before .before
 
-abbrev start-from-span-of : tie.After-span-of Inv-loop μ-loop Inv-transitions μ-transitions Inv-sources μ-sources
+abbrev start-from-span-of : At-span
     → tie.Start Inv-loop μ-loop Inv-transitions μ-transitions Inv-sources μ-sources
 start-from-span-of c = transition-count-from-span-of c .before
 
@@ -123,7 +126,8 @@ enabled-requires c κs =
 transitions-again-2 : tie.Need-transitions-again-2 Inv-loop μ-loop Inv-transitions μ-transitions Inv-sources μ-sources
 transitions-again-2 c =
     let l : c .before .before .before .before .before .before .transitions .t < length
-    (chart-of (c .before .before .before .before .before .before .before .before .before .before .before .before .before .args .chart .now) .transitions) =
+    (chart-of (c .before .before .before .before .before .before .before .before .before .before .before .before
+    .before .args .chart .now) .transitions) =
     omega (
       arith,
       c .before .before .before .before .before .transitions-test .taken,
@@ -149,44 +153,34 @@ span-of-requires c κs = (
 loop-holds : tie.Need-loop-holds Inv-loop μ-loop Inv-transitions μ-transitions Inv-sources μ-sources
 loop-holds c = (refl, omega arith, λ y p q. absurd (omega arith))
 
+-- the row under way, enabled, with its span
+row-there : (c : At-span) → at-transitions-from-span-of c .transitions .t < length
+    (chart-of (start-from-span-of c .args .chart .now) .transitions)
+row-there c = omega (
+  arith,
+  row-meant-from-span-of c .before .transitions-test .taken,
+  transition-count-from-span-of c .transition-count .ensures,
+)
+
+turn : (c : At-span)
+    → Turn (chart-of (start-from-span-of c .args .chart .now)) (start-from-span-of c .args .event)
+    (seen (start-from-span-of c .args .active .now) (start-from-span-of c .args .vars .now))
+    (at-transitions-from-span-of c .before .before .before .sources .s - 1) (at-transitions-from-span-of c .transitions .t)
+    (c .span-of .result)
+turn c =
+    turn-of _ (start-from-span-of c .pre .0) _ (trans-row-from-span-of c .trans-row .ensures) (row-there c) _ _
+    (row-meant-from-span-of c .row-meant .ensures) (not-false _ (trans-row-from-span-of c .before .if2 .left))
+    (c .before .before .enabled .ensures) (not-false _ (c .before .if3 .left)) (c .span-of .ensures)
+
 array-read-if4 : tie.Need-array-read-if4 Inv-loop μ-loop Inv-transitions μ-transitions Inv-sources μ-sources
-array-read-if4 c =
-    let h = start-from-span-of (c .before .before) .pre .0 in
-    let l : at-transitions-from-span-of (c .before .before) .transitions .t < length
-    (chart-of (start-from-span-of (c .before .before) .args .chart .now) .transitions) =
-    omega (
-      arith,
-      row-meant-from-span-of (c .before .before) .before .transitions-test .taken,
-      transition-count-from-span-of
-          (c .before .before) .transition-count .ensures,
-    ) in
-    let g = turn-of _ h _ (trans-row-from-span-of (c .before .before) .trans-row .ensures) l _ _
-    (row-meant-from-span-of (c .before .before) .row-meant .ensures)
-    (not-false _ (trans-row-from-span-of (c .before .before) .before .if2 .left))
-    (c .before .before .before .before .enabled .ensures) (not-false _ (c .before .before .before .if3 .left))
-    (c .before .before .span-of .ensures) in
-    omega (arith, g .ends, c .loop-test .taken)
+array-read-if4 c = omega (arith, turn (c .before .before) .ends, c .loop-test .taken)
 
 transitions-again-3 : tie.Need-transitions-again-3 Inv-loop μ-loop Inv-transitions μ-transitions Inv-sources μ-sources
 transitions-again-3 c =
-    let h = start-from-span-of (c .before .before .before) .pre .0 in
-    let l : at-transitions-from-span-of (c .before .before .before) .transitions .t < length
-    (chart-of (start-from-span-of (c .before .before .before) .args .chart .now) .transitions) =
-    omega (
-      arith,
-      row-meant-from-span-of (c .before .before .before) .before .transitions-test .taken,
-      transition-count-from-span-of
-          (c .before .before .before) .transition-count .ensures,
-    ) in
-    let g = turn-of _ h _ (trans-row-from-span-of (c .before .before .before) .trans-row .ensures) l _ _
-    (row-meant-from-span-of (c .before .before .before) .row-meant .ensures)
-    (not-false _ (trans-row-from-span-of (c .before .before .before) .before .if2 .left))
-    (c .before .before .before .before .before .enabled .ensures) (not-false _ (c .before .before .before .before .if3 .left))
-    (c .before .before .before .span-of .ensures) in
+    let k = c .before .before .before in
     let w = c .before .before .loop .inv in
-    rw (w .0) (choosing-clash (at-transitions-from-span-of (c .before .before .before) .transitions .inv)
-    (row-meant-from-span-of (c .before .before .before) .before .transitions-test .taken) g _ (w .1) (c .before .loop-test .taken)
-    (c .if4 .taken))
+    rw (w .0) (choosing-clash (at-transitions-from-span-of k .transitions .inv)
+    (row-meant-from-span-of k .before .transitions-test .taken) (turn k) _ (w .1) (c .before .loop-test .taken) (c .if4 .taken))
 
 loop-again : tie.Need-loop-again Inv-loop μ-loop Inv-transitions μ-transitions Inv-sources μ-sources
 loop-again c =
@@ -195,73 +189,51 @@ loop-again c =
 
 mark-gone-requires : tie.Need-mark-gone-requires Inv-loop μ-loop Inv-transitions μ-transitions Inv-sources μ-sources
 mark-gone-requires c κs =
-    let h = start-from-span-of (c .before .before .before) .pre .0 in
-    let l : at-transitions-from-span-of (c .before .before .before) .transitions .t < length
-    (chart-of (start-from-span-of (c .before .before .before) .args .chart .now) .transitions) =
-    omega (
-      arith,
-      row-meant-from-span-of (c .before .before .before) .before .transitions-test .taken,
-      transition-count-from-span-of
-          (c .before .before .before) .transition-count .ensures,
-    ) in
-    let g = turn-of _ h _ (trans-row-from-span-of (c .before .before .before) .trans-row .ensures) l _ _
-    (row-meant-from-span-of (c .before .before .before) .row-meant .ensures)
-    (not-false _ (trans-row-from-span-of (c .before .before .before) .before .if2 .left))
-    (c .before .before .before .before .before .enabled .ensures) (not-false _ (c .before .before .before .before .if3 .left))
-    (c .before .before .before .span-of .ensures) in
-    (g .spans .some, g .ends, at-transitions-from-span-of (c .before .before .before) .transitions .inv .held .long)
+    let k = c .before .before .before in
+    (turn k .spans .some, turn k .ends, at-transitions-from-span-of k .transitions .inv .held .long)
 
-mul-picks : tie.Need-mul-picks Inv-loop μ-loop Inv-transitions μ-transitions Inv-sources μ-sources
-mul-picks c = omega (arith, at-transitions-from-span-of (c .before .before .before .before) .transitions .inv .held .few)
+-- the numbers of the span are walked: none of its states is gone
+abbrev span-of-from-mark-gone : tie.After-mark-gone Inv-loop μ-loop Inv-transitions μ-transitions Inv-sources μ-sources → At-span
+span-of-from-mark-gone c = c .before .before .before .before
 
-element-write-picks : tie.Need-element-write-picks Inv-loop μ-loop Inv-transitions μ-transitions Inv-sources μ-sources
-element-write-picks c =
-    let h = start-from-span-of (c .before .before .before .before) .pre .0 in
-    let l : at-transitions-from-span-of (c .before .before .before .before) .transitions .t < length
-    (chart-of (start-from-span-of (c .before .before .before .before) .args .chart .now) .transitions) =
-    omega (
-      arith,
-      row-meant-from-span-of (c .before .before .before .before) .before .transitions-test .taken,
-      transition-count-from-span-of (c .before .before .before .before) .transition-count .ensures,
-    ) in
-    let g = turn-of _ h _ (trans-row-from-span-of (c .before .before .before .before) .trans-row .ensures) l _ _
-    (row-meant-from-span-of (c .before .before .before .before) .row-meant .ensures)
-    (not-false _ (trans-row-from-span-of (c .before .before .before .before) .before .if2 .left))
-    (c .before .before .before .before .before .before .enabled .ensures)
-    (not-false _ (c .before .before .before .before .before .if3 .left)) (c .before .before .before .before .span-of .ensures) in
-    choosing-room (at-transitions-from-span-of (c .before .before .before .before) .transitions .inv)
-    (row-meant-from-span-of (c .before .before .before .before) .before .transitions-test .taken) g
-    (λ y p q. c .before .before .before .loop .inv .2 y (omega (arith, q, c .before .before .loop-test .left)) p)
-    (transitions-most (start-from-span-of (c .before .before .before .before) .args .chart .now))
+free : (c : tie.After-mark-gone Inv-loop μ-loop Inv-transitions μ-transitions Inv-sources μ-sources) (y : ℕ)
+    → span-of-from-mark-gone c .span-of .result .first ≤ y → y < span-of-from-mark-gone c .span-of .result .end
+    → getD (at-transitions-from-span-of (span-of-from-mark-gone c) .transitions .gone) y false ≡ false
+free c y p q = c .before .before .before .loop .inv .2 y (omega (arith, q, c .before .before .loop-test .left)) p
+
+note-requires : tie.Need-note-requires Inv-loop μ-loop Inv-transitions μ-transitions Inv-sources μ-sources
+note-requires c κs =
+    let k = span-of-from-mark-gone (c .before) in
+    let most = transitions-most (start-from-span-of k .args .chart .now) in
+    let w = at-transitions-from-span-of k .transitions .inv in (
+      omega (arith, row-there k, most, c .before .before .before .before .loop .inv .0),
+      omega (arith, turn k .found .ends),
+      turn k .ends,
+      choosing-room w (row-meant-from-span-of k .before .transitions-test .taken) (turn k) (free (c .before)) most,
+      w .held .size,
+    )
 
 add-count : tie.Need-add-count Inv-loop μ-loop Inv-transitions μ-transitions Inv-sources μ-sources
-add-count c = omega (arith, at-transitions-from-span-of (c .before .before .before .before) .transitions .inv .held .few)
+add-count c = omega (arith, at-transitions-from-span-of (span-of-from-mark-gone (c .before .before)) .transitions .inv .held .few)
 
 transitions-again-4 : tie.Need-transitions-again-4 Inv-loop μ-loop Inv-transitions μ-transitions Inv-sources μ-sources
 transitions-again-4 c =
-    let h = start-from-span-of (c .before .before .before .before) .pre .0 in
-    let l : at-transitions-from-span-of (c .before .before .before .before) .transitions .t < length
-    (chart-of (start-from-span-of (c .before .before .before .before) .args .chart .now) .transitions) =
-    omega (
-      arith,
-      row-meant-from-span-of (c .before .before .before .before) .before .transitions-test .taken,
-      transition-count-from-span-of (c .before .before .before .before) .transition-count .ensures,
-    ) in
-    let g = turn-of _ h _ (trans-row-from-span-of (c .before .before .before .before) .trans-row .ensures) l _ _
-    (row-meant-from-span-of (c .before .before .before .before) .row-meant .ensures)
-    (not-false _ (trans-row-from-span-of (c .before .before .before .before) .before .if2 .left))
-    (c .before .before .before .before .before .before .enabled .ensures)
-    (not-false _ (c .before .before .before .before .before .if3 .left)) (c .before .before .before .before .span-of .ensures) in
-    let w = c .before .before .before .loop .inv in
-    rw (w .0) (choosing-take (at-transitions-from-span-of (c .before .before .before .before) .transitions .inv)
-    (row-meant-from-span-of (c .before .before .before .before) .before .transitions-test .taken) g
-    (λ y p q. w .2 y (omega (arith, q, c .before .before .loop-test .left)) p)
-    (transitions-most (start-from-span-of (c .before .before .before .before) .args .chart .now)) (c .mark-gone .ensures))
+    let m = c .before .before in
+    let k = span-of-from-mark-gone m in
+    choosing-noted (at-transitions-from-span-of k .transitions .inv) (row-meant-from-span-of k .before .transitions-test .taken) (turn k)
+    (free m) (transitions-most (start-from-span-of k .args .chart .now)) (m .before .before .before .loop .inv .0) (c .note .ensures)
+    (m .mark-gone .ensures)
 
 returns : tie.Need-returns Inv-loop μ-loop Inv-transitions μ-transitions Inv-sources μ-sources
 returns c =
     let w = c .before .sources in
-    record { is = sym (none-left _ _ _ _ (w .s) (omega arith)) ∙ w .inv .0; few = w .inv .1 .few; size = w .inv .1 .size }
+    record {
+      is = sym (none-left _ _ _ _ (w .s) (omega arith))
+          ∙ w .inv .0;
+      few = w .inv .1 .few;
+      size = w .inv .1 .size;
+      carried = w .inv .1 .carried;
+    }
 
 pub choose-spec : {M : Type 1} → statement M
 choose-spec =
@@ -271,5 +243,6 @@ choose-spec =
     transitions-holds (λ c. omega arith) sources-again-2 row-meant-requires (λ c. omega arith) (λ c. omega arith) transitions-again
     (λ c κs. search needs) enabled-requires (λ c. omega arith)
     (λ c. omega arith) transitions-again-2 span-of-requires loop-holds array-read-if4
-    (λ c. omega arith) (λ c. omega arith) transitions-again-3 (λ c. omega arith) (λ c. omega arith) loop-again mark-gone-requires mul-picks
-    element-write-picks add-count (λ c. omega arith) (λ c. omega arith) transitions-again-4 returns)
+    (λ c. omega arith) (λ c. omega arith) transitions-again-3 (λ c. omega arith)
+    (λ c. omega arith) loop-again mark-gone-requires note-requires
+    add-count (λ c. omega arith) (λ c. omega arith) transitions-again-4 returns)

@@ -9,7 +9,8 @@ use Rattle.choice.proofs.mark_gone.Statement.{statement}
 use Rattle.choice.proofs.mark_gone.Tie as tie
 
 abbrev Inv-loop : tie.InvT-loop
-Inv-loop span gone₀ x₀ gone x = Goes (record { first = span .first; end = x }) gone₀ gone × (span .first ≤ x) × (x ≤ span .end)
+Inv-loop span gone₀ x₀ gone x = Goes (record { top = span .top; first = span .first; end = x }) gone₀ gone × (span .first ≤ x) ×
+    (x ≤ span .end)
 
 abbrev μ-loop : tie.MeasureT-loop
 μ-loop span gone₀ x₀ gone x = span .end - x

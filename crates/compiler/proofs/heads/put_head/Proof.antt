@@ -75,27 +75,27 @@ put-guard-requires c κs = (
 )
 
 sub-last : tie.Need-sub-last
-sub-last c = omega (arith, span-of-from-struct-known c .span-of .ensures .some)
+sub-last c = omega (arith, span-of-from-struct-known c .span-of .ensures .spans .some)
 
 number-requires-4 : tie.Need-number-requires-4
 number-requires-4 c κs =
     omega (
       arith,
-      span-of-from-put-four-arg c .span-of .ensures .some,
+      span-of-from-put-four-arg c .span-of .ensures .spans .some,
       span-small (start-from-put-four-arg c .args .chart .now) (start-from-put-four-arg c .pre .0)
           (start-from-put-four-arg c .args .t) (start-from-put-four-arg c .pre .1) _
           (span-of-from-put-four-arg c .before .trans-row .ensures) _
-          (span-of-from-put-four-arg c .span-of .ensures),
+          (span-of-from-put-four-arg c .span-of .ensures .spans),
     )
 
 number-requires-5 : tie.Need-number-requires-5
 number-requires-5 c κs =
     omega (
       arith,
-      span-of-from-number4 c .span-of .ensures .some,
+      span-of-from-number4 c .span-of .ensures .spans .some,
       span-small (start-from-number4 c .args .chart .now) (start-from-number4 c .pre .0)
           (start-from-number4 c .args .t) (start-from-number4 c .pre .1) _
-          (span-of-from-number4 c .before .trans-row .ensures) _ (span-of-from-number4 c .span-of .ensures),
+          (span-of-from-number4 c .before .trans-row .ensures) _ (span-of-from-number4 c .span-of .ensures .spans),
     )
 
 number-requires-6 : tie.Need-number-requires-6
@@ -133,7 +133,7 @@ returns c =
     (c .before .before .before .before .before .before .before .before .before .before .before .before
     .before .before .before .before .before .before .trans-row .ensures) _
     (c .before .before .before .before .before .before .before .before .before .before .before .before
-    .before .before .before .before .before .span-of .ensures))
+    .before .before .before .before .before .span-of .ensures .spans))
     (span-last (c .before .before .before .before .before .before .before .before .before .before .before .before
     .before .before .before .before .before .before .before .args .chart .now)
     (c .before .before .before .before .before .before .before .before .before .before .before .before
@@ -145,7 +145,7 @@ returns c =
     (c .before .before .before .before .before .before .before .before .before .before .before .before
     .before .before .before .before .before .before .trans-row .ensures) _
     (c .before .before .before .before .before .before .before .before .before .before .before .before
-    .before .before .before .before .before .span-of .ensures)) _
+    .before .before .before .before .before .span-of .ensures .spans)) _
     (rw (
       back32 (c .before .before .before .before .before .before .before .before .before .before .before .before
           .before .before .before .number .result)

@@ -12,11 +12,11 @@ use Rattle.leave_enter.proofs.leaving.leave_below.Statement.{statement}
 use Rattle.leave_enter.proofs.leaving.leave_below.Tie as tie
 
 abbrev Inv-loop : tie.InvT-loop
-Inv-loop chart index arg s active₀ slots₀ vars₀ queue₀ trace₀ at next₀ d₀ active slots vars queue trace next d =
+Inv-loop chart index arg s end active₀ slots₀ vars₀ queue₀ trace₀ at next₀ d₀ active slots vars queue trace next d =
     Leaving chart (toZ w32 arg) s (all-lent active₀ slots₀ vars₀ queue₀ trace₀) next₀ d (all-lent active slots vars queue trace) next
 
 abbrev μ-loop : tie.MeasureT-loop
-μ-loop chart index arg s active₀ slots₀ vars₀ queue₀ trace₀ at next₀ d₀ active slots vars queue trace next d =
+μ-loop chart index arg s end active₀ slots₀ vars₀ queue₀ trace₀ at next₀ d₀ active slots vars queue trace next d =
     d
 
 abbrev else1-from-else2 : tie.Else2 Inv-loop μ-loop → tie.Else1 Inv-loop μ-loop
@@ -26,13 +26,13 @@ abbrev else1-from-then2 : tie.Then2 Inv-loop μ-loop → tie.Else1 Inv-loop μ-l
 else1-from-then2 c = c .before .before .before .before .before .before .before .before .before
 
 abbrev start-from-leave-arg5 : tie.After-leave-arg5 Inv-loop μ-loop → tie.Start Inv-loop μ-loop
-start-from-leave-arg5 c = c .before .before .before .before .before .before .before .before .before .before
+start-from-leave-arg5 c = c .before .before .before .before .before .before .before .before .before
 
 loop-holds : tie.Need-loop-holds Inv-loop μ-loop
-loop-holds c = leaving-begin (c .before .pre .0 .ruled) (c .before .pre .1) (c .before .pre .2) (c .end-below .ensures)
+loop-holds c = leaving-begin (c .pre .0 .ruled) (c .pre .1) (c .pre .3) (c .pre .2)
 
 element-copy-out-if1 : tie.Need-element-copy-out-if1 Inv-loop μ-loop
-element-copy-out-if1 c = omega (arith, states-most (c .before .before .before .args .chart .now))
+element-copy-out-if1 c = omega (arith, states-most (c .before .before .args .chart .now))
 
 loop-again : tie.Need-loop-again Inv-loop μ-loop
 loop-again c = leaving-skip (c .before .before .before .loop .inv) (omega arith) (not-true _ (c .if1 .taken))
@@ -56,10 +56,10 @@ loop-again-2 c =
     (not-false _ (else1-from-else2 c .if1 .left)) (c .before .before .before .leave .ensures) (c .if2 .left)
 
 returns-2 : tie.Need-returns-2 Inv-loop μ-loop
-returns-2 c = rw (toZ-ofZ (c .before .before .before .fits .arg)) at (leaving-end (c .before .loop .inv) (omega arith))
+returns-2 c = rw (toZ-ofZ (c .before .before .fits .arg)) at (leaving-end (c .before .loop .inv) (omega arith))
 
 pub leave-below-spec : {M : Type 1} → statement M
 leave-below-spec =
-    tie.close (tie.spec Inv-loop μ-loop (λ c κs. search needs) loop-holds (λ c. search needs)
+    tie.close (tie.spec Inv-loop μ-loop loop-holds (λ c. search needs)
     (λ c. search needs) element-copy-out-if1 (λ c. search needs) loop-again leave-requires (λ c. search needs)
     returns (λ c. search needs) loop-again-2 (λ c. search needs) returns-2)

@@ -3,7 +3,7 @@ use borrow.Author.Needs.{needs}
 use Rattle.meaning.specs.Calls.{start-steps}
 use Rattle.widget.specs.View.{Lent, all-lent}
 use Rattle.widget.proofs.Going.{then-on, then-stop}
-use Rattle.reaction.proofs.Going.{ready-next}
+use Rattle.reaction.proofs.Going.{ready-next, ready-led}
 use Rattle.reaction.proofs.StartLaws.{root-inside, root-good, defaults-good}
 use Rattle.reaction.proofs.starting.begin.Statement.{statement}
 use Rattle.reaction.proofs.starting.begin.Tie as tie
@@ -12,26 +12,17 @@ use Rattle.reaction.proofs.starting.begin.Tie as tie
 abbrev at-start : tie.Start → Lent
 at-start c = all-lent (c .args .active .now) (c .args .slots .now) (c .args .vars .now) (c .args .queue .now) (c .args .trace .now)
 
-abbrev else2-from-settle-arg5 : tie.After-settle-arg5 → tie.Else2
-else2-from-settle-arg5 c = c .before .before .before .before .before
+abbrev start-from-enter : tie.After-enter → tie.Start
+start-from-enter c = c .before .before .before .before .before
 
-abbrev else1-from-then2 : tie.Then2 → tie.Else1
-else1-from-then2 c = c .before .before .before .before .before .before .before .before
+abbrev enter-from-else1 : tie.Else1 → tie.After-enter
+enter-from-else1 c = c .before .before .before
 
-abbrev start-from-by-defaults-arg4 : tie.After-by-defaults-arg4 → tie.Start
-start-from-by-defaults-arg4 c = c .before .before .before .before .before .before .before .before .before .before .before .before
+abbrev else1-from-descend : tie.After-descend → tie.Else1
+else1-from-descend c = c .before .before .before .before .before .before
 
-abbrev else1-from-settle-arg5 : tie.After-settle-arg5 → tie.Else1
-else1-from-settle-arg5 c = else2-from-settle-arg5 c .before .before .before .before .before .before .before .before
-
-abbrev start-from-then2 : tie.Then2 → tie.Start
-start-from-then2 c = start-from-by-defaults-arg4 (c .before .before .before .before)
-
-abbrev start-from-settle-arg5 : tie.After-settle-arg5 → tie.Start
-start-from-settle-arg5 c = else1-from-settle-arg5 c .before .before .before .before .before .before .before .before
-
-abbrev start-from-trace3 : tie.After-trace3 → tie.Start
-start-from-trace3 c = start-from-settle-arg5 (c .before .before)
+abbrev descend-from-else2 : tie.Else2 → tie.After-descend
+descend-from-else2 c = c .before .before .before
 
 enter-requires : tie.Need-enter-requires
 enter-requires c κs =
@@ -41,44 +32,54 @@ enter-requires c κs =
 returns : tie.Need-returns
 unfolding start-steps
 returns c =
-    then-stop _ (then-stop _ (c .before .before .before .enter .ensures .1
-    (at-start (c .before .before .before .before .before .before .before .before))) (c .if1 .taken)) (c .if1 .taken)
+    let e = c .before .before .before in
+    then-stop _ (then-stop _ (e .enter .ensures .1 (at-start (start-from-enter e))) (c .if1 .taken)) (c .if1 .taken)
 
-by-defaults-requires : tie.Need-by-defaults-requires
-by-defaults-requires c κs = (
-  record { ruled = start-from-by-defaults-arg4 c .pre .0 .ruled; indexed = start-from-by-defaults-arg4 c .pre .1 },
-  root-inside _ (start-from-by-defaults-arg4 c .pre .0 .ruled),
-  c .before .before .before .before .before .before .before .enter .ensures .0 .fits,
-)
+descend-requires : tie.Need-descend-requires
+descend-requires c κs =
+    let k = c .before .before .before .before .before in
+    let e = enter-from-else1 k in
+    let start = start-from-enter e in
+    let h = start .pre .0 in (
+      record { ruled = h .ruled; indexed = start .pre .1 },
+      tt,
+      root-inside _ (h .ruled),
+      ready-led (ready-next _ (root-good _ (h .ruled)) (e .enter .ensures .1 (at-start start)) (k .if1 .left) h),
+      e .enter .ensures .0 .fits,
+    )
 
 returns-2 : tie.Need-returns-2
 unfolding start-steps
 returns-2 c =
-    then-stop _ (then-on (else1-from-then2 c .before .before .before .enter .ensures .1 (at-start (start-from-then2 c)))
-    (else1-from-then2 c .if1 .left)
-    (c .before .before .before .by-defaults .ensures .1 (at-start (start-from-then2 c)))) (c .if2 .taken)
+    let d = c .before .before .before in
+    let k = else1-from-descend d in
+    let e = enter-from-else1 k in
+    then-stop _ (then-on (e .enter .ensures .1 (at-start (start-from-enter e))) (k .if1 .left) (d .descend .ensures)) (c .if2 .taken)
 
 settle-requires : tie.Need-settle-requires
 settle-requires c κs =
-    let h = start-from-settle-arg5 c .pre .0 in (
-      ready-next _ (defaults-good _ (h .ruled))
-          (else2-from-settle-arg5 c .before .before .before .by-defaults .ensures .1
-          (at-start (start-from-settle-arg5 c))) (else2-from-settle-arg5 c .if2 .left)
-          (ready-next _ (root-good _ (h .ruled))
-          (else1-from-settle-arg5 c .before .before .before .enter .ensures .1 (at-start (start-from-settle-arg5 c)))
-          (else1-from-settle-arg5 c .if1 .left) h),
-      start-from-settle-arg5 c .pre .1,
+    let m = c .before .before .before .before .before in
+    let d = descend-from-else2 m in
+    let k = else1-from-descend d in
+    let e = enter-from-else1 k in
+    let start = start-from-enter e in
+    let h = start .pre .0 in (
+      ready-next _ (defaults-good _ (h .ruled)) (d .descend .ensures) (m .if2 .left)
+          (ready-next _ (root-good _ (h .ruled)) (e .enter .ensures .1 (at-start start)) (k .if1 .left) h),
+      start .pre .1,
     )
 
 returns-3 : tie.Need-returns-3
 unfolding start-steps
 returns-3 c =
-    then-on (then-on (else1-from-settle-arg5 (c .before .before) .before .before .before .enter .ensures .1
-    (at-start (start-from-trace3 c))) (else1-from-settle-arg5 (c .before .before) .if1 .left)
-    (else2-from-settle-arg5 (c .before .before) .before .before .before .by-defaults .ensures .1
-    (at-start (start-from-trace3 c)))) (else2-from-settle-arg5 (c .before .before) .if2 .left)
+    let m = c .before .before .before .before .before .before .before in
+    let d = descend-from-else2 m in
+    let k = else1-from-descend d in
+    let e = enter-from-else1 k in
+    then-on (then-on (e .enter .ensures .1 (at-start (start-from-enter e))) (k .if1 .left) (d .descend .ensures)) (m .if2 .left)
     (c .before .settle .ensures)
 
 pub begin-spec : {M : Type 1} → statement M
-begin-spec = tie.close (tie.spec enter-requires
-    (λ c. search needs) returns by-defaults-requires (λ c. search needs) returns-2 settle-requires (λ c. search needs) returns-3)
+begin-spec =
+    tie.close (tie.spec enter-requires (λ c. search needs) returns descend-requires (λ c. search needs)
+    returns-2 settle-requires (λ c. search needs) returns-3)

@@ -4,7 +4,8 @@ use native.Mathlib.Omega.{arith}
 use mathlib.Core.Path.{_≡_}
 use lib.ListN.{length, length-replicate}
 use borrow.Author.Needs.{needs}
-use Rattle.sizes.specs.Sizes.{NULL-STEPS, TRANSITIONS}
+use Rattle.sizes.specs.Sizes.{NULL-STEPS}
+use Rattle.choice.specs.Choice.{PICKS}
 use Rattle.widget.specs.View.{all-lent}
 use Rattle.reaction.proofs.Settling.{Settling, settling-begin, settling-end, settling-full, settling-stop, settling-on, chose-fires}
 use Rattle.reaction.proofs.steps.settle.Statement.{statement}
@@ -13,7 +14,7 @@ use Rattle.reaction.proofs.steps.settle.Tie as tie
 abbrev Inv-loop : tie.InvT-loop
 Inv-loop chart index active₀ slots₀ vars₀ queue₀ trace₀ at next₀ turns₀ picks₀ active slots vars queue trace next turns picks =
     Settling chart (all-lent active₀ slots₀ vars₀ queue₀ trace₀) next₀ turns (all-lent active slots vars queue trace) next
-    × (length picks ≡ TRANSITIONS)
+    × (length picks ≡ PICKS)
 
 abbrev μ-loop : tie.MeasureT-loop
 μ-loop chart index active₀ slots₀ vars₀ queue₀ trace₀ at next₀ turns₀ picks₀ active slots vars queue trace next turns picks =
@@ -32,7 +33,7 @@ abbrev at-loop-from-else3 : tie.Else3 Inv-loop μ-loop → tie.At-loop Inv-loop 
 at-loop-from-else3 c = else2-from-else3 c .before .before .before .before .before .before
 
 loop-holds : tie.Need-loop-holds Inv-loop μ-loop
-loop-holds c = (settling-begin (c .pre .0), length-replicate {A = ℕ} TRANSITIONS 0)
+loop-holds c = (settling-begin (c .pre .0), length-replicate {A = ℕ} PICKS 0)
 
 choose-requires : tie.Need-choose-requires Inv-loop μ-loop
 choose-requires c κs = (c .before .before .before .loop .inv .0 .ready .ruled, c .before .before .before .loop .inv .1)

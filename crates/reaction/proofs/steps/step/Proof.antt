@@ -3,7 +3,7 @@ use Prim.Native.Nat.{ℕ}
 use lib.ListN.{length-replicate}
 use borrow.Author.Needs.{needs}
 use mir.Facts.{toZ-ofZ}
-use Rattle.sizes.specs.Sizes.{TRANSITIONS}
+use Rattle.choice.specs.Choice.{PICKS}
 use Rattle.reaction.proofs.Settling.{step-here, chose-fires}
 use Rattle.reaction.proofs.steps.step.Statement.{statement}
 use Rattle.reaction.proofs.steps.step.Tie as tie
@@ -12,7 +12,7 @@ abbrev choose-from-fire-all-arg5 : tie.After-fire-all-arg5 → tie.After-choose
 choose-from-fire-all-arg5 c = c .before .before .before .before .before .before
 
 choose-requires : tie.Need-choose-requires
-choose-requires c κs = (c .before .before .before .pre .0 .ruled, length-replicate {A = ℕ} TRANSITIONS 0)
+choose-requires c κs = (c .before .before .before .pre .0 .ruled, length-replicate {A = ℕ} PICKS 0)
 
 fire-all-requires : tie.Need-fire-all-requires
 fire-all-requires c κs = (
