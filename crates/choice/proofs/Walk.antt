@@ -12,7 +12,8 @@ use Rattle.meaning.specs.Chart.{Chart}
 use Rattle.meaning.specs.declared.chart.Kind.the-variants.{O as kind-o}
 use Rattle.meaning.specs.Tree.{kind-of, ancestors, descendants, all-states, default-child, is-child}
 use Rattle.laws.proofs.Lists.{le-or-lt}
-use Rattle.laws.proofs.Tree.{child, under-has, range}
+use Rattle.laws.proofs.Tree.{under-has, range}
+use Rattle.laws.specs.Facts.{child}
 use Rattle.laws.proofs.Sound.{Sound-chart, child-parent, no-root-child}
 use Rattle.choice.specs.declared.Span.{Span}
 use Rattle.choice.specs.Span.{Spans}

@@ -8,7 +8,7 @@ use Rattle.meaning.specs.Lists.{from}
 use Rattle.meaning.specs.Chart.{Chart}
 use Rattle.meaning.specs.declared.chart.Target.{Target}
 use Rattle.meaning.specs.Tree.{descendants, span-of}
-use Rattle.laws.proofs.Rules.{Target-facts}
+use Rattle.laws.specs.Facts.{Target-facts}
 use Rattle.ways.specs.Aims.{aim-by, top-of}
 use Rattle.choice.specs.declared.Span.{Span}
 

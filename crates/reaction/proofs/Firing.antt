@@ -14,7 +14,7 @@ use Rattle.meaning.specs.Value.{chart-of}
 use Rattle.meaning.specs.declared.chart.Target.{Target}
 use Rattle.meaning.specs.declared.chart.Target.the-variants.{To as to, History as history, InPlace as in-place}
 use Rattle.laws.proofs.Lists.{each-at}
-use Rattle.laws.proofs.Rules.{Target-facts}
+use Rattle.laws.specs.Facts.{Target-facts}
 use Rattle.laws.proofs.Scope.{scope-facts}
 use Rattle.laws.proofs.Sound.{Sound-chart}
 use Rattle.sizes.specs.Sizes.{STATES}

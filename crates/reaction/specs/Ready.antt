@@ -10,8 +10,8 @@ use Rattle.meaning.specs.Chart.{Chart}
 use Rattle.meaning.specs.Value.{chart-of}
 use Rattle.tree_walks.specs.Walks.{Ruled}
 use Rattle.widget.specs.View.{Lent, Whole, ctx}
-use Rattle.laws.proofs.Lists.{Each}
-use Rattle.invariants.proofs.Good.{Good}
+use Rattle.laws.specs.Facts.{Each}
+use Rattle.invariants.specs.Good.{Good}
 use Rattle.choice.specs.Choice.{picked, PICKS, Carried}
 
 pub record Ready (v : List ℤ) (k : Lent) (at : ℕ) : Type 0 where

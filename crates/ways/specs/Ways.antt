@@ -11,7 +11,7 @@ use Rattle.sizes.specs.Sizes.{STATES}
 use Rattle.numbers.specs.Place.{placeOf}
 use Rattle.numbers.specs.declared.Place.{Place}
 use Rattle.numbers.specs.declared.Place.the-variants.{At as holds, Empty as empty}
-use Rattle.laws.proofs.Descent.{Sound}
+use Rattle.laws.specs.Facts.{Sound}
 use Rattle.meaning.specs.Chart.{Chart}
 use Rattle.meaning.specs.declared.chart.Kind.{Kind}
 use Rattle.meaning.specs.declared.chart.Kind.the-variants.{A as kind-a, B as kind-b, O as kind-o}
