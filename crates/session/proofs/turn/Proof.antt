@@ -10,9 +10,15 @@ use borrow.Author.Needs.{needs}
 use Rattle.session.proofs.turn.Statement.{statement}
 use Rattle.session.proofs.turn.Tie as tie
 
+abbrev then1-from-slice-known2 : tie.After-slice-known2 → tie.Then1
+then1-from-slice-known2 c = c .before .before .before .before
+
+abbrev else1-from-trace : tie.After-trace → tie.Else1
+else1-from-trace c = c .before .before .before .before .before .before
+
 returns : tie.Need-returns
 returns c =
-    let posted = c .before .before .before .before .before .before .before in
+    let posted = then1-from-slice-known2 c .before .before .before in
     let said = posted .before .before in
     let top = said .before .before .before in
     let m : mag (said .line .given .0 .0) < 2 ^ 31 = search needs in
@@ -20,11 +26,11 @@ returns c =
     let told = rw (back32 (said .line .given .0 .0) m, back32 (said .line .given .0 .1 .0) n) at (posted .post-checked .ensures .result) in
     turn-refused _ _ _ _ _ _ _ _ _ (said .line .given .1) _
     (told ∙ ap called (post-on (top .args .chart .now) (top .args .state) (top .pre .0) _ _))
-    (c .before .before .before .before .if1 .taken) (c .before .before .refusal .ensures)
+    (then1-from-slice-known2 c .if1 .taken) (c .before .before .refusal .ensures)
 
 returns-2 : tie.Need-returns-2
 returns-2 c =
-    let posted = c .before .before .before .before .before .before .before .before .before in
+    let posted = else1-from-trace c .before .before .before in
     let said = posted .before .before in
     let top = said .before .before .before in
     let m : mag (said .line .given .0 .0) < 2 ^ 31 = search needs in
@@ -32,7 +38,7 @@ returns-2 c =
     let told = rw (back32 (said .line .given .0 .0) m, back32 (said .line .given .0 .1 .0) n) at (posted .post-checked .ensures .result) in
     turn-ran _ _ _ _ _ _ _ _ _ (said .line .given .1) _
     (told ∙ ap called (post-on (top .args .chart .now) (top .args .state) (top .pre .0) _ _))
-    (c .before .before .before .before .before .before .if1 .left) (c .before .before .before .ran .ensures)
+    (else1-from-trace c .if1 .left) (c .before .before .before .ran .ensures)
 
 returns-3 : tie.Need-returns-3
 returns-3 c = turn-wrong _ _ _ _ _ _ _ (c .before .before .before .before .enum-told .given .1) (c .before .before .refusal2 .ensures)

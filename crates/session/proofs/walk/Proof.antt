@@ -19,6 +19,12 @@ Inv-loop chart part from out₀ trace₀ now₀ i₀ out trace now i =
 abbrev μ-loop : tie.MeasureT-loop
 μ-loop chart part from out₀ trace₀ now₀ i₀ out trace now i = length part - i
 
+abbrev else2-from-struct-known2 : tie.After-struct-known2 Inv-loop μ-loop → tie.Else2 Inv-loop μ-loop
+else2-from-struct-known2 c = c .before .before .before .before .before .before .before
+
+abbrev at-loop-from-line-ends-arg2 : tie.After-line-ends-arg2 Inv-loop μ-loop → tie.At-loop Inv-loop μ-loop
+at-loop-from-line-ends-arg2 c = c .before .before .before .before .before .before .before .before .before .before
+
 loop-holds : tie.Need-loop-holds Inv-loop μ-loop
 loop-holds c = (walk-begins _ _ _ _ _, c .before .before .pre .1)
 
@@ -27,12 +33,12 @@ collect-requires c κs = omega (arith, c .before .before .before .loop-test .tak
 
 line-ends-requires : tie.Need-line-ends-requires Inv-loop μ-loop
 line-ends-requires c κs =
-    let at-loop = c .before .before .before .before .before .before .before .before .before .before in
+    let at-loop = at-loop-from-line-ends-arg2 c in
     (at-loop .before .before .before .pre .0, at-loop .loop .inv .1)
 
 add-i : tie.Need-add-i Inv-loop μ-loop
 add-i c =
-    let test = c .before .before .before .before .before .before .before in
+    let test = else2-from-struct-known2 c in
     let collected = test .before .before .before .collect .ensures in
     let top = test .before .before .before .before .before .before .before .before .before .before .before in
     let most : length (top .args .part .now) < 2 ^ 64 = search needs in
@@ -40,13 +46,13 @@ add-i c =
 
 loop-less : tie.Need-loop-less Inv-loop μ-loop
 loop-less c =
-    let test = c .before .before .before .before .before .before .before in
+    let test = else2-from-struct-known2 c in
     let collected = test .before .before .before .collect .ensures in
     omega (arith, collected .order, collected .within, test .if2 .left)
 
 loop-again : tie.Need-loop-again Inv-loop μ-loop
 loop-again c =
-    let test = c .before .before .before .before .before .before .before in
+    let test = else2-from-struct-known2 c in
     let room = test .before .before .before .before in
     let at-loop = room .before .before .before .before in (
       walk-line _ _ _ _ _ _ _ _ _ (at-loop .loop .inv .0) _ (sym (room .before .has-room .ensures) ∙ not-false _ (room .if1 .left))

@@ -21,6 +21,9 @@ Inv-loop chart part out₀ trace₀ now₀ i₀ out trace now i =
 abbrev μ-loop : tie.MeasureT-loop
 μ-loop chart part out₀ trace₀ now₀ i₀ out trace now i = length part - i
 
+abbrev walk-from-with-room : tie.After-with-room Inv-loop μ-loop → tie.After-walk Inv-loop μ-loop
+walk-from-with-room c = c .before .before .before .before .before .before .before
+
 loop-holds : tie.Need-loop-holds Inv-loop μ-loop
 loop-holds c = (feeding-begins _ _ _, search needs, search needs, search needs)
 
@@ -34,13 +37,13 @@ with-room-requires c κs =
 
 loop-again : tie.Need-loop-again Inv-loop μ-loop
 loop-again c =
-    let walk = c .before .before .before .before .before .before .before in
+    let walk = walk-from-with-room c in
     let top = walk .before .before .before .before in
     (feeding-on _ _ _ _ _ (top .loop .inv .0) _ _ _ _ (walk .walk .ensures), search needs, search needs, search needs)
 
 loop-less : tie.Need-loop-less Inv-loop μ-loop
 loop-less c =
-    let walk = c .before .before .before .before .before .before .before in
+    let walk = walk-from-with-room c in
     let test = walk .before .before .before in
     let on = walks-on _ _ _ _ _ _ _ _ (walk .walk .ensures) (test .loop-test .taken) (test .before .loop .inv .2) in
     let more = test .loop-test .taken in
