@@ -19,7 +19,7 @@ use Rattle.widget.specs.declared.Went.{Went}
 use Rattle.widget.specs.View.{Lent, all-lent, with-active, with-slots, with-vars, with-queue, with-trace, Within, Did}
 use Rattle.widget.specs.Acts.{Below}
 use Rattle.widget.proofs.Going.{then-on, then-stop}
-use Rattle.tree_walks.specs.Walks.{Ruled}
+use Rattle.meaning.specs.Rules.{Ruled}
 use Rattle.tree_walks.proofs.Passing.{sound}
 
 -- ---- entering

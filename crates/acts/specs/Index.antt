@@ -13,7 +13,7 @@ use Rattle.meaning.specs.declared.chart.Owner.the-variants.{TransitionOf as tra
 use Rattle.meaning.specs.declared.chart.ActRow.{ActRow}
 use Rattle.meaning.specs.Effects.{same-owner}
 use Rattle.meaning.specs.Value.{chart-of}
-use Rattle.tree_walks.specs.Walks.{Ruled}
+use Rattle.meaning.specs.Rules.{Ruled}
 
 -- how many owners there can be: entry, exit and default of each state, and each transition
 abbrev pub OWNERS : ℕ

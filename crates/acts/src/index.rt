@@ -15,7 +15,7 @@ ghost use Prim.Native.Nat.{suc, _<_};
 ghost use lib.ListN.{length, getD};
 ghost use Rattle.meaning.specs.Chart.{no-action};
 ghost use Rattle.meaning.specs.Value.{chart-of};
-ghost use Rattle.tree_walks.specs.Walks.{Ruled};
+ghost use Rattle.meaning.specs.Rules.{Ruled};
 ghost use Rattle.acts.specs.Index.{key, Fits, row-from, Indexed, Ready};
 
 // How many owners there can be: entry, exit and default of each state, and each transition.

@@ -22,7 +22,7 @@ use Rattle.meaning.specs.Entry.{Visit, state-of, below, all-below, by-defaults,
 use Rattle.meaning.specs.Compile.{code-acts, enter-code, visit-code, default-arm, stored-arm, arms-of, arms, towards-code}
 use Rattle.meaning.specs.Compile.{exits-code, block-to, block, start-block}
 use Rattle.meaning.specs.Value.{chart-of}
-use Rattle.tree_walks.specs.Walks.{Ruled}
+use Rattle.meaning.specs.Rules.{Ruled}
 use Rattle.tree_walks.proofs.Passing.{sound}
 use Rattle.ways.specs.declared.Goal.{Goal}
 use Rattle.ways.specs.declared.Goal.the-variants.{Target as aim, Owner as owner}
@@ -159,7 +159,11 @@ module _ (v : List ℤ) (r : Ruled v) (t : ℕ) (l : t < length (chart-of v .tra
   goes-inside h =
       let f = goal-facts (chart-of v) (row .source) (row .target) goal (sym q ∙ o) facts in (
         goal-bound (chart-of v) (row .source) (row .target) goal (sym q ∙ o) facts .0,
-        omega (arith, h ∙ ap (scope (chart-of v) (row .source)) m, scope-facts (chart-of v) (sound v r) (row .source) (aimed-at goal) (f .2) (f .1) .inside),
+        omega (
+          arith,
+          h ∙ ap (scope (chart-of v) (row .source)) m,
+          scope-facts (chart-of v) (sound v r) (row .source) (aimed-at goal) (f .2) (f .1) .inside,
+        ),
       )
 
 module _ (c : Chart) (t : ℕ) (row : TransRow) (e : row ≡ trans-row c t) {x : Aim} (q : x ≡ aim-by (row .target)) where

@@ -10,7 +10,7 @@ use lib.IntN.{ℤ}
 use Rattle.chart_rows.proofs.Rows.{states-most}
 use Rattle.numbers.specs.declared.Place.{Place}
 use Rattle.numbers.specs.declared.Place.the-variants.{Empty, At}
-use Rattle.tree_walks.specs.Walks.{Ruled}
+use Rattle.meaning.specs.Rules.{Ruled}
 use Rattle.tree_walks.proofs.Passing.{sound}
 use Rattle.meaning.specs.Value.{chart-of}
 use Rattle.meaning.specs.Chart.{Chart}

@@ -5,7 +5,7 @@ use ways::goes_on;
 ghost use Prim.Native.Nat.{_<_};
 ghost use lib.ListN.{length};
 ghost use Rattle.meaning.specs.Value.{chart-of};
-ghost use Rattle.tree_walks.specs.Walks.{Ruled};
+ghost use Rattle.meaning.specs.Rules.{Ruled};
 ghost use Rattle.ways.specs.Ways.{way-by, On-child};
 ghost use Rattle.blocks.specs.Kids.{Kids-left};
 

@@ -1,10 +1,9 @@
 // Words, numbers and lines of a case's files. Every function takes any bytes and any place; the files are written in one form, so no
 // form is refused here: what was read wrongly shows in what is printed.
+use console::LF;
 ghost use Prim.Native.Nat.{_<_, _≤_};
 ghost use lib.ListN.{length};
 ghost use Rattle.io.specs.Counts.{Counts};
-
-const LF: u8 = 10;
 
 const MINUS: u8 = 45;
 

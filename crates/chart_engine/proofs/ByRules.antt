@@ -13,7 +13,8 @@ use Rattle.meaning.specs.declared.Called.{Called}
 use Rattle.meaning.specs.Value.{rule-0, chart-of}
 use Rattle.meaning.specs.Rules.{failing-rule, failing-rule-of, verdict}
 use Rattle.meaning.specs.Calls.{Outcome, called, lent, refused, start, run, post, discard, start-of, run-of, post-of, discard-of}
-use Rattle.promises.specs.Promises.{Checked, Accepted, Started, Ran, Posted, Discarded}
+use Rattle.meaning.specs.Rules.{Ruled}
+use Rattle.promises.specs.Promises.{Checked, Started, Ran, Posted, Discarded}
 use Rattle.rules.proofs.Verdicts.{passed, failed}
 
 -- ---- the check: R0 first, then the others
@@ -27,7 +28,7 @@ unfolding failing-rule-of
 check-on e h = record { result = h ∙ rw e }
 
 -- answer 0 says that the chart is accepted
-pub accepted : {v : List ℤ} {r : Answer} → Checked v r → r .number ≡ 0 → Accepted v
+pub accepted : {v : List ℤ} {r : Answer} → Checked v r → r .number ≡ 0 → Ruled v
 accepted {v} {r} c z = passed (failing-rule-of v) r (c .result) z
 
 -- any other names the rule that fails
@@ -65,7 +66,7 @@ Ends o t r t₁ = (r ≡ called o) × (t₁ ≡ lent (length t) o)
 
 -- ---- on an accepted chart a call is the one on its chart
 
-module _ (v : List ℤ) (u : State) (h : Accepted v) where
+module _ (v : List ℤ) (u : State) (h : Ruled v) where
   pub start-on : (n : ℕ) → start-of v u n ≡ start (chart-of v) u n
   start-on n = start-by v u none h n
 
@@ -79,7 +80,7 @@ module _ (v : List ℤ) (u : State) (h : Accepted v) where
   discard-on = discard-by v u none h
 
 module _ {v : List ℤ} {u : State} where
-  module _ (h : Accepted v) where
+  module _ (h : Ruled v) where
     pub starts : {t : List ℤ} {r : Called} {t₁ : List ℤ} → Ends (start (chart-of v) u (length t)) t r t₁ → Started v u t r t₁
     starts {t} d = let e = sym (start-on v u h (length t)) in record { result = d .0 ∙ ap called e; lent = d .1 ∙ ap (lent (length t)) e }
 

@@ -6,7 +6,8 @@ use mathlib.Core.Path.{refl}
 use contract.Lifetimes.{Lfts}
 use denote.Ref.{now}
 use Rattle.promises.proofs.Settles.{Settles, nothing, one}
-use Rattle.promises.specs.Promises.{Checked, Accepted, Read, Wrote, Unstarted, Started, Ran, Posted, Discarded}
+use Rattle.meaning.specs.Rules.{Ruled}
+use Rattle.promises.specs.Promises.{Checked, Read, Wrote, Unstarted, Started, Ran, Posted, Discarded}
 use Rattle.chart_engine.proofs.check.Reads as check-reads
 use Rattle.chart_engine.proofs.read.Reads as read-reads
 use Rattle.chart_engine.proofs.write.Reads as write-reads
@@ -88,7 +89,7 @@ discard-settles κs = record {
 
 -- ---- on a checked chart: what check promises with answer 0 is all that they ask
 
-pub start-checked-settles : (κs : Lfts 2) → Settles (λ a. Accepted (now (a .0)))
+pub start-checked-settles : (κs : Lfts 2) → Settles (λ a. Ruled (now (a .0)))
     (start-checked-reads.Asked κs) (start-checked-reads.Learnt κs)
     (λ a r x. Started (now (a .0)) (a .1 .0) (now (a .1 .1 .0)) r (now (x .1 .1 .0))) (λ x. now (x .1 .1 .0))
 start-checked-settles κs = record {
@@ -97,7 +98,7 @@ start-checked-settles κs = record {
   unique = λ a r s x y p q. (one (p .result) (q .result), one (p .lent) (q .lent));
 }
 
-pub run-checked-settles : (κs : Lfts 2) → Settles (λ a. Accepted (now (a .0)))
+pub run-checked-settles : (κs : Lfts 2) → Settles (λ a. Ruled (now (a .0)))
     (run-checked-reads.Asked κs) (run-checked-reads.Learnt κs)
     (λ a r x. Ran (now (a .0)) (a .1 .0) (now (a .1 .1 .0)) r (now (x .1 .1 .0))) (λ x. now (x .1 .1 .0))
 run-checked-settles κs = record {
@@ -106,7 +107,7 @@ run-checked-settles κs = record {
   unique = λ a r s x y p q. (one (p .result) (q .result), one (p .lent) (q .lent));
 }
 
-pub post-checked-settles : (κs : Lfts 1) → Settles (λ a. Accepted (now (a .0)))
+pub post-checked-settles : (κs : Lfts 1) → Settles (λ a. Ruled (now (a .0)))
     (post-checked-reads.Asked κs) (post-checked-reads.Learnt κs)
     (λ a r x. Posted (now (a .0)) (a .1 .0) (a .1 .1 .0) (a .1 .1 .1 .0) r) (λ x. tt {0})
 post-checked-settles κs = record {
@@ -115,7 +116,7 @@ post-checked-settles κs = record {
   unique = λ a r s x y p q. (one (p .result) (q .result), refl);
 }
 
-pub discard-checked-settles : (κs : Lfts 1) → Settles (λ a. Accepted (now (a .0)))
+pub discard-checked-settles : (κs : Lfts 1) → Settles (λ a. Ruled (now (a .0)))
     (discard-checked-reads.Asked κs) (discard-checked-reads.Learnt κs)
     (λ a r x. Discarded (now (a .0)) (a .1 .0) r) (λ x. tt {0})
 discard-checked-settles κs = record {

@@ -13,7 +13,8 @@ module _ (ls : List ℕ) (i : ℕ) (z : ℤ) {b : Bool} where
   pub letter-here : i < length ls → is-letter (getD ls i 0) z ≡ true → one-of-letters (drop i ls) z ≡ b → true ≡ b
   letter-here h e g = rw (drop-cons ls i 0 h, e) at g
 
-  pub letter-next : i < length ls → is-letter (getD ls i 0) z ≡ false → one-of-letters (drop i ls) z ≡ b → one-of-letters (drop (i + 1) ls) z ≡ b
+  pub letter-next : i < length ls → is-letter (getD ls i 0) z ≡ false
+      → one-of-letters (drop i ls) z ≡ b → one-of-letters (drop (i + 1) ls) z ≡ b
   letter-next h e g = rw (add-one i) (rw (drop-cons ls i 0 h, e) at g)
 
   pub letter-none : length ls ≤ i → one-of-letters (drop i ls) z ≡ b → false ≡ b

@@ -11,7 +11,7 @@ use Rattle.meaning.specs.declared.chart.Kind.the-variants.{O as kind-o}
 use Rattle.meaning.specs.Tree.{kind-of, scope, span-of, descendants}
 use Rattle.meaning.specs.Value.{chart-of}
 use Rattle.laws.proofs.Scope.{Scope-facts, scope-facts}
-use Rattle.tree_walks.specs.Walks.{Ruled}
+use Rattle.meaning.specs.Rules.{Ruled}
 use Rattle.tree_walks.proofs.Passing.{sound}
 use Rattle.ways.specs.declared.Aim.{Aim}
 use Rattle.ways.specs.declared.Aim.the-variants.{Goes, Stays}

@@ -22,7 +22,7 @@ use mathlib.Core.Logic.{⊎-elim}
 use Rattle.laws.proofs.Lists.{le-or-lt}
 use Rattle.laws.proofs.Rules.{Guard-facts, Transition-facts}
 use Rattle.laws.proofs.Value.{sized-chart}
-use Rattle.tree_walks.specs.Walks.{Ruled}
+use Rattle.meaning.specs.Rules.{Ruled}
 use Rattle.tree_walks.proofs.Passing.{sound, rules-passed}
 use Rattle.choice.specs.declared.Span.{Span}
 use Rattle.choice.specs.Span.{Spans, Spanned, Aims, Goes}

@@ -18,7 +18,7 @@ use Rattle.meaning.specs.Value.{chart-of}
 use Rattle.meaning.specs.Reaction.{enabled-by, enabled, meets, chosen}
 use Rattle.laws.proofs.Lists.{and-left}
 use Rattle.laws.proofs.Value.{sized-chart}
-use Rattle.tree_walks.specs.Walks.{Ruled}
+use Rattle.meaning.specs.Rules.{Ruled}
 use Rattle.tree_walks.proofs.Passing.{rules-passed}
 use Rattle.ways.specs.Aims.{Found}
 use Rattle.choice.specs.declared.Span.{Span}

@@ -28,7 +28,7 @@ ghost use Rattle.sizes.specs.Sizes.{STATES as states, TRANSITIONS as transition
 ghost use Rattle.meaning.specs.Tree.{trans-row};
 ghost use Rattle.meaning.specs.Value.{chart-of};
 ghost use Rattle.meaning.specs.Reaction.{compare-by, guard-holds, enabled-by};
-ghost use Rattle.tree_walks.specs.Walks.{Ruled};
+ghost use Rattle.meaning.specs.Rules.{Ruled};
 ghost use Rattle.choice.specs.Span.{Spanned, Aims, Goes};
 ghost use Rattle.choice.specs.Choice.{seen, Reads, meant, Sources, noted, Chose, PICKS as picks-size};
 
@@ -171,7 +171,8 @@ fn mark_gone(span: Span, gone: &mut [bool; STATES])
 
 // One more is chosen: its number, and what was found out of it.
 fn note(t: usize, span: Span, picks: &mut [u16; PICKS], count: usize)
-    requires { ⌜ (t < transitions) × (span .top < span .end) × (span .end ≤ states) × (count < transitions) × (length (now picks) ≡ picks-size) ⌝ }
+    requires { ⌜ (t < transitions) × (span .top < span .end)
+        × (span .end ≤ states) × (count < transitions) × (length (now picks) ≡ picks-size) ⌝ }
     ensures { λ r. ⌜ now (picks .exit) ≡ noted (now (picks .entry)) count t span ⌝ }
 {
     picks[count] = t as u16;

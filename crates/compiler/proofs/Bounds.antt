@@ -13,7 +13,7 @@ use Rattle.plan_laws.proofs.Counted.{block-most, block-lines, code-bound}
 use Rattle.plan_laws.proofs.Lines.{acts-long}
 use Rattle.plan_laws.proofs.Order.{order-each as each-named}
 use Rattle.chart_rows.proofs.Rows.{transitions-most}
-use Rattle.tree_walks.specs.Walks.{Ruled}
+use Rattle.meaning.specs.Rules.{Ruled}
 use Rattle.tree_walks.proofs.Passing.{rules-passed, sound}
 use Rattle.tree_walks.proofs.On.{length-from}
 use Rattle.choice.proofs.All.{all-of, of-source, all-few}

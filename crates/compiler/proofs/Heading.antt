@@ -14,7 +14,7 @@ use Rattle.laws.proofs.Lists.{each-at, each-kept, each-range}
 use Rattle.laws.specs.Facts.{Each, none-left, one-more}
 use Rattle.laws.proofs.Rules.{Guard-facts, Transition-facts}
 use Rattle.chart_rows.proofs.Rows.{states-most, vars-most}
-use Rattle.tree_walks.specs.Walks.{Ruled}
+use Rattle.meaning.specs.Rules.{Ruled}
 use Rattle.tree_walks.proofs.Passing.{sound}
 use Rattle.acts.proofs.Acting.{events-most}
 use Rattle.choice.specs.Choice.{Reads}

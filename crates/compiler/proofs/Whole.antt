@@ -13,7 +13,7 @@ use lib.IntN.{ℤ, pos}
 use Rattle.sizes.specs.Sizes.{STATES, VARIABLES, TRANSITIONS}
 use Rattle.numbers.specs.Reference.{NOWHERE}
 use Rattle.chart_rows.proofs.Rows.{vars-most}
-use Rattle.tree_walks.specs.Walks.{Ruled}
+use Rattle.meaning.specs.Rules.{Ruled}
 use Rattle.meaning.specs.Chart.{Chart}
 use Rattle.meaning.specs.declared.Answer.{Answer}
 use Rattle.meaning.specs.declared.chart.VarRow.{VarRow}
@@ -162,7 +162,8 @@ module _ (v : List ℤ) (l : List ℤ) where
   compiles-whole r n after last end e f =
       let z : end ≡ length (compile (chart-of v)) = puts-at (compile (chart-of v)) l 0 e ∙ (omega arith) in
       let k : compile-of v (length l) ≡ done (compile (chart-of v))
-      = passed-as r ∙ ap (λ b. cond b (refused 4 0) (done (compile (chart-of v)))) (le-ltb (length l) (length (compile (chart-of v))) n) in (
+      = passed-as r ∙ ap (λ b. cond b (refused 4 0) (done (compile (chart-of v))))
+      (le-ltb (length l) (length (compile (chart-of v))) n) in (
         ap (λ x. record { answer = record { number = 0; place = 0 }; length = x }) z ∙ ap compiled (sym k),
         f ∙ laid (compile (chart-of v)) after end e n ∙ ap (plan-lent (length l)) (sym k),
       )
@@ -192,7 +193,8 @@ module _ (v : List ℤ) (l : List ℤ) where
         go none h₁ = refl
         go (some k) h₁ = absurd (omega arith)
 
-    pub compiles-refused : (a .number ≡ 0 → ⊥) → (last : List ℤ) → last ≡ take 0 l ++ replicate (length l - 0) (pos 0) → Compiles v l (record { answer = a; length = 0 }) last
+    pub compiles-refused : (a .number ≡ 0 → ⊥) → (last : List ℤ)
+        → last ≡ take 0 l ++ replicate (length l - 0) (pos 0) → Compiles v l (record { answer = a; length = 0 }) last
     unfolding compile-of compiled verdict
     compiles-refused h last f = go (failing-rule-of v) refl
       where
@@ -201,5 +203,7 @@ module _ (v : List ℤ) (l : List ℤ) where
         go (some r) x =
             let k : compile-of v (length l) ≡ refused 3 r
             = ap (λ y. elim y [ none ↦ compiled-into (length l) (compile (chart-of v)) | some q ↦ refused 3 q ]) x in
-            let w : a ≡ record { number = 3; place = r } = e ∙ ap verdict x in
-            (ap (λ y. record { answer = y; length = 0 }) w ∙ ap compiled (sym k), cleared last f ∙ sym (nothing 3 r) ∙ ap (plan-lent (length l)) (sym k))
+            let w : a ≡ record { number = 3; place = r } = e ∙ ap verdict x in (
+              ap (λ y. record { answer = y; length = 0 }) w ∙ ap compiled (sym k),
+              cleared last f ∙ sym (nothing 3 r) ∙ ap (plan-lent (length l)) (sym k),
+            )

@@ -17,7 +17,7 @@ ghost use Rattle.meaning.specs.Compile.{head-of, heads-from, head-order, start-
 ghost use Rattle.meaning.specs.Lists.{concat-map};
 ghost use Rattle.meaning.specs.Plan.{sign-number, guard-numbers, head-numbers};
 ghost use Rattle.meaning.specs.Value.{chart-of};
-ghost use Rattle.tree_walks.specs.Walks.{Ruled};
+ghost use Rattle.meaning.specs.Rules.{Ruled};
 ghost use Rattle.choice.specs.Choice.{Reads};
 ghost use Rattle.emitter.specs.Pen.{pen, puts};
 ghost use Rattle.acts.specs.Index.{Ready};

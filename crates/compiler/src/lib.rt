@@ -30,7 +30,7 @@ ghost use Rattle.meaning.specs.Compile.{block, head-order, start-block, code-of
 ghost use Rattle.meaning.specs.Lists.{concat-map};
 ghost use Rattle.meaning.specs.Plan.{var-numbers, six};
 ghost use Rattle.meaning.specs.Value.{chart-of};
-ghost use Rattle.tree_walks.specs.Walks.{Ruled};
+ghost use Rattle.meaning.specs.Rules.{Ruled};
 ghost use Rattle.emitter.specs.Pen.{pen, puts, emits, Room};
 ghost use Rattle.acts.specs.Index.{Ready};
 ghost use Rattle.compiler.specs.Plans.{In-order, Compiles};

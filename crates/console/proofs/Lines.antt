@@ -46,7 +46,8 @@ module _ (b w : ℕ) (bs : List ℕ) (p : Part) (f : Option ℕ → Num) (n : f 
 plain-on : (v : ℕ) (bs : List ℕ) → read (Plain v) bs ≡ with-no-sign (capped (value v bs))
 unfolding part-on part-fed part-number value capped
 plain-on v [] = refl
-plain-on v (b ∷ bs) = digit-on b (grown v b) bs (Plain (grown v b)) (λ o. with-no-sign (capped o)) refl (plain-on (grown v b) bs) (ltb b 48) (ltb 57 b)
+plain-on v (b ∷ bs) = digit-on b (grown v b)
+    bs (Plain (grown v b)) (λ o. with-no-sign (capped o)) refl (plain-on (grown v b) bs) (ltb b 48) (ltb 57 b)
 
 minus-on : (v : ℕ) (bs : List ℕ) → read (Negative v) bs ≡ minus (capped (value v bs))
 unfolding part-on part-fed part-number value capped
@@ -111,8 +112,10 @@ unfolding scan-on fed line-at split part-on
 argument-on e p [] = refl
 argument-on e p (b ∷ bs) = go (eqb b TAB) (split TAB bs) (argument-on e (part-fed p b) bs)
   where
-    go : (t : Bool) (q : Parts) → line-at (scan-on (Argument e (part-fed p b)) bs) ≡ unless-more (q .rest) (input-by (part-number e) (read (part-fed p b) (q .first)))
-        → line-at (scan-on (cond t More (Argument e (part-fed p b))) bs) ≡ unless-more (cut t b q .rest) (input-by (part-number e) (read p (cut t b q .first)))
+    go : (t : Bool) (q : Parts) → line-at (scan-on (Argument e (part-fed p b)) bs)
+        ≡ unless-more (q .rest) (input-by (part-number e) (read (part-fed p b) (q .first)))
+        → line-at (scan-on (cond t More (Argument e (part-fed p b))) bs)
+        ≡ unless-more (cut t b q .rest) (input-by (part-number e) (read p (cut t b q .first)))
     go true q ih = more-on bs
     go false q ih = ih
 

@@ -145,7 +145,8 @@ module _ (s : Scan) (b : ℕ) where
 
 -- ---- the line at the end
 module _ (s : Scan) where
-  pub line-whole : (e a : Part) (m n : Num) (l : Input) → s ≡ Argument e a → m ≡ part-number e → n ≡ part-number a → l ≡ input-by m n → l ≡ line-at s
+  pub line-whole : (e a : Part) (m n : Num) (l : Input)
+      → s ≡ Argument e a → m ≡ part-number e → n ≡ part-number a → l ≡ input-by m n → l ≡ line-at s
   unfolding line-at
   line-whole e a m n l h p q r = rw (h, ← p, ← q) r
 

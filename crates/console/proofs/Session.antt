@@ -25,7 +25,8 @@ turns-of c u [] = refl
 turns-of c u (l ∷ ls) = rw (turns-of c (do-line c u (input-of (fields l)) .state) ls)
 
 -- what does the same to each line prints the same
-pub turns-same : (f g : Turns) → ((u : State) (l : Input) → f u l ≡ g u l) → (u : State) (ls : List (List ℕ)) → turns-by f u ls ≡ turns-by g u ls
+pub turns-same : (f g : Turns) → ((u : State) (l : Input) → f u l ≡ g u l)
+    → (u : State) (ls : List (List ℕ)) → turns-by f u ls ≡ turns-by g u ls
 unfolding turns-by
 turns-same f g h u [] = refl
 turns-same f g h u (l ∷ ls) = rw (h u (input-of (fields l)), turns-same f g h (g u (input-of (fields l)) .state) ls)
@@ -127,6 +128,7 @@ unfolding lines
 printed-all f u input = ap (λ s. all-printed f s input) (sym (none-fed u)) ∙ printed-from f u [] input
 
 -- what the program prints after the start, byte by byte, is what the definition says
-pub session-printed : (c : Chart) (t : Turn) (input : List ℕ) → t .printed ++ all-printed (do-line c) (fresh (t .state)) input ≡ session c t input
+pub session-printed : (c : Chart) (t : Turn) (input : List ℕ)
+    → t .printed ++ all-printed (do-line c) (fresh (t .state)) input ≡ session c t input
 unfolding session
 session-printed c t input = rw (printed-all (do-line c) (t .state) input, turns-of c (t .state) (input-lines (lines input)))

@@ -21,7 +21,7 @@ use Rattle.meaning.specs.declared.plan.Instr.the-variants.{Does as does}
 use Rattle.meaning.specs.Effects.{same-owner, acts-in, acts-of}
 use Rattle.meaning.specs.Compile.{code-acts}
 use Rattle.meaning.specs.Value.{chart-of}
-use Rattle.tree_walks.specs.Walks.{Ruled}
+use Rattle.meaning.specs.Rules.{Ruled}
 use Rattle.emitter.specs.Pen.{Pen, pen, emits, Small-act, Room}
 use Rattle.acts.specs.Index.{before-first, row-from}
 use Rattle.acts.proofs.Finding.{owner-one, first-own, first-from, acts-here, acts-onward, later-from}

@@ -10,10 +10,8 @@ ghost use lib.Seq.{slice};
 ghost use Rattle.meaning.specs.Split.{fields};
 ghost use Rattle.meaning.specs.Line.{letter-of, field as field-of};
 ghost use Rattle.fields.specs.Parts.{Stop, Field};
-
-pub const TAB: u8 = 9;
-
-pub const LF: u8 = 10;
+pub use meaning::bytes::LF;
+pub use meaning::bytes::TAB;
 
 // The first separator from `from` on, or the end.
 pub fn stop(s: &[u8], from: usize, to: usize, sep: u8) -> usize

@@ -20,7 +20,7 @@ use Rattle.meaning.specs.Steps.{Step, _then_, each}
 use Rattle.meaning.specs.Tree.{descendants, scope, trans-row}
 use Rattle.meaning.specs.Value.{chart-of}
 use Rattle.meaning.specs.Widget.{Ctx, emit, taken}
-use Rattle.tree_walks.specs.Walks.{Ruled}
+use Rattle.meaning.specs.Rules.{Ruled}
 use Rattle.tree_walks.proofs.Passing.{sound}
 use Rattle.widget.specs.declared.Went.{Went}
 use Rattle.widget.specs.View.{Lent, all-lent, with-vars, with-queue, with-trace, Whole, Within, Did}

@@ -45,8 +45,12 @@ fn move_to(
     trace: &mut [i32],
     at: usize,
 ) -> Went
-    requires { ⌜ Ready (now chart) (now index) × (Inside (chart-of (now chart)) goal × Owned (chart-of (now chart)) goal) × (top < length (chart-of (now chart) .states)) × (end ≡ suc top + length (descendants (chart-of (now chart)) top)) × Led (chart-of (now chart)) (now slots) × (length (now queue) ≡ all) × (at ≤ length (now trace)) × (t < transitions) ⌝ }
-    ensures { λ r. ⌜ Did (moving (chart-of (now (chart .entry))) arg t goal top) (all-lent (now (active .entry)) (now (slots .entry)) (now (vars .entry)) (now (queue .entry)) (now (trace .entry))) at r (all-lent (now (active .exit)) (now (slots .exit)) (now (vars .exit)) (now (queue .exit)) (now (trace .exit))) ⌝ }
+    requires { ⌜ Ready (now chart) (now index) × (Inside (chart-of (now chart)) goal × Owned (chart-of (now chart)) goal)
+        × (top < length (chart-of (now chart) .states)) × (end ≡ suc top + length (descendants (chart-of (now chart)) top))
+        × Led (chart-of (now chart)) (now slots) × (length (now queue) ≡ all) × (at ≤ length (now trace)) × (t < transitions) ⌝ }
+    ensures { λ r. ⌜ Did (moving (chart-of (now (chart .entry))) arg t goal top)
+        (all-lent (now (active .entry)) (now (slots .entry)) (now (vars .entry)) (now (queue .entry)) (now (trace .entry))) at r
+        (all-lent (now (active .exit)) (now (slots .exit)) (now (vars .exit)) (now (queue .exit)) (now (trace .exit))) ⌝ }
 {
     let gone = leave_below(
         chart,
@@ -100,8 +104,11 @@ pub fn fire(
     trace: &mut [i32],
     at: usize,
 ) -> Went
-    requires { ⌜ Ready (now chart) (now index) × (t < length (chart-of (now chart) .transitions)) × Found (chart-of (now chart)) t top end × Led (chart-of (now chart)) (now slots) × (length (now queue) ≡ all) × (at ≤ length (now trace)) ⌝ }
-    ensures { λ r. ⌜ Did (fires (chart-of (now (chart .entry))) arg t) (all-lent (now (active .entry)) (now (slots .entry)) (now (vars .entry)) (now (queue .entry)) (now (trace .entry))) at r (all-lent (now (active .exit)) (now (slots .exit)) (now (vars .exit)) (now (queue .exit)) (now (trace .exit))) ⌝ }
+    requires { ⌜ Ready (now chart) (now index) × (t < length (chart-of (now chart) .transitions)) × Found (chart-of (now chart)) t
+        top end × Led (chart-of (now chart)) (now slots) × (length (now queue) ≡ all) × (at ≤ length (now trace)) ⌝ }
+    ensures { λ r. ⌜ Did (fires (chart-of (now (chart .entry))) arg t)
+        (all-lent (now (active .entry)) (now (slots .entry)) (now (vars .entry)) (now (queue .entry)) (now (trace .entry))) at r
+        (all-lent (now (active .exit)) (now (slots .exit)) (now (vars .exit)) (now (queue .exit)) (now (trace .exit))) ⌝ }
 {
     let taken = mark_taken(t, trace, at);
     if taken.number != 0 {

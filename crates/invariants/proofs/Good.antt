@@ -32,7 +32,8 @@ use Rattle.meaning.specs.Foreign.{event-fits, queue-fits}
 use Rattle.meaning.specs.Rules.{within-row}
 use Rattle.meaning.specs.Steps.{_then_, bind, look, require}
 use Rattle.meaning.specs.Tree.{is-o, kind-of, parent-of, var-row}
-use Rattle.meaning.specs.Widget.{Ctx, ENTRY, Entry, change, changed, emit, entered, left, numbers, sent, set-active, set-queue, set-slot, set-value}
+use Rattle.meaning.specs.Widget.{Ctx, ENTRY, Entry, change, changed, emit, entered, left, numbers, sent, set-active, set-queue}
+use Rattle.meaning.specs.Widget.{set-slot, set-value}
 use Rattle.meaning.specs.Widget.{told, value-at, add-numbers}
 use Rattle.meaning.specs.declared.chart.Act.{Act}
 use Rattle.meaning.specs.declared.chart.Act.the-variants.{AddTo as add-to, Send as send, SetTo as set-to, TakeTo as take-to, Tell as tell}
@@ -59,7 +60,14 @@ module _ (c : Chart) where
   emit-good e h k g = go (leb ENTRY (k .room))
     where
       go : (b : Bool) → Holds (bind (require 11 b k) (add-numbers (numbers e))) (Good c)
-      go true = record { started = g .started; sized = g .sized; values = g .values; queue = g .queue; slots = g .slots; trace = traced-more c (k .out) e h (g .trace) }
+      go true = record {
+        started = g .started;
+        sized = g .sized;
+        values = g .values;
+        queue = g .queue;
+        slots = g .slots;
+        trace = traced-more c (k .out) e h (g .trace);
+      }
       go false = tt
 
   pub set-active-good : (s : ℕ) (b : Bool) → Stays (Good c) (change (set-active s b))

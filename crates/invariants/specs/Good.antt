@@ -1,5 +1,5 @@
--- What stands between any two effects of a reaction over a chart, whatever phase of a firing it is in: sizes, values, slots, queue and trace.
--- Assumes nothing.
+-- What stands between any two effects of a reaction over a chart, whatever phase of a firing it is in: sizes, values, slots,
+-- queue and trace. Assumes nothing.
 use mathlib.Core.Path.{_≡_}
 use Prim.Native.Nat.{_<_, _≤_, ℕ}
 use mathlib.Core.Bool.{true}

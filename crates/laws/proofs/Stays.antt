@@ -160,7 +160,8 @@ module _ (P : Ctx → Type 0) (p : Plain P) where
 
     pub start-plain : Stays P (start-steps c)
     unfolding start-steps
-    start-plain = then-stays P _ _ (then-stays P _ _ (enter-plain (pos 0) 0) (each-stays-all P (visit c (pos 0)) (visit-plain (pos 0)) _)) settle-plain
+    start-plain = then-stays P _ _
+        (then-stays P _ _ (enter-plain (pos 0) 0) (each-stays-all P (visit c (pos 0)) (visit-plain (pos 0)) _)) settle-plain
 
     pub react-plain : (q : Removed) → Stays P (react c q)
     unfolding react take-front

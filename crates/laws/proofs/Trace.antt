@@ -64,7 +64,8 @@ written-plain n = record {
   changes = λ f k h. record { entries = h .entries; room = h .room };
 }
   where
-    go : (e : Entry) (k : Ctx) → Written n k → (b : Bool) → leb ENTRY (k .room) ≡ b → Holds (bind (require 11 b k) (add-numbers (numbers e))) (Written n)
+    go : (e : Entry) (k : Ctx) → Written n k
+        → (b : Bool) → leb ENTRY (k .room) ≡ b → Holds (bind (require 11 b k) (add-numbers (numbers e))) (Written n)
     go e k h true q = record {
       entries = (h .entries .0 ++ (e ∷ []), numbers-more (h .entries .0) (k .out) e (h .entries .1));
       room = ap (λ i. i + (k .room - ENTRY)) (length-append (k .out) (numbers e))

@@ -32,7 +32,8 @@ pub record Ordered (c : Chart) : Type 0 where
 pub record Sound (c : Chart) (way : ℕ → Way) : Type 0 where
   pub ordered : Ordered c
   pub on : (s d : ℕ) → kind-of c s ≡ kind-o → way s ≡ on-to d → (is-child c s d ≡ true) × (d < length (c .states))
-  pub by : (s : ℕ) → kind-of c s ≡ kind-o → way s ≡ defaults → (is-child c s (default-child c s) ≡ true) × (default-child c s < length (c .states))
+  pub by : (s : ℕ) → kind-of c s ≡ kind-o → way s ≡ defaults
+      → (is-child c s (default-child c s) ≡ true) × (default-child c s < length (c .states))
   pub leaf : (s : ℕ) → kind-of c s ≡ kind-b → children c s ≡ []
 
 -- a target is a state other than the root, a history's owner an o state, and the source is not the root

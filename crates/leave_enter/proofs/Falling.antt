@@ -20,7 +20,7 @@ use Rattle.widget.specs.declared.Went.{Went}
 use Rattle.widget.specs.View.{Lent, ctx, tracing, Did, Owes}
 use Rattle.widget.proofs.Going.{owes-all, owes-as}
 use Rattle.widget.proofs.Loops.{each-none, each-next, each-ends, look-at, when-on}
-use Rattle.tree_walks.specs.Walks.{Ruled}
+use Rattle.meaning.specs.Rules.{Ruled}
 use Rattle.tree_walks.proofs.On.{end-within}
 use Rattle.tree_walks.proofs.Passing.{sound}
 

@@ -1,6 +1,6 @@
-// Entering states below a state that is in (01, "Firing" and "History"): one state, with its parent's default actions where due, and
-// the one descent that goes by defaults, by the slots, or by the path to a target or to an owner of a history and on from there by its slot.
-// It goes from a state to its children: the falling number is that of the states left below this one.
+// Entering states below a state that is in (01, "Firing" and "History"): one state, with its parent's default actions where due,
+// and the one descent that goes by defaults, by the slots, or by the path to a target or to an owner of a history and on from
+// there by its slot. It goes from a state to its children: the falling number is that of the states left below this one.
 use acts::enter;
 use acts::index::INDEX;
 use acts::perform_all;
@@ -50,7 +50,10 @@ fn visit(
     at: usize,
 ) -> Went
     requires { ⌜ Ready (now chart) (now index) × (s < states) × (at ≤ length (now trace)) × (p < states) ⌝ }
-    ensures { λ r. ⌜ Within (now (trace .entry)) r (now (trace .exit)) × ((k : Lent) → Did (visits (chart-of (now (chart .entry))) arg (visit-as (defaulting (kind-in (chart-of (now (chart .entry))) p) (way-by next)) p s)) (with-active (now (active .entry)) (with-vars (now (vars .entry)) (with-queue (now (queue .entry)) (with-trace (now (trace .entry)) k)))) at r (with-active (now (active .exit)) (with-vars (now (vars .exit)) (with-queue (now (queue .exit)) (with-trace (now (trace .exit)) k))))) ⌝ }
+    ensures { λ r. ⌜ Within (now (trace .entry)) r (now (trace .exit)) × ((k : Lent) → Did (visits (chart-of (now (chart .entry)))
+        arg (visit-as (defaulting (kind-in (chart-of (now (chart .entry))) p) (way-by next)) p s)) (with-active (now (active .entry))
+        (with-vars (now (vars .entry)) (with-queue (now (queue .entry)) (with-trace (now (trace .entry)) k)))) at r (with-active
+        (now (active .exit)) (with-vars (now (vars .exit)) (with-queue (now (queue .exit)) (with-trace (now (trace .exit)) k))))) ⌝ }
 {
     if !by_default(chart, p, next) {
         return enter(chart, index, arg, s, active, vars, queue, trace, at);
@@ -80,7 +83,10 @@ fn arrive(
     at: usize,
 ) -> Went
     requires { ⌜ Ready (now chart) (now index) × (s < states) × (length (now slots) ≡ states) × (at ≤ length (now trace)) × (p < states) ⌝ }
-    ensures { λ r. ⌜ Did (arrival (chart-of (now (chart .entry))) arg course (visit-as (defaulting (kind-in (chart-of (now (chart .entry))) p) (way-by next)) p s)) (all-lent (now (active .entry)) (now (slots .entry)) (now (vars .entry)) (now (queue .entry)) (now (trace .entry))) at r (all-lent (now (active .exit)) (now (slots .entry)) (now (vars .exit)) (now (queue .exit)) (now (trace .exit))) ⌝ }
+    ensures { λ r. ⌜ Did (arrival (chart-of (now (chart .entry)))
+        arg course (visit-as (defaulting (kind-in (chart-of (now (chart .entry))) p) (way-by next)) p s))
+        (all-lent (now (active .entry)) (now (slots .entry)) (now (vars .entry)) (now (queue .entry)) (now (trace .entry))) at r
+        (all-lent (now (active .exit)) (now (slots .entry)) (now (vars .exit)) (now (queue .exit)) (now (trace .exit))) ⌝ }
 {
     let went = visit(
         chart,
@@ -127,8 +133,12 @@ pub fn descend(
     trace: &mut [i32],
     at: usize,
 ) -> Went
-    requires { ⌜ Ready (now chart) (now index) × Bound (chart-of (now chart)) course × (s < length (chart-of (now chart) .states)) × Led (chart-of (now chart)) (now slots) × (at ≤ length (now trace)) ⌝ }
-    ensures { λ r. ⌜ Did (each (course-visit (chart-of (now (chart .entry))) arg course) (all-below (chart-of (now (chart .entry))) (course-way (chart-of (now (chart .entry))) (now (slots .entry)) course) s)) (all-lent (now (active .entry)) (now (slots .entry)) (now (vars .entry)) (now (queue .entry)) (now (trace .entry))) at r (all-lent (now (active .exit)) (now (slots .entry)) (now (vars .exit)) (now (queue .exit)) (now (trace .exit))) ⌝ }
+    requires { ⌜ Ready (now chart) (now index) × Bound (chart-of (now chart)) course
+        × (s < length (chart-of (now chart) .states)) × Led (chart-of (now chart)) (now slots) × (at ≤ length (now trace)) ⌝ }
+    ensures { λ r. ⌜ Did (each (course-visit (chart-of (now (chart .entry))) arg course)
+        (all-below (chart-of (now (chart .entry))) (course-way (chart-of (now (chart .entry))) (now (slots .entry)) course) s))
+        (all-lent (now (active .entry)) (now (slots .entry)) (now (vars .entry)) (now (queue .entry)) (now (trace .entry))) at r
+        (all-lent (now (active .exit)) (now (slots .entry)) (now (vars .exit)) (now (queue .exit)) (now (trace .exit))) ⌝ }
 {
     let next = next_by(chart, slots, course, s);
     let kids = goes_on(chart, s, next);

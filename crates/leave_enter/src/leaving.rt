@@ -28,8 +28,11 @@ pub fn leave_below(
     trace: &mut [i32],
     at: usize,
 ) -> Went
-    requires { ⌜ Ready (now chart) (now index) × (s < length (chart-of (now chart) .states)) × (end ≡ suc s + length (descendants (chart-of (now chart)) s)) × (at ≤ length (now trace)) ⌝ }
-    ensures { λ r. ⌜ Did (leave-all (chart-of (now (chart .entry))) arg (descendants (chart-of (now (chart .entry))) s)) (all-lent (now (active .entry)) (now (slots .entry)) (now (vars .entry)) (now (queue .entry)) (now (trace .entry))) at r (all-lent (now (active .exit)) (now (slots .exit)) (now (vars .exit)) (now (queue .exit)) (now (trace .exit))) ⌝ }
+    requires { ⌜ Ready (now chart) (now index) × (s < length (chart-of (now chart) .states))
+        × (end ≡ suc s + length (descendants (chart-of (now chart)) s)) × (at ≤ length (now trace)) ⌝ }
+    ensures { λ r. ⌜ Did (leave-all (chart-of (now (chart .entry))) arg (descendants (chart-of (now (chart .entry))) s))
+        (all-lent (now (active .entry)) (now (slots .entry)) (now (vars .entry)) (now (queue .entry)) (now (trace .entry))) at r
+        (all-lent (now (active .exit)) (now (slots .exit)) (now (vars .exit)) (now (queue .exit)) (now (trace .exit))) ⌝ }
 {
     let mut next = at;
     let mut d = end;

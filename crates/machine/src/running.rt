@@ -47,8 +47,12 @@ pub fn settled(
     queue: &mut [i32; QUEUE_NUMBERS],
     trace: &mut [i32],
 ) -> Went
-    requires { ⌜ Examined (now plan) k × (length (now picks) ≡ transitions) × (went .number ≡ 0 → Slotted (now slots)) × (went .at ≤ length (now trace)) × Linked (now plan) k (now links) ⌝ }
-    ensures { λ r. ⌜ ((s : Step Ctx) (before : Lent) → Ran s before 0 went (all-lent (now (active .entry)) (now (slots .entry)) (now (vars .entry)) (now (queue .entry)) (now (trace .entry))) → Ran (s then plan-settle (plan-by (now (plan .entry)))) before 0 r (all-lent (now (active .exit)) (now (slots .exit)) (now (vars .exit)) (now (queue .exit)) (now (trace .exit)))) × (length (now (picks .exit)) ≡ transitions) ⌝ }
+    requires { ⌜ Examined (now plan) k × (length (now picks) ≡ transitions)
+        × (went .number ≡ 0 → Slotted (now slots)) × (went .at ≤ length (now trace)) × Linked (now plan) k (now links) ⌝ }
+    ensures { λ r. ⌜ ((s : Step Ctx) (before : Lent) → Ran s before 0 went (all-lent (now (active .entry)) (now (slots .entry))
+        (now (vars .entry)) (now (queue .entry)) (now (trace .entry))) → Ran (s then plan-settle (plan-by (now (plan .entry))))
+        before 0 r (all-lent (now (active .exit)) (now (slots .exit)) (now (vars .exit)) (now (queue .exit)) (now (trace .exit))))
+        × (length (now (picks .exit)) ≡ transitions) ⌝ }
 {
     if went.number != 0 {
         return went;

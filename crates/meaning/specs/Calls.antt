@@ -54,7 +54,13 @@ lent n o = padded n (pos 0) (o .trace)
 
 -- a widget not yet started
 unfoldable pub unstarted : State
-unstarted = record { started = false; active = replicate STATES false; slots = replicate STATES (negsuc 0); vars = replicate VARIABLES (pos 0); queue = empty-queue }
+unstarted = record {
+  started = false;
+  active = replicate STATES false;
+  slots = replicate STATES (negsuc 0);
+  vars = replicate VARIABLES (pos 0);
+  queue = empty-queue;
+}
 
 -- "no state active before, places not in use as above, all slots empty, all variables at their first value and an empty queue"
 unfoldable pub fresh-by : List VarRow → State

@@ -18,10 +18,12 @@ pub use Rattle.meaning.specs.declared.chart.Target.{Target}
 pub use Rattle.meaning.specs.declared.chart.Target.the-variants.{To as to, History as history, InPlace as in-place}
 -- acts s, a, k, q, o: set, add, take, send, tell
 pub use Rattle.meaning.specs.declared.chart.Act.{Act}
-pub use Rattle.meaning.specs.declared.chart.Act.the-variants.{SetTo as set-to, AddTo as add-to, TakeTo as take-to, Send as send, Tell as tell}
+pub use Rattle.meaning.specs.declared.chart.Act.the-variants.{SetTo as set-to, AddTo as add-to, TakeTo as take-to}
+pub use Rattle.meaning.specs.declared.chart.Act.the-variants.{Send as send, Tell as tell}
 -- owner kinds e, x, d, t
 pub use Rattle.meaning.specs.declared.chart.Owner.{Owner}
-pub use Rattle.meaning.specs.declared.chart.Owner.the-variants.{EntryOf as entry-of, ExitOf as exit-of, DefaultOf as default-of, TransitionOf as transition-of}
+pub use Rattle.meaning.specs.declared.chart.Owner.the-variants.{EntryOf as entry-of, ExitOf as exit-of}
+pub use Rattle.meaning.specs.declared.chart.Owner.the-variants.{DefaultOf as default-of, TransitionOf as transition-of}
 -- S: parent, kind, default; V: low, high, first; T: source, trigger, guard, target; A: owner, act
 pub use Rattle.meaning.specs.declared.chart.StateRow.{StateRow}
 pub use Rattle.meaning.specs.declared.chart.VarRow.{VarRow}

@@ -83,7 +83,8 @@ exits-code c ss = concat-map (exit-code c) (reverse ss)
 -- "In-place blocks hold only actions"
 unfoldable pub block-to : Chart → ℕ → ℕ → Target → List Instr
 block-to c t s (to d) =
-    exits-code c (descendants c (scope c s d)) ++ (code-acts c (transition-of t) ++ concat-map (visit-code c) (all-below c (towards c d) (scope c s d)))
+    exits-code c (descendants c (scope c s d))
+    ++ (code-acts c (transition-of t) ++ concat-map (visit-code c) (all-below c (towards c d) (scope c s d)))
 block-to c t s (history b) =
     exits-code c (descendants c (scope c s b))
     ++ (code-acts c (transition-of t) ++ concat-map (towards-code c b) (all-below c (towards-owner c b) (scope c s b)))

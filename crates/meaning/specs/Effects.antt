@@ -12,7 +12,8 @@ use Rattle.meaning.specs.Answers.{QUEUE-FULL}
 use Rattle.meaning.specs.declared.State.{State}
 use Rattle.meaning.specs.Steps.{Res, ok, refuse, Step, _then_, require, look, each}
 use Rattle.meaning.specs.Lists.{concat-map}
-use Rattle.meaning.specs.Chart.{Act, set-to, add-to, take-to, send, tell, Owner, entry-of, exit-of, default-of, transition-of, VarRow, ActRow, Chart}
+use Rattle.meaning.specs.Chart.{Act, set-to, add-to, take-to, send, tell, Owner, entry-of, exit-of, default-of}
+use Rattle.meaning.specs.Chart.{transition-of, VarRow, ActRow, Chart}
 use Rattle.meaning.specs.Tree.{parent-of, kind-of, var-row, is-o}
 use Rattle.meaning.specs.Widget.{Ctx, Slot, empty, holds, value-at, set-active, set-slot, set-value, set-queue, change, emit}
 use Rattle.meaning.specs.Widget.{Entry, left, entered, changed, sent, told}
@@ -114,5 +115,6 @@ enter c a s = mark-entered s then perform-all c a (entry-of s)
 
 -- everything above, opened: for statements that compute
 unfoldable pub effects-open : ℕ
-unfolding held assign take-queue enqueue act-on act-var perform same-owner acts-in acts-of perform-all o-parent store-in mark-left leave mark-entered enter
+unfolding held assign take-queue enqueue
+    act-on act-var perform same-owner acts-in acts-of perform-all o-parent store-in mark-left leave mark-entered enter
 effects-open = 0

@@ -94,5 +94,6 @@ visit-towards c a b v = visit c a v then when (eqb (state-of v) b) (restore c a 
 
 -- everything above, opened: for statements that compute
 unfoldable pub entry-open : ℕ
-unfolding state-of goes-on below all-below towards by-defaults towards-owner slot-way by-slots visit revisit restore-by restore visit-towards
+unfolding state-of goes-on below all-below
+    towards by-defaults towards-owner slot-way by-slots visit revisit restore-by restore visit-towards
 entry-open = 0

@@ -158,6 +158,7 @@ unfoldable pub machine-to : List ℤ → ℕ → ℕ → State → Outcome
 machine-to ns n e u = machine-run ns (machine-post ns u (pos e) (pos 0) .after) n
 
 unfoldable pub examples-open : ℕ
-unfolding st tr ac text-K chart-K value-K plan-K chart-two chart-self chart-inside chart-filling chart-settling queue-of standing gives react-of react-to
+unfolding st tr ac text-K chart-K value-K
+    plan-K chart-two chart-self chart-inside chart-filling chart-settling queue-of standing gives react-of react-to
     machine-to
 examples-open = 0

@@ -85,7 +85,8 @@ marks-fit states u = every not (drop states (u .active))
 
 -- the chart's test in full: a started state is its own
 unfoldable pub own : Chart → State → Bool
-own c u = legal c u && (marks-fit (length (c .states)) u && (values-fit (c .vars) (u .vars) && (slots-fit c u && queue-fits (c .events) (u .queue))))
+own c u = legal c u &&
+    (marks-fit (length (c .states)) u && (values-fit (c .vars) (u .vars) && (slots-fit c u && queue-fits (c .events) (u .queue))))
 
 -- everything above, opened: for statements that compute
 unfoldable pub foreign-open : ℕ

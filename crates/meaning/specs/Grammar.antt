@@ -1,5 +1,6 @@
--- The grammar of chart text (01, "Chart text"), the only place where the fields of a record are written down: reading and writing a line
--- (Line) and testing a row (Value, R0) are walks over it. In the order: fields; forms; the records. Letters stand as characters. Assumes nothing.
+-- The grammar of chart text (01, "Chart text"), the only place where the fields of a record are written down: reading and writing
+-- a line (Line) and testing a row (Value, R0) are walks over it. In the order: fields; forms; the records. Letters stand as
+-- characters. Assumes nothing.
 use Prim.Native.Nat.{ℕ, zero, suc}
 use Prim.Native.String.{[] as no-more, _∷_ as _before_}
 use Prim.Native.String.{String}
@@ -56,7 +57,8 @@ pub data Record : Type 0 where
 abbrev pub kind : Form
 kind = (letter (bytes "o") then last number) or (letter (bytes "ab") then last dash)
 
--- T: "the three guard fields are all - or none is"; "target is a state, or h and a state's number for its history, or - for a reaction in place"
+-- T: "the three guard fields are all - or none is"; "target is a state, or h and a state's number for its history, or - for a
+-- reaction in place"
 abbrev pub target : Form
 target = last in-place or last history or last state
 

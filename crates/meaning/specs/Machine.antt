@@ -46,8 +46,8 @@ unfoldable pub holds-it : ℕ → Slot → Bool
 holds-it d empty = false
 holds-it d (holds x) = eqb d x
 
--- "1 IN s. 2 OUT s p. Both act and trace even if s is so already. 3 SKIPOUT s n: pass over n if s is not active. 4 SKIPEMPTY s n. 5 SKIPFULL
--- s n. 6 SKIPNOT s d n: pass over n if the slot of s is not d. 7 SET, 8 ADD, 9 TAKE, 10 SEND, 11 TELL"
+-- "1 IN s. 2 OUT s p. Both act and trace even if s is so already. 3 SKIPOUT s n: pass over n if s is not active. 4 SKIPEMPTY s n.
+-- 5 SKIPFULL s n. 6 SKIPNOT s d n: pass over n if the slot of s is not d. 7 SET, 8 ADD, 9 TAKE, 10 SEND, 11 TELL"
 unfoldable pub exec-now : List VarRow → ℤ → Instr → Ctx → Res Mach
 exec-now vs a (go-in s) k = go-on (mark-entered s k)
 exec-now vs a (go-out s p) k = go-on (mark-left p s k)

@@ -27,5 +27,7 @@ use Rattle.meaning.specs.Program.{program-open}
 use Rattle.meaning.specs.Examples.{examples-open}
 
 unfoldable pub all-open : ℕ
-unfolding inRange within holdZ empty-queue appended removed steps-open lists-open grammar-open value-open tree-open rules-open widget-open effects-open entry-open reaction-open foreign-open calls-open plan-open compile-open well-formed-open machine-open number-open split-open line-open text-open program-open examples-open
+unfolding inRange within holdZ empty-queue appended removed steps-open lists-open
+    grammar-open value-open tree-open rules-open widget-open effects-open entry-open reaction-open foreign-open calls-open
+    plan-open compile-open well-formed-open machine-open number-open split-open line-open text-open program-open examples-open
 all-open = 0

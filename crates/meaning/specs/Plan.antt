@@ -9,7 +9,8 @@ use Rattle.meaning.specs.Chart.{Sign, equal, less, more, Guard, always, 
 use Rattle.meaning.specs.Widget.{Slot, empty, holds}
 -- IN, OUT, SKIPOUT, SKIPEMPTY, SKIPFULL, SKIPNOT, and SET, ADD, TAKE, SEND, TELL, which are the acts
 pub use Rattle.meaning.specs.declared.plan.Instr.{Instr}
-pub use Rattle.meaning.specs.declared.plan.Instr.the-variants.{In as go-in, Out as go-out, SkipOut as skip-out, SkipEmpty as skip-empty}
+pub use Rattle.meaning.specs.declared.plan.Instr.the-variants.{In as go-in, Out as go-out, SkipOut as skip-out}
+pub use Rattle.meaning.specs.declared.plan.Instr.the-variants.{SkipEmpty as skip-empty}
 pub use Rattle.meaning.specs.declared.plan.Instr.the-variants.{SkipFull as skip-full, SkipNot as skip-not, Does as does}
 -- transition, source, trigger, guard, span first, span last, block start, block length
 pub use Rattle.meaning.specs.declared.plan.Head.{Head}
@@ -71,7 +72,8 @@ head-numbers h =
 -- "Six: states, variables, events, heads, instructions, start block length"
 unfoldable pub six : Plan → List ℤ
 six p =
-    pos (p .states) ∷ pos (length (p .vars)) ∷ pos (p .events) ∷ pos (length (p .heads)) ∷ pos (length (p .code)) ∷ pos (p .start-length) ∷ []
+    pos (p .states) ∷ pos (length (p .vars))
+    ∷ pos (p .events) ∷ pos (length (p .heads)) ∷ pos (length (p .code)) ∷ pos (p .start-length) ∷ []
 
 -- "low, high, first for each variable"
 unfoldable pub var-numbers : VarRow → List ℤ

@@ -1,4 +1,5 @@
 -- The chart rules R1 to R7 (01, "Chart rules, in order"), each as one test, and the first that fails. R0 is in Value. Assumes nothing.
+use mathlib.Core.Path.{_≡_}
 use Prim.Native.Nat.{ℕ, zero, suc, _+_}
 use mathlib.Core.Bool.{Bool, true, false, not, cond, _&&_}
 use mathlib.Core.List.{List, [], _∷_}
@@ -75,12 +76,14 @@ target-fits c s (history b) = is-state c b && (not (eqb b 0) && (is-o (kind-of c
 target-fits c s in-place = true
 
 unfoldable pub transition-fits : Chart → TransRow → Bool
-transition-fits c r = is-state c (r .source) && (leb (r .trigger) (c .events) && (guard-fits c (r .guard) && target-fits c (r .source) (r .target)))
+transition-fits c r = is-state c (r .source)
+    && (leb (r .trigger) (c .events) && (guard-fits c (r .guard) && target-fits c (r .source) (r .target)))
 
 unfoldable pub rule-6 : Chart → Bool
 rule-6 c = every (transition-fits c) (c .transitions)
 
--- R7 "owners, variables and events of actions exist (a sent event is 1 or more); a d owner is an o state; a set constant is in its variable's range"
+-- R7 "owners, variables and events of actions exist (a sent event is 1 or more); a d owner is an o state; a set constant is in
+-- its variable's range"
 unfoldable pub owner-fits : Chart → Owner → Bool
 owner-fits c (entry-of s) = is-state c s
 owner-fits c (exit-of s) = is-state c s
@@ -126,6 +129,10 @@ after-rule-0 false c = some 0
 unfoldable pub failing-rule-of : List ℤ → Option ℕ
 failing-rule-of v = after-rule-0 (rule-0 v) (chart-of v)
 
+-- a chart value that passes the rules
+abbrev pub Ruled : List ℤ → Type 0
+Ruled v = failing-rule-of v ≡ none
+
 -- answer 3 "a rule fails, the first named", with the rule's number as its place; else 0
 unfoldable pub verdict : Option ℕ → Answer
 verdict none = record { number = 0; place = 0 }
@@ -133,5 +140,6 @@ verdict (some r) = record { number = 3; place = r }
 
 -- everything above, opened: for statements that compute
 unfoldable pub rules-open : ℕ
-unfolding rule-1 parent-fits rule-2 children-fit rule-3 default-fits rule-4 row-fits rule-5 guard-fits target-fits transition-fits rule-6 owner-fits within-row act-fits action-fits rule-7 first-failing failing-rule failing-rule-of verdict
+unfolding rule-1 parent-fits rule-2 children-fit rule-3 default-fits rule-4 row-fits rule-5 guard-fits target-fits
+    transition-fits rule-6 owner-fits within-row act-fits action-fits rule-7 first-failing failing-rule failing-rule-of verdict
 rules-open = 0

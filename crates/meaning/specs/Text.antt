@@ -67,11 +67,35 @@ turns-of w = record {
 
 -- the rows with one more
 unfoldable pub with-row : Record → List ℤ → Rows → Rows
-with-row s-record x r = record { states = r .states ++ (x ∷ []); vars = r .vars; events = r .events; transitions = r .transitions; actions = r .actions }
-with-row v-record x r = record { states = r .states; vars = r .vars ++ (x ∷ []); events = r .events; transitions = r .transitions; actions = r .actions }
+with-row s-record x r = record {
+  states = r .states ++ (x ∷ []);
+  vars = r .vars;
+  events = r .events;
+  transitions = r .transitions;
+  actions = r .actions;
+}
+with-row v-record x r = record {
+  states = r .states;
+  vars = r .vars ++ (x ∷ []);
+  events = r .events;
+  transitions = r .transitions;
+  actions = r .actions;
+}
 with-row e-record x r = record { states = r .states; vars = r .vars; events = num x 0; transitions = r .transitions; actions = r .actions }
-with-row t-record x r = record { states = r .states; vars = r .vars; events = r .events; transitions = r .transitions ++ (x ∷ []); actions = r .actions }
-with-row a-record x r = record { states = r .states; vars = r .vars; events = r .events; transitions = r .transitions; actions = r .actions ++ (x ∷ []) }
+with-row t-record x r = record {
+  states = r .states;
+  vars = r .vars;
+  events = r .events;
+  transitions = r .transitions ++ (x ∷ []);
+  actions = r .actions;
+}
+with-row a-record x r = record {
+  states = r .states;
+  vars = r .vars;
+  events = r .events;
+  transitions = r .transitions;
+  actions = r .actions ++ (x ∷ []);
+}
 with-row no-record x r = r
 
 abbrev pub taken : Record → List ℤ → Walk → Walk
@@ -157,7 +181,8 @@ lent-numbers n o = lent (pos 0) n o
 
 unfoldable pub text-by : Rows → List ℕ
 text-by r =
-    ended (map-from (text-of-row s-record) 0 (r .states) ++ (map-from (text-of-row v-record) 0 (r .vars) ++ (text-of-row e-record 0 (r .events ∷ [])
+    ended (map-from (text-of-row s-record) 0 (r .states)
+    ++ (map-from (text-of-row v-record) 0 (r .vars) ++ (text-of-row e-record 0 (r .events ∷ [])
     ∷ (map-from (text-of-row t-record) 0 (r .transitions) ++ map-from (text-of-row a-record) 0 (r .actions)))))
 
 -- the text of the chart that a value states

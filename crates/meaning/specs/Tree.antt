@@ -71,7 +71,8 @@ children c s = keep (is-child c s) (all-states c)
 unfoldable pub scope : Chart → ℕ → ℕ → ℕ
 scope c s t = first-that (λ x. is-o (kind-of c x) && has x (ancestors c t)) (ancestors c s)
 
--- "Span: all proper descendants of the scope; for a reaction in place, the source and its descendants"; for a history, its owner is the target
+-- "Span: all proper descendants of the scope; for a reaction in place, the source and its descendants"; for a history, its owner
+-- is the target
 unfoldable pub span-of : Chart → ℕ → Target → List ℕ
 span-of c s (to t) = descendants c (scope c s t)
 span-of c s (history b) = descendants c (scope c s b)
@@ -82,5 +83,6 @@ span c t = span-of c (trans-row c t .source) (trans-row c t .target)
 
 -- everything above, opened: for statements that compute
 unfoldable pub tree-open : ℕ
-unfolding state-row parent-of kind-of default-child var-row trans-row is-o all-states all-transitions climb ancestors descendants is-child children scope span-of span
+unfolding state-row parent-of kind-of default-child
+    var-row trans-row is-o all-states all-transitions climb ancestors descendants is-child children scope span-of span
 tree-open = 0

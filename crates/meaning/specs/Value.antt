@@ -16,7 +16,8 @@ use Rattle.numbers.specs.Reference.{ref}
 use Rattle.meaning.specs.Grammar.{Field, turn, number, count, letter, dash, state, history, in-place, width, Form, last, _then_, _or_}
 use Rattle.meaning.specs.Grammar.{s-record, v-record, t-record, a-record, form}
 use Rattle.meaning.specs.Lists.{every, every-from, chunks}
-use Rattle.meaning.specs.Chart.{Kind, kind-o, kind-a, kind-b, Sign, equal, less, more, Guard, always, compares, Target, to, history as to-history, in-place as no-target}
+use Rattle.meaning.specs.Chart.{Kind, kind-o, kind-a, kind-b, Sign, equal, less, more, Guard, always, compares, Target, to}
+use Rattle.meaning.specs.Chart.{history as to-history, in-place as no-target}
 use Rattle.meaning.specs.Chart.{Act, set-to, add-to, take-to, send, tell, Owner, entry-of, exit-of, default-of, transition-of}
 use Rattle.meaning.specs.Chart.{StateRow, VarRow, TransRow, ActRow, Chart}
 
@@ -108,13 +109,15 @@ trans-by row = record {
 -- e, x, d, t
 unfoldable pub owner-by : ℤ → ℤ → Owner
 owner-by k n =
-    cond (is-letter (code "e") k) (entry-of (ref n)) (cond (is-letter (code "x") k) (exit-of (ref n)) (cond (is-letter (code "d") k) (default-of (ref n)) (transition-of (ref n))))
+    cond (is-letter (code "e") k) (entry-of (ref n))
+    (cond (is-letter (code "x") k) (exit-of (ref n)) (cond (is-letter (code "d") k) (default-of (ref n)) (transition-of (ref n))))
 
 -- s, a, k, q, o
 unfoldable pub act-by : ℤ → ℤ → ℤ → Act
 act-by a x y =
     cond (is-letter (code "s") a) (set-to (ref x) y)
-    (cond (is-letter (code "a") a) (add-to (ref x) y) (cond (is-letter (code "k") a) (take-to (ref x)) (cond (is-letter (code "q") a) (send (ref x) y) (tell x))))
+    (cond (is-letter (code "a") a) (add-to (ref x) y)
+    (cond (is-letter (code "k") a) (take-to (ref x)) (cond (is-letter (code "q") a) (send (ref x) y) (tell x))))
 
 unfoldable pub action-by : List ℤ → ActRow
 action-by row = record { owner = owner-by (num row 0) (num row 1); act = act-by (num row 2) (num row 3) (num row 4) }
@@ -198,11 +201,13 @@ action-statable row = fits (form a-record 0) 0 row
 -- states 2 to 64, variables 0 to 16, events 0 to 32, transitions 0 to 128, actions 0 to 256
 unfoldable pub counts-fit : List ℤ → Bool
 counts-fit v =
-    count-fits 2 STATES (num v 0) && (count-fits 0 VARIABLES (num v 1) && (count-fits 0 EVENTS (num v 2) && (count-fits 0 TRANSITIONS (num v 3) && count-fits 0 ACTIONS (num v 4))))
+    count-fits 2 STATES (num v 0) && (count-fits 0 VARIABLES (num v 1)
+    && (count-fits 0 EVENTS (num v 2) && (count-fits 0 TRANSITIONS (num v 3) && count-fits 0 ACTIONS (num v 4))))
 
 unfoldable pub rows-statable : Rows → Bool
 rows-statable r =
-    every-from state-statable 0 (r .states) && (every var-statable (r .vars) && (every trans-statable (r .transitions) && every action-statable (r .actions)))
+    every-from state-statable 0 (r .states)
+    && (every var-statable (r .vars) && (every trans-statable (r .transitions) && every action-statable (r .actions)))
 
 -- R0; numbers too few for the layout do not state a chart
 unfoldable pub rule-0 : List ℤ → Bool
@@ -210,5 +215,6 @@ rule-0 v = leb VALUE (length v) && (counts-fit v && rows-statable (rows-of v))
 
 -- everything above, opened: for statements that compute
 unfoldable pub value-open : ℕ
-unfolding is-absent ref-or-none kind-by state-by var-by guard-by target-by trans-by owner-by act-by action-by chart-by size-by rows-of chart-of state-statable var-statable trans-statable action-statable counts-fit rows-statable rule-0
+unfolding is-absent ref-or-none kind-by state-by var-by guard-by target-by trans-by owner-by act-by action-by
+    chart-by size-by rows-of chart-of state-statable var-statable trans-statable action-statable counts-fit rows-statable rule-0
 value-open = 0

@@ -200,7 +200,8 @@ operand-fits k left unused z = eqZ z (pos 0)
 
 unfoldable pub shape-fits : Counts → ℕ → Shape → List ℤ → Bool
 shape-fits k left no-shape row = false
-shape-fits k left (shape f g h) row = operand-fits k left f (num row 1) && (operand-fits k left g (num row 2) && operand-fits k left h (num row 3))
+shape-fits k left (shape f g h) row =
+    operand-fits k left f (num row 1) && (operand-fits k left g (num row 2) && operand-fits k left h (num row 3))
 
 -- the instruction that the row begins with
 unfoldable pub instr-fits : Counts → ℕ → List ℤ → Bool
@@ -245,5 +246,7 @@ well-formed ns =
 
 -- everything above, opened: for statements that compute
 unfoldable pub well-formed-open : ℕ
-unfolding counts-of heads-at code-at plan-end var-rows head-rows code-rows head-guard-by head-by instr-act-by instr-of instr-by plan-by counts-keep var-keeps head-guard-fits span-fits head-fits blocks-fill all-blocks-fill operand-fits shape-fits instr-fits left-after-each left-in-blocks code-fits rows-well-formed is-whole well-formed
+unfolding counts-of heads-at code-at plan-end var-rows head-rows code-rows head-guard-by head-by
+    instr-act-by instr-of instr-by plan-by counts-keep var-keeps head-guard-fits span-fits head-fits blocks-fill all-blocks-fill
+    operand-fits shape-fits instr-fits left-after-each left-in-blocks code-fits rows-well-formed is-whole well-formed
 well-formed-open = 0

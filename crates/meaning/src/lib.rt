@@ -1,5 +1,6 @@
 // The types that the definitions of document 01 speak of. There is no code here: specs/ says what 01 says.
 pub mod answers;
+pub mod bytes;
 pub mod chart;
 pub mod plan;
 

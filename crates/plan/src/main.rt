@@ -1,6 +1,7 @@
 // The plan program (01, "The plan"), for whoever ships widgets: reads chart.txt, a missing one as empty, and writes its plan: one line for
 // the six counts, one for each variable, head and instruction, numbers parted by single spaces; or `R`, answer and place where the text or
 // the chart is refused. It decides nothing itself: what a text and a chart give is said by the engine.
+use console::LF;
 use console::put;
 use console::put_digits;
 use console::put_numeral;
@@ -18,8 +19,6 @@ const LINE: usize = 120;
 const HEADER: usize = 6;
 
 const SPACE: u8 = 32;
-
-const LF: u8 = 10;
 
 const R: u8 = 82;
 

@@ -173,7 +173,8 @@ module _ {ns : List ℤ} {k : Counts} (x : Examined ns k) {base e : ℕ} (b : ba
 -- ---- along the places of one trigger
 
 -- the place under way, the end of the trigger's places, and the head that comes next
-pub record Turning (ns : List ℤ) (k : Counts) (base e : ℕ) (u : State) (links : List ℕ) (end i : ℕ) (picks : List ℕ) (count : ℕ) : Type 0 where
+pub record Turning (ns : List ℤ) (k : Counts) (base e : ℕ) (u : State) (links : List ℕ)
+    (end i : ℕ) (picks : List ℕ) (count : ℕ) : Type 0 where
   pub low : heads-below e (plan-by ns .heads) ≤ i
   pub high : i ≤ end
   pub ends : end ≡ heads-below (suc e) (plan-by ns .heads)

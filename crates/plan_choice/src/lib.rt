@@ -47,8 +47,10 @@ fn enabled(
     active: &[bool; STATES],
     vars: &[i32; VARIABLES],
 ) -> bool
-    requires { ⌜ (at + HEAD-ROW ≤ length (now plan)) × (source < states) × Reads (head-at (now plan) at .guard) × (source ≡ head-at (now plan) at .source) ⌝ }
-    ensures { λ r. ⌜ r ≡ head-enabled (head-at (now (plan .entry)) at .trigger) (seen (now (active .entry)) (now (vars .entry))) (head-at (now (plan .entry)) at) ⌝ }
+    requires { ⌜ (at + HEAD-ROW ≤ length (now plan))
+        × (source < states) × Reads (head-at (now plan) at .guard) × (source ≡ head-at (now plan) at .source) ⌝ }
+    ensures { λ r. ⌜ r ≡ head-enabled (head-at (now (plan .entry)) at .trigger)
+        (seen (now (active .entry)) (now (vars .entry))) (head-at (now (plan .entry)) at) ⌝ }
 {
     if !active[source] {
         return false;

@@ -16,7 +16,8 @@ use Rattle.laws.specs.Facts.{Each, none-left, one-more}
 use Rattle.meaning.specs.Lists.{every}
 use Rattle.meaning.specs.Rules.{row-fits}
 use Rattle.meaning.specs.Value.{count-fits, num, var-by, var-statable}
-use Rattle.meaning.specs.WellFormed.{SHAPES, Operand, INSTR-ROW, a-constant, a-parent, a-skip, a-state, a-variable, an-event, operand-fits, shape}
+use Rattle.meaning.specs.WellFormed.{SHAPES, Operand, INSTR-ROW, a-constant, a-parent, a-skip, a-state, a-variable, an-event}
+use Rattle.meaning.specs.WellFormed.{operand-fits, shape}
 use Rattle.meaning.specs.WellFormed.{shape-fits, head-by, head-fits, head-guard-by, head-guard-fits, instr-act-by, instr-by, instr-fits}
 use Rattle.meaning.specs.WellFormed.{instr-of, no-shape, one-of, span-fits, unused, var-keeps}
 use Rattle.meaning.specs.declared.chart.Guard.the-variants.{Always as always, Compares as compares}

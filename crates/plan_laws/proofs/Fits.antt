@@ -1,5 +1,5 @@
 -- What 01, "The plan", asks of a well-formed plan, said of the plan as data in plain facts, clause by clause: its instructions by
--- blocks, its heads, its variables, the whole plan. That the test of the numbers then passes is in Accepted. Assumes nothing.
+-- blocks, its heads, its variables, the whole plan. That the test of the numbers then passes is in Ruled. Assumes nothing.
 use mathlib.Core.Path.{_≡_}
 use Prim.Native.Nat.{_+_, _<_, _≤_, ℕ}
 use native.Mathlib.Omega.{arith}

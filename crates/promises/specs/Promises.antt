@@ -4,7 +4,6 @@
 use mathlib.Core.Path.{_≡_}
 use mathlib.Core.Bool.{Bool, true, false}
 use mathlib.Core.List.{List}
-use mathlib.Core.Option.{none}
 use Prim.Native.Nat.{ℕ}
 use lib.ListN.{length}
 use lib.IntN.{ℤ, pos}
@@ -28,10 +27,6 @@ use Rattle.meaning.specs.Calls.{called, lent as lent-trace, unstarted, start-of
 -- "3: a rule fails, the first named", its number as the place; else 0
 pub record Checked (v : List ℤ) (r : Answer) : Type 0 where
   pub result : r ≡ verdict (failing-rule-of v)
-
--- a chart value that the check accepts: R0 to R7 hold
-abbrev pub Accepted : List ℤ → Type 0
-Accepted v = failing-rule-of v ≡ none
 
 -- ---- chart text
 

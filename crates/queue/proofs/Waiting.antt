@@ -46,7 +46,11 @@ front-first (suc n) (x ∷ l) h k = refl
 -- a removal from a queue in which something waits, and from one in which nothing does
 module _ (q : Queue) where
   pub removed-front : 0 < q .len → q .len ≤ QUEUE
-      → removed q ≡ record { done = true; front = getD (q .items) 0 no-item; queue = record { len = q .len - 1; items = shifted (q .items) } }
+      → removed q ≡ record {
+        done = true;
+        front = getD (q .items) 0 no-item;
+        queue = record { len = q .len - 1; items = shifted (q .items) };
+      }
   unfolding removed
   removed-front h k = rw (ne-eqb (q .len) 0 (λ e. omega arith), le-ltb QUEUE (q .len) k)
 
@@ -59,7 +63,8 @@ module _ (q : Queue) where
   removed-waits h k l =
       let s : suc (q .len - 1) ≡ q .len = omega arith in
       rw (ne-eqb (q .len) 0 (λ e. omega arith), le-ltb QUEUE (q .len) k)
-      (take-append-le (q .len - 1) (drop 1 (q .items)) (no-item ∷ []) (rw length-drop (omega arith)) ∙ take-drop (q .len - 1) (q .items) ∙ rw s)
+      (take-append-le (q .len - 1) (drop 1 (q .items)) (no-item ∷ []) (rw length-drop (omega arith))
+      ∙ take-drop (q .len - 1) (q .items) ∙ rw s)
 
   -- what waited is the front that was handed out, and then what waits now
   pub removed-splits : 0 < q .len → q .len ≤ QUEUE → length (q .items) ≡ QUEUE

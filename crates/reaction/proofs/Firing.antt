@@ -18,7 +18,7 @@ use Rattle.laws.specs.Facts.{Target-facts}
 use Rattle.laws.proofs.Scope.{scope-facts}
 use Rattle.laws.proofs.Sound.{Sound-chart}
 use Rattle.sizes.specs.Sizes.{STATES}
-use Rattle.tree_walks.specs.Walks.{Ruled}
+use Rattle.meaning.specs.Rules.{Ruled}
 use Rattle.tree_walks.proofs.On.{end-within}
 use Rattle.ways.specs.Aims.{aim-by, top-of, Found}
 use Rattle.tree_walks.proofs.Passing.{sound}

@@ -14,7 +14,7 @@ use Rattle.meaning.specs.Widget.{Ctx}
 use Rattle.laws.proofs.Steps.{Holds}
 use Rattle.laws.proofs.Value.{Sized-chart, sized-chart}
 use Rattle.laws.proofs.Stays.{Stays}
-use Rattle.tree_walks.specs.Walks.{Ruled}
+use Rattle.meaning.specs.Rules.{Ruled}
 use Rattle.tree_walks.proofs.Passing.{rules-passed}
 use Rattle.widget.specs.View.{Lent, Whole, ctx, went, Did}
 use Rattle.widget.specs.declared.Went.{Went}

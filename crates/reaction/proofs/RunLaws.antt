@@ -29,7 +29,7 @@ use Rattle.meaning.specs.Reaction.{step, settle}
 use Rattle.meaning.specs.Foreign.{own, queue-fits}
 use Rattle.meaning.specs.Calls.{refused, outcome, tests, take-front, react, run, called, lent}
 use Rattle.laws.proofs.Lists.{and-left, le-or-lt}
-use Rattle.tree_walks.specs.Walks.{Ruled}
+use Rattle.meaning.specs.Rules.{Ruled}
 use Rattle.tree_walks.proofs.Passing.{sound}
 use Rattle.widget.specs.View.{Lent, all-lent, ctx, tracing, went, Did}
 use Rattle.widget.specs.declared.Went.{Went}

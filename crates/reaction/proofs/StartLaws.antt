@@ -28,7 +28,7 @@ use Rattle.meaning.specs.Calls.{fresh, start-steps, start, outcome, called, len
 use Rattle.laws.proofs.Stays.{Stays, each-stays}
 use Rattle.laws.proofs.Value.{getD-map}
 use Rattle.laws.proofs.Ways.{defaults-sound}
-use Rattle.tree_walks.specs.Walks.{Ruled}
+use Rattle.meaning.specs.Rules.{Ruled}
 use Rattle.tree_walks.proofs.Passing.{sound}
 use Rattle.widget.specs.View.{Lent, all-lent, ctx, tracing, went, Did}
 use Rattle.widget.specs.declared.Went.{Went}

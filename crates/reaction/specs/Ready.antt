@@ -8,7 +8,7 @@ use lib.IntN.{ℤ}
 use Rattle.sizes.specs.Sizes.{TRANSITIONS}
 use Rattle.meaning.specs.Chart.{Chart}
 use Rattle.meaning.specs.Value.{chart-of}
-use Rattle.tree_walks.specs.Walks.{Ruled}
+use Rattle.meaning.specs.Rules.{Ruled}
 use Rattle.widget.specs.View.{Lent, Whole, ctx}
 use Rattle.laws.specs.Facts.{Each}
 use Rattle.invariants.specs.Good.{Good}

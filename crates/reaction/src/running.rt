@@ -23,7 +23,7 @@ ghost use Rattle.meaning.specs.Steps.{_then_};
 ghost use Rattle.meaning.specs.Reaction.{step as one-step, settle as settles};
 ghost use Rattle.meaning.specs.Calls.{called, lent, run as runs};
 ghost use Rattle.meaning.specs.Value.{chart-of};
-ghost use Rattle.tree_walks.specs.Walks.{Ruled};
+ghost use Rattle.meaning.specs.Rules.{Ruled};
 ghost use Rattle.widget.specs.View.{all-lent, Did};
 ghost use Rattle.acts.specs.Index.{Indexed};
 ghost use Rattle.reaction.specs.Ready.{Ready};

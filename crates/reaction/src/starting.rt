@@ -21,7 +21,7 @@ ghost use mathlib.Core.List.{map};
 ghost use lib.ListN.{length};
 ghost use Rattle.meaning.specs.Calls.{called, lent, fresh, start-steps, start as starts};
 ghost use Rattle.meaning.specs.Value.{chart-of};
-ghost use Rattle.tree_walks.specs.Walks.{Ruled};
+ghost use Rattle.meaning.specs.Rules.{Ruled};
 ghost use Rattle.widget.specs.View.{all-lent, Did};
 ghost use Rattle.acts.specs.Index.{Indexed};
 ghost use Rattle.reaction.specs.Ready.{Ready};

@@ -150,7 +150,8 @@ module _ {p : Plan} {u : State} (h : Starts p u) (z : Sized u) {ns : List ℤ} (
         let s = ap (λ v. through p (length t) v (take d xs)) (widget-is h z l t) ∙ w .broken y .ends in
         absurd (w .broken y .refused (ap (λ (c : Course). c .number) (sym s) ∙ b .done))
 
-    module _ {x : Item} (i : getD xs d no-item ≡ x) (ms : List ℤ) (q : queue-by ms ≡ appended (queue-by (k .queue)) (x .event) (x .arg) .queue)
+    module _ {x : Item} (i : getD xs d no-item ≡ x) (ms : List ℤ)
+        (q : queue-by ms ≡ appended (queue-by (k .queue)) (x .event) (x .arg) .queue)
       where
         after-is : post-on p (getD xs d no-item) (through p (length t) u (take d xs) .after) ≡ post-on p x (widget k)
         after-is = ap (λ y. post-on p y (through p (length t) u (take d xs) .after)) i ∙ ap (post-on p x) (again (g .posted) refl)

@@ -41,7 +41,8 @@ length-written d now q x k l e f =
       append-assoc (take LENGTH-AT d) (take QUEUE-NUMBERS (numbers-of q)) (drop (LENGTH-AT + QUEUE-NUMBERS) d),
       append-assoc (take LENGTH-AT d) (take QUEUE-NUMBERS (small (q .len) ∷ item-numbers (q .items))) (drop (LENGTH-AT + QUEUE-NUMBERS) d),
     )
-    (set-at (take LENGTH-AT d) (pos (told-length (q .len))) (take (2 * QUEUE) (item-numbers (q .items)) ++ drop (LENGTH-AT + QUEUE-NUMBERS) d)
+    (set-at (take LENGTH-AT d) (pos (told-length (q .len)))
+    (take (2 * QUEUE) (item-numbers (q .items)) ++ drop (LENGTH-AT + QUEUE-NUMBERS) d)
     (small (q .len)) LENGTH-AT at)
 
 -- too few numbers stay
@@ -92,7 +93,8 @@ module _ (u : State) (z : Sized u) (ns : List ℤ) (l : STATE-NUMBERS ≤ length
       e3 ∙ paste-next (marks ++ u .slots) ns (u .vars) n2 VARS-AT VARIABLES f2 (omega (arith, z .active, z .slots))
       (omega (arith, z .vars)) in
       let f4 =
-      e4 ∙ paste-next (marks ++ u .slots ++ u .vars) ns (small (u .queue .len) ∷ item-numbers (u .queue .items)) n3 LENGTH-AT QUEUE-NUMBERS f3
+      e4 ∙ paste-next (marks ++ u .slots ++ u .vars)
+      ns (small (u .queue .len) ∷ item-numbers (u .queue .items)) n3 LENGTH-AT QUEUE-NUMBERS f3
       (omega (arith, z .active, z .slots, z .vars)) (omega (arith, z .items)) in
       let all : length (marks ++ u .slots ++ u .vars ++ (small (u .queue .len) ∷ item-numbers (u .queue .items))) ≡ STATE-NUMBERS =
       omega (arith, z .active, z .slots, z .vars, z .items) in

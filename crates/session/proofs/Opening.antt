@@ -15,7 +15,7 @@ use Rattle.meaning.specs.Rules.{failing-rule}
 use Rattle.meaning.specs.Calls.{start, unstarted}
 use Rattle.meaning.specs.Text.{Outcome, done, refused, answer-of, lent, lent-numbers, read, read-text, checked, checked-if, by-rule}
 use Rattle.meaning.specs.Program.{ROOM, reported, do-line, output-by, output}
-use Rattle.promises.specs.Promises.{Accepted}
+use Rattle.meaning.specs.Rules.{Ruled}
 use Rattle.reader.proofs.ReadLaws.{read-never-zero}
 use Rattle.round_trip.proofs.Round.{read-then-rules, passes}
 use Rattle.round_trip.proofs.Values.{enough}
@@ -67,7 +67,7 @@ module _ (text : List ℕ) (a : Answer) (l : List ℤ) (e : a ≡ answer-of (rea
     v : List ℤ
     is : read text VALUE ≡ done v
     here : l ≡ v
-    ruled : Accepted v
+    ruled : Ruled v
 
   read-done : Read
   unfolding lent-numbers lent
@@ -79,7 +79,7 @@ module _ (text : List ℕ) (a : Answer) (l : List ℤ) (e : a ≡ answer-of (rea
           let y : n ≡ 0 = sym (ap (λ x. x .number) e) ∙ z in
           absurd (never-zero text VALUE p (s ∙ ap (λ b. refused b p) y))
 
-  pub read-ruled : Accepted l
+  pub read-ruled : Ruled l
   read-ruled = rw (read-done .here) (read-done .ruled)
 
   pub open-started : (before after : List ℕ) (at : ℕ) (r : Opened) → r .going ≡ true
@@ -96,7 +96,7 @@ module _ (l : List ℤ) (before after : List ℕ) (at : ℕ) (r : Opened) where
   opens-whole (refused n p) w = w .went .whole
   opens-whole (done v) w = w .went .whole
 
-  pub opens-ruled : (o : Outcome (List ℤ)) → Opens o l before at after r → r .going ≡ true → Accepted l
+  pub opens-ruled : (o : Outcome (List ℤ)) → Opens o l before at after r → r .going ≡ true → Ruled l
   unfolding Opens
   opens-ruled (refused n p) w h = absurd (false≢true (sym (w .going) ∙ h))
   opens-ruled (done v) w h = rw (w .value) (w .ruled)

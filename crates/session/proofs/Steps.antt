@@ -19,7 +19,8 @@ use Rattle.meaning.specs.Widget.{Ctx, ENTRY}
 use Rattle.meaning.specs.Value.{chart-of}
 use Rattle.meaning.specs.Calls.{Outcome, called, lent, outcome, refused, start, post, run, start-of, run-of}
 use Rattle.meaning.specs.Program.{ROOM, report, reported, do-line, after-post}
-use Rattle.promises.specs.Promises.{Accepted, Started, Ran}
+use Rattle.meaning.specs.Rules.{Ruled}
+use Rattle.promises.specs.Promises.{Started, Ran}
 use Rattle.chart_engine.proofs.ByRules.{start-on, run-on}
 use Rattle.console.specs.declared.scan.Scan.{Scan}
 use Rattle.console.specs.Scan.{empty, line-at, began}
@@ -50,7 +51,7 @@ module _ (before after : List ℕ) (at to : ℕ) where
   }
 
   -- a start and a run on a chart that was accepted
-  module _ (v : List ℤ) (u : State) (h : Accepted v) (t l : List ℤ) (j : length t ≡ ROOM) (k : length l ≡ ROOM) (r : Called)
+  module _ (v : List ℤ) (u : State) (h : Ruled v) (t l : List ℤ) (j : length t ≡ ROOM) (k : length l ≡ ROOM) (r : Called)
       (w : Reported (r .answer .number) (r .entries) l before at after to) where
     pub start-went : Started v u t r l → Went (reported (start (chart-of v) u ROOM)) before at after (record { state = r .state; at = to })
     start-went p =
@@ -106,7 +107,8 @@ module _ (c : Chart) (u : State) (l : Input) (before after : List ℕ) (at : ℕ
         let k : post c u e a .number ≡ 0 → ⊥ = λ z. h (ap (λ x. x .answer .number) posted ∙ z) in
         rw (is, after-refused c (post c u e a) k, post-quiet c u e a k) (rw posted at w)
 
-    pub turn-ran : p .answer .number ≡ 0 → Went (reported (run c (p .state) ROOM)) before at after r → Went (do-line c u l) before at after r
+    pub turn-ran : p .answer .number ≡ 0 → Went (reported (run c (p .state) ROOM)) before at after r
+        → Went (do-line c u l) before at after r
     unfolding do-line called
     turn-ran h w = rw (is, after-done c (post c u e a) (sym (ap (λ x. x .answer .number) posted) ∙ h)) (rw posted at w)
 

@@ -11,7 +11,7 @@ use Rattle.meaning.specs.Value.{chart-of}
 use Rattle.meaning.specs.Calls.{start, unstarted}
 use Rattle.meaning.specs.Text.{Outcome, done, refused}
 use Rattle.meaning.specs.Program.{ENTRIES, ROOM, Turn, report, reported}
-use Rattle.promises.specs.Promises.{Accepted}
+use Rattle.meaning.specs.Rules.{Ruled}
 use Rattle.pen.specs.Pen.{pen, put-all}
 use Rattle.console.specs.Shown.{HEAD, LINE}
 use Rattle.console.specs.Session.{Passed}
@@ -46,7 +46,7 @@ pub record Ends (n : ℕ) (before : List ℕ) (at : ℕ) (after : List ℕ) (r :
 pub record Starts (v chart : List ℤ) (before : List ℕ) (at : ℕ) (after : List ℕ) (r : Opened) : Type 0 where
   pub going : r .going ≡ true
   pub value : chart ≡ v
-  pub ruled : Accepted v
+  pub ruled : Ruled v
   pub went : Went (reported (start (chart-of v) unstarted ROOM)) before at after (turned r)
 
 unfoldable pub Opens : Outcome (List ℤ) → List ℤ → List ℕ → ℕ → List ℕ → Opened → Type 0

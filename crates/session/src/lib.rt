@@ -12,7 +12,7 @@ use meaning::answers::WRONG_LINE;
 use sizes::ENTRY;
 ghost use mathlib.Core.Path.{_≡_};
 ghost use lib.ListN.{length};
-ghost use Rattle.promises.specs.Promises.{Accepted};
+ghost use Rattle.meaning.specs.Rules.{Ruled};
 ghost use Rattle.meaning.specs.Value.{VALUE, chart-of};
 ghost use Rattle.meaning.specs.Calls.{start as starts, run as runs, unstarted as none};
 ghost use Rattle.meaning.specs.Text.{read};
@@ -71,7 +71,7 @@ pub fn refusal(number: usize, state: State, out: &mut [u8], at: usize) -> Turned
 
 // "it starts"
 pub fn started(chart: &[i32], out: &mut [u8], at: usize, trace: &mut [i32]) -> Turned
-    requires { ⌜ Accepted (now chart) × (length (now trace) ≡ Room) ⌝ }
+    requires { ⌜ Ruled (now chart) × (length (now trace) ≡ Room) ⌝ }
     ensures { λ r. ⌜ Went (reported (starts (chart-of (now (chart .entry))) none Room)) (now (out .entry)) at (now (out .exit)) r ⌝ }
 {
     let called = engine::checked::start_checked(chart, engine::unstarted(), trace);
@@ -116,7 +116,7 @@ pub fn begin(
 
 // "runs each line": the run of the front event.
 fn ran(chart: &[i32], state: State, out: &mut [u8], at: usize, trace: &mut [i32]) -> Turned
-    requires { ⌜ Accepted (now chart) × (length (now trace) ≡ Room) ⌝ }
+    requires { ⌜ Ruled (now chart) × (length (now trace) ≡ Room) ⌝ }
     ensures { λ r. ⌜ Went (reported (runs (chart-of (now (chart .entry))) state Room)) (now (out .entry)) at (now (out .exit)) r ⌝ }
 {
     let called = engine::checked::run_checked(chart, state, trace);
@@ -138,7 +138,7 @@ pub fn turn(
     at: usize,
     trace: &mut [i32],
 ) -> Turned
-    requires { ⌜ Accepted (now chart) × (length (now trace) ≡ Room) ⌝ }
+    requires { ⌜ Ruled (now chart) × (length (now trace) ≡ Room) ⌝ }
     ensures { λ r. ⌜ Went (turn-of (chart-of (now (chart .entry))) state line) (now (out .entry)) at (now (out .exit)) r ⌝ }
 {
     match line {
@@ -165,7 +165,7 @@ fn line_ends(
     at: usize,
     trace: &mut [i32],
 ) -> Under
-    requires { ⌜ Accepted (now chart) × (length (now trace) ≡ Room) ⌝ }
+    requires { ⌜ Ruled (now chart) × (length (now trace) ≡ Room) ⌝ }
     ensures { λ r. ⌜ Passes (ended (turn-of (chart-of (now (chart .entry))) state (line-at scan)))
         (now (out .entry)) at (now (out .exit)) r ⌝ }
 {
@@ -199,7 +199,7 @@ pub fn walk(
     out: &mut [u8],
     trace: &mut [i32],
 ) -> Walked
-    requires { ⌜ Accepted (now chart) × (length (now trace) ≡ Room) ⌝ }
+    requires { ⌜ Ruled (now chart) × (length (now trace) ≡ Room) ⌝ }
     ensures { λ r. ⌜ Walks (turn-of (chart-of (now (chart .entry))))
         (now (part .entry)) from (seen under) (now (out .entry)) (under .at) (now (out .exit)) r ⌝ }
 {
@@ -234,7 +234,7 @@ pub fn walk(
 
 // The end of the input: "The last line may lack its LF".
 pub fn finish(chart: &[i32], under: Under, out: &mut [u8], trace: &mut [i32]) -> Under
-    requires { ⌜ Accepted (now chart) × (length (now trace) ≡ Room) ⌝ }
+    requires { ⌜ Ruled (now chart) × (length (now trace) ≡ Room) ⌝ }
     ensures { λ r. ⌜ Passes (finished (turn-of (chart-of (now (chart .entry)))) (seen under))
         (now (out .entry)) (under .at) (now (out .exit)) r ⌝ }
 {

@@ -17,7 +17,7 @@ ghost use Prim.Native.Nat.{_+_, _≤_};
 ghost use lib.ListN.{length};
 ghost use Rattle.meaning.specs.Value.{chart-of};
 ghost use Rattle.meaning.specs.Program.{ROOM as Room, do-line};
-ghost use Rattle.promises.specs.Promises.{Accepted};
+ghost use Rattle.meaning.specs.Rules.{Ruled};
 ghost use Rattle.session.specs.Turned.{LARGEST as Largest, seen};
 ghost use Rattle.session.specs.Walked.{Fed};
 
@@ -48,7 +48,7 @@ fn with_room(out: &[u8], at: usize) -> usize
 
 // All bytes of a part of the input, in as many walks as the room needs: what was collected is written between them.
 fn feed_all(chart: &[i32], part: &[u8], under: Under, out: &mut [u8], trace: &mut [i32]) -> Under
-    requires { ⌜ Accepted (now chart) × (under .at + Largest ≤ length (now out)) × (length (now trace) ≡ Room) ⌝ }
+    requires { ⌜ Ruled (now chart) × (under .at + Largest ≤ length (now out)) × (length (now trace) ≡ Room) ⌝ }
     ensures { λ r. ⌜ Fed (do-line (chart-of (now (chart .entry)))) (now (part .entry)) (seen under) (now (out .exit)) r ⌝ }
 {
     let mut now = under;
@@ -70,7 +70,7 @@ fn feed_all(chart: &[i32], part: &[u8], under: Under, out: &mut [u8], trace: &mu
 
 // One part of the input.
 fn read_some(chart: &[i32], under: Under, out: &mut [u8], trace: &mut [i32]) -> Part
-    requires { ⌜ Accepted (now chart) × (under .at + Largest ≤ length (now out)) × (length (now trace) ≡ Room) ⌝ }
+    requires { ⌜ Ruled (now chart) × (under .at + Largest ≤ length (now out)) × (length (now trace) ≡ Room) ⌝ }
     ensures { λ r. ⌜ r .under .at + Largest ≤ length (now (out .exit)) ⌝ }
 {
     let mut buffer = io::large_buffer();
@@ -90,7 +90,7 @@ fn read_some(chart: &[i32], under: Under, out: &mut [u8], trace: &mut [i32]) -> 
 
 // All of the input. A proved loop has to end, and nothing says that the input does: the count of parts is larger than any.
 fn read_all(chart: &[i32], under: Under, out: &mut [u8], trace: &mut [i32]) -> Under
-    requires { ⌜ Accepted (now chart) × (under .at + Largest ≤ length (now out)) × (length (now trace) ≡ Room) ⌝ }
+    requires { ⌜ Ruled (now chart) × (under .at + Largest ≤ length (now out)) × (length (now trace) ≡ Room) ⌝ }
     ensures { λ r. ⌜ r .at + Largest ≤ length (now (out .exit)) ⌝ }
 {
     let mut now = under;
@@ -109,7 +109,7 @@ fn read_all(chart: &[i32], under: Under, out: &mut [u8], trace: &mut [i32]) -> U
 
 // "then posts and runs each line"
 fn run_session(chart: &[i32], state: State, at: usize, out: &mut [u8], trace: &mut [i32])
-    requires { ⌜ Accepted (now chart) × (at ≤ length (now out)) × (Largest ≤ length (now out)) × (length (now trace) ≡ Room) ⌝ }
+    requires { ⌜ Ruled (now chart) × (at ≤ length (now out)) × (Largest ≤ length (now out)) × (length (now trace) ≡ Room) ⌝ }
 {
     let first = Under {
         state: state,

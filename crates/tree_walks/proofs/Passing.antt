@@ -15,7 +15,8 @@ use Rattle.meaning.specs.Tree.{parent-of, kind-of, is-o, ancestors, descendants
 use Rattle.meaning.specs.declared.chart.Kind.{Kind}
 use Rattle.meaning.specs.Rules.{after-rule-0, failing-rule, failing-rule-of}
 use Rattle.meaning.specs.Value.{chart-of, rule-0}
-use Rattle.tree_walks.specs.Walks.{Ruled, path-child}
+use Rattle.meaning.specs.Rules.{Ruled}
+use Rattle.tree_walks.specs.Walks.{path-child}
 use Rattle.tree_walks.proofs.Up.{parent-falls, path-none, path-here, path-up, scope-root, scope-here, scope-up-kind, scope-up}
 use Rattle.tree_walks.proofs.On.{end-here, end-more, end-last}
 

@@ -1,20 +1,12 @@
--- What the walks ask and give (01, "Firing"): a chart that passes the rules, and the child on the way to a target. Assumes nothing.
-use mathlib.Core.Path.{_≡_}
+-- What the walks ask and give (01, "Firing"): the child on the way to a target. Assumes nothing.
 use Prim.Native.Nat.{ℕ}
 use mathlib.Core.Bool.{cond}
-use mathlib.Core.List.{List, _∷_}
-use mathlib.Core.Option.{none}
-use lib.IntN.{ℤ}
+use mathlib.Core.List.{_∷_}
 use Rattle.numbers.specs.declared.Place.{Place}
 use Rattle.numbers.specs.declared.Place.the-variants.{Empty, At}
 use Rattle.meaning.specs.Lists.{has, first-that}
 use Rattle.meaning.specs.Chart.{Chart}
 use Rattle.meaning.specs.Tree.{ancestors, is-child}
-use Rattle.meaning.specs.Rules.{failing-rule-of}
-
--- the chart passes the rules, R0 to R7
-abbrev pub Ruled : List ℤ → Type 0
-Ruled v = failing-rule-of v ≡ none
 
 -- "the path from below the scope to the target": the child of s on it, where s is a proper ancestor of t
 unfoldable pub path-child : Chart → ℕ → ℕ → Place

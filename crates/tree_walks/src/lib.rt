@@ -11,7 +11,8 @@ ghost use Prim.Native.Nat.{suc, _+_, _<_};
 ghost use lib.ListN.{length};
 ghost use Rattle.meaning.specs.Tree.{descendants, scope as scope-of};
 ghost use Rattle.meaning.specs.Value.{chart-of};
-ghost use Rattle.tree_walks.specs.Walks.{Ruled, path-child};
+ghost use Rattle.meaning.specs.Rules.{Ruled};
+ghost use Rattle.tree_walks.specs.Walks.{path-child};
 
 // The first number past the proper descendants of s: they are the numbers that follow it.
 pub fn end_below(chart: &[i32], s: usize) -> usize

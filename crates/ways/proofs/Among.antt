@@ -24,7 +24,8 @@ use Rattle.meaning.specs.Entry.{towards-owner}
 use Rattle.meaning.specs.Lists.{concat-map, from, keep, has, first-that}
 use Rattle.meaning.specs.Tree.{kind-of, default-child, is-child, children, all-states, ancestors}
 use Rattle.meaning.specs.Value.{chart-of}
-use Rattle.tree_walks.specs.Walks.{Ruled, path-child}
+use Rattle.meaning.specs.Rules.{Ruled}
+use Rattle.tree_walks.specs.Walks.{path-child}
 use Rattle.tree_walks.proofs.Passing.{sound}
 use Rattle.ways.proofs.Levels.{all-goes}
 use Rattle.ways.specs.Ways.{way-by, slot-of, stored-way, goal-way, course-way, defaulting, visit-as, On-child, Inside, Bound, Led}

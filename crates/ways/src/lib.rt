@@ -16,9 +16,10 @@ ghost use Rattle.sizes.specs.Sizes.{STATES as states};
 ghost use Rattle.meaning.specs.Tree.{kind-of as kind-in};
 ghost use Rattle.meaning.specs.Value.{chart-of};
 ghost use Rattle.meaning.specs.Entry.{towards};
-ghost use Rattle.tree_walks.specs.Walks.{Ruled};
+ghost use Rattle.meaning.specs.Rules.{Ruled};
 ghost use Rattle.ways.specs.Aims.{aim-by, aimed-at};
-ghost use Rattle.ways.specs.Ways.{way-by, slot-of as slot-in, stored-way, goal-way, course-way, restoring, onward-goal, onward-from, defaulting, On-child, Kids};
+ghost use Rattle.ways.specs.Ways.{way-by, slot-of as slot-in, stored-way, goal-way, course-way, restoring, onward-goal};
+ghost use Rattle.ways.specs.Ways.{onward-from, defaulting, On-child, Kids};
 
 // How an o state goes on: with one child, with its default, or not at all.
 pub enum Next {

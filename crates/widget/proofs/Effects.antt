@@ -11,7 +11,8 @@ use Rattle.queue.proofs.Numbers.{Appends}
 use Rattle.numbers.specs.declared.Place.{Place as Slot}
 use Rattle.numbers.specs.declared.Place.the-variants.{Empty as empty, At as holds}
 use Rattle.meaning.specs.Steps.{ok, Step, bind, _then_, require, look}
-use Rattle.meaning.specs.Widget.{Ctx, Entry, left, entered, changed, sent, told, taken, numbers, emit, change, set-active, set-slot, set-value, set-queue, value-at}
+use Rattle.meaning.specs.Widget.{Ctx, Entry, left, entered, changed, sent, told, taken, numbers, emit, change, set-active}
+use Rattle.meaning.specs.Widget.{set-slot, set-value, set-queue, value-at}
 use Rattle.numbers.specs.Hold.{holdZ}
 use Rattle.meaning.specs.declared.chart.VarRow.{VarRow}
 use Rattle.meaning.specs.declared.chart.Act.{Act}

@@ -16,6 +16,7 @@ use forms::SAQ;
 use forms::SIGN;
 use forms::STATE;
 use forms::TURN;
+use meaning::bytes::TAB;
 use numbers::reference;
 use pen::put;
 use pen::put_digits;
@@ -31,8 +32,6 @@ ghost use Rattle.meaning.specs.Line.{write-field};
 ghost use Rattle.forms.specs.Table.{field-of};
 ghost use Rattle.pen.specs.Pen.{pen, put-all};
 ghost use Rattle.round_trip.proofs.Fields.{tells};
-
-const TAB: u8 = 9;
 
 const MINUS: u8 = 45;
 

@@ -24,6 +24,7 @@ use forms::field;
 use forms::skip;
 use forms::step;
 use forms::width;
+use meaning::bytes::LF;
 use pen::put;
 use sizes::ACTIONS;
 use sizes::STATES;
@@ -40,8 +41,6 @@ ghost use Rattle.meaning.specs.Line.{write-by, text-of-row};
 ghost use Rattle.meaning.specs.Text.{text-of};
 ghost use Rattle.pen.specs.Pen.{pen, put-all};
 ghost use Rattle.writer.specs.Row.{with-lf, line-at, Statable, Stated};
-
-const LF: u8 = 10;
 
 // The fields of record n of the kind that a letter names, each with a tab in front: its row stands from a place on.
 fn put_fields(chart: &[i32], from: usize, kind: u8, n: usize, text: &mut [u8], p: usize) -> usize

@@ -27,7 +27,8 @@ returns-3 : tie.Need-returns-3
 returns-3 c =
     let s = c .before .before .before .before .before .before in
     let h : s .args .from < s .args .to = omega arith in
-    c .plain-of .ensures ∙ ap with-no-sign (c .before .natural2 .ensures) ∙ sym (num-plain _ _ _ h (s .pre .1) (c .before .before .if2 .left))
+    c .plain-of .ensures ∙ ap with-no-sign (c .before .natural2 .ensures)
+    ∙ sym (num-plain _ _ _ h (s .pre .1) (c .before .before .if2 .left))
 
 pub number-spec : {M : Type 1} → statement M
 number-spec =

@@ -16,7 +16,8 @@ use Rattle.plan_choice.specs.Links.{SOURCES, STARTS, Linked}
 use Rattle.plan_choice.proofs.Facts.{counts-sized, head-whole, head-names, head-spanned}
 use Rattle.plan_choice.proofs.Lining.{examined-own}
 use Rattle.plan_choice.proofs.Filling.{starts-within}
-use Rattle.plan_choice.proofs.Loop.{Turning, turn-begin, turn-few, turn-names, turn-source, turn-head, turn-off, turn-clash, turn-take}
+use Rattle.plan_choice.proofs.Loop.{Turning, turn-begin, turn-few, turn-names, turn-source, turn-head, turn-off}
+use Rattle.plan_choice.proofs.Loop.{turn-clash, turn-take}
 use Rattle.plan_choice.proofs.Loop.{turn-end, chose-foreign}
 use Rattle.plan_choice.proofs.choose.Statement.{statement}
 use Rattle.plan_choice.proofs.choose.Tie as tie

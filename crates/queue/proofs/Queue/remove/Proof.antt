@@ -45,8 +45,10 @@ loop-holds c = (lit≤ tt, refl)
 loop-again : tie.Need-loop-again Inv-loop μ-loop
 loop-again c =
     let l = c .before .before .before .before .before .before .args .t1 .items in
-    let h = long (c .before .before .before .before .before .before) in
-    (omega arith, rw (c .before .before .loop .inv .1) (shifted-suc free l (c .before .before .loop .i) no-item (omega arith) (omega arith)))
+    let h = long (c .before .before .before .before .before .before) in (
+      omega arith,
+      rw (c .before .before .loop .inv .1) (shifted-suc free l (c .before .before .loop .i) no-item (omega arith) (omega arith)),
+    )
 
 returns-3 : tie.Need-returns-3 Inv-loop μ-loop
 unfolding removed

@@ -59,7 +59,9 @@ loop-again : tie.Need-loop-again Inv-loop μ-loop
 loop-again c =
     let w = c .before .before .before .loop in (
       omega arith,
-      λ u e. upto-more (legal-at (chart-of (c .before .before .before .before .before .before .before .before .before .before .args .chart .now)) u) (c .before .before .before .before .before .before .before .state-count .result) (w .s) (w .inv .1 u e)
+      λ u e. upto-more
+          (legal-at (chart-of (c .before .before .before .before .before .before .before .before .before .before .args .chart .now)) u)
+          (c .before .before .before .before .before .before .before .state-count .result) (w .s) (w .inv .1 u e)
           (c .before .before .loop-test .taken) (sym (c .before .legal-at .ensures u e) ∙ not-false _ (c .if2 .left)),
     )
 

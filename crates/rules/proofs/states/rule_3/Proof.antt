@@ -34,7 +34,8 @@ count-children-requires c κs = search needs
 
 loop-holds : tie.Need-loop-holds Inv-loop μ-loop
 unfolding rule-3 all-states
-loop-holds c = all-start (tried (chart-of (c .before .before .before .before .args .chart .now))) (length (chart-of (c .before .before .before .before .args .chart .now) .states))
+loop-holds c = all-start (tried (chart-of (c .before .before .before .before .args .chart .now)))
+    (length (chart-of (c .before .before .before .before .args .chart .now) .states))
 
 kind-of-requires : tie.Need-kind-of-requires Inv-loop μ-loop
 kind-of-requires c κs = search needs
@@ -57,7 +58,10 @@ returns c =
     let w = c .before .before .before .before .loop in
     let f = c .before .before .before .before .before .before .before .count-children in
     all-stop (tried k) (length (k .states)) (w .s) (omega arith)
-    (refuted (c .before .children-fit .ensures ∙ rw (c .before .before .kind-of .ensures) (counted-fits k (f .result .counts) (f .result .plain) (w .s) (f .ensures) (omega (arith, states-most (c .before .before .before .before .before .before .before .before .before .args .chart .now))))) (c .if1 .taken)) (w .inv)
+    (refuted (c .before .children-fit .ensures
+    ∙ rw (c .before .before .kind-of .ensures) (counted-fits k (f .result .counts) (f .result .plain) (w .s) (f .ensures)
+    (omega (arith, states-most (c .before .before .before .before .before .before .before .before .before .args .chart .now)))))
+    (c .if1 .taken)) (w .inv)
 
 add-s : tie.Need-add-s Inv-loop μ-loop
 add-s c = omega arith
@@ -71,7 +75,10 @@ loop-again c =
     let w = c .before .before .before .before .loop in
     let f = c .before .before .before .before .before .before .before .count-children in
     all-next (tried k) (length (k .states)) (w .s) (omega arith)
-    (held (c .before .children-fit .ensures ∙ rw (c .before .before .kind-of .ensures) (counted-fits k (f .result .counts) (f .result .plain) (w .s) (f .ensures) (omega (arith, states-most (c .before .before .before .before .before .before .before .before .before .args .chart .now))))) (c .if1 .left)) (w .inv)
+    (held (c .before .children-fit .ensures
+    ∙ rw (c .before .before .kind-of .ensures) (counted-fits k (f .result .counts) (f .result .plain) (w .s) (f .ensures)
+    (omega (arith, states-most (c .before .before .before .before .before .before .before .before .before .args .chart .now)))))
+    (c .if1 .left)) (w .inv)
 
 returns-2 : tie.Need-returns-2 Inv-loop μ-loop
 returns-2 c =

@@ -26,7 +26,8 @@ loop-again : tie.Need-loop-again Inv-loop μ-loop
 loop-again c =
     let at = c .before .before .before in
     ap (λ b. (at .loop .fit && b) && every is-none (drop (at .loop .i + 1) (at .before .args .t1 .items))) (c .is-free .ensures)
-    ∙ every-and is-none (at .before .args .t1 .items) (at .loop .i) (at .loop .fit) no-item (at .loop .inv) (omega (arith, long (at .before)))
+    ∙ every-and is-none (at .before .args .t1 .items)
+    (at .loop .i) (at .loop .fit) no-item (at .loop .inv) (omega (arith, long (at .before)))
 
 returns : tie.Need-returns Inv-loop μ-loop
 returns c =
