@@ -6,9 +6,6 @@ use borrow.Author.Needs.{needs}
 use Rattle.plan_vectors.proofs.charts.run_chart.Statement.{statement}
 use Rattle.plan_vectors.proofs.charts.run_chart.Tie as tie
 
-large-buffer-requires : tie.Need-large-buffer-requires
-large-buffer-requires c κs = search needs
-
 slice-aggregate-load : tie.Need-slice-aggregate-load
 slice-aggregate-load c = search needs
 
@@ -46,7 +43,6 @@ pub run-chart-spec : {M : Type 1} → statement M
 run-chart-spec =
     tie.close
     (tie.spec
-    large-buffer-requires
     slice-aggregate-load
     load-requires
     slice-aggregate-wanted-by
