@@ -9,7 +9,8 @@ use mathlib.Core.List.{List, [], _++_, _∷_, reverse}
 use lib.ListN.{length}
 use lib.Dec.{eqb}
 use borrow.Author.Tests.{eqb-true}
-use Rattle.laws.proofs.Lists.{each-both, each-joined, each-kept, each-range, each-weaker, or-cases}
+use Rattle.laws.proofs.Lists.{each-both, each-joined, each-kept, each-range, each-weaker, or-cases, or-off, or-off-left, or-off-right}
+use Rattle.laws.proofs.Ranges.{has-joined}
 use Rattle.laws.specs.Facts.{Each, none-left, one-more}
 use Rattle.meaning.specs.Chart.{Chart}
 use Rattle.meaning.specs.Lists.{concat-map, exists, from, has, keep}

@@ -19,6 +19,7 @@ use Rattle.invariants.proofs.GoodReaction.{fire-good}
 use Rattle.invariants.proofs.Keeps.{Gives, emit-keeps, gives-bind, gives-holds, gives-map}
 use Rattle.laws.proofs.Lists.{and-both, and-left, and-right, each-weaker, or-left}
 use Rattle.laws.specs.Facts.{Each, Target-facts, Under, child, deeper, none-left, one-more}
+use Rattle.laws.proofs.Ranges.{has-in}
 use Rattle.laws.proofs.Scope.{scope-facts}
 use Rattle.laws.proofs.Sound.{Sound-chart}
 use Rattle.laws.proofs.Tree.{under-has, under-trans}

@@ -10,6 +10,6 @@ slice-aggregate-report-2 : tie.Need-slice-aggregate-report-2
 slice-aggregate-report-2 c = sym (length-take-le _ _ (omega arith))
 
 pub run-chart-spec : {M : Type 1} → statement M
-run-chart-spec = tie.close (tie.spec (λ c κs. search needs) (λ c. search needs)
+run-chart-spec = tie.close (tie.spec (λ c. search needs)
     (λ c κs. search needs) (λ c. search needs) (λ c κs. search needs) (λ c κs. search needs) (λ c. search needs)
     (λ c. search needs) (λ c. search needs) slice-aggregate-report-2 (λ c κs. search needs) (λ c. search needs))
