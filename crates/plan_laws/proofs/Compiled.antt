@@ -22,7 +22,7 @@ use Rattle.meaning.specs.Tree.{var-row}
 use Rattle.meaning.specs.Value.{chart-of}
 use Rattle.meaning.specs.WellFormed.{plan-by, well-formed}
 use Rattle.meaning.specs.declared.plan.Counts.{Counts}
-use Rattle.plan_laws.proofs.Ruled.{fits-well-formed}
+use Rattle.plan_laws.proofs.Accepted.{fits-well-formed}
 use Rattle.plan_laws.proofs.Counted.{code-bound}
 use Rattle.plan_laws.proofs.Fits.{Fills, Fits, Piece, Var-fits}
 use Rattle.plan_laws.proofs.Heads.{blocks-joined, heads-fill, heads-fit, heads-lengths, heads-many}

@@ -1,7 +1,7 @@
 pub mod Rows
 pub mod ReadBack
 pub mod Fits
-pub mod Ruled
+pub mod Accepted
 pub mod Below
 pub mod Pieces
 pub mod Spans

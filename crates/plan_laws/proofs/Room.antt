@@ -18,7 +18,7 @@ use Rattle.meaning.specs.Rules.{failing-rule-of}
 use Rattle.meaning.specs.Text.{Outcome, answer-of, done, refused}
 use Rattle.meaning.specs.Value.{VAR-ROW, chart-of}
 use Rattle.meaning.specs.WellFormed.{HEAD-ROW, INSTR-ROW, SIX, code-at, heads-at, plan-end}
-use Rattle.plan_laws.proofs.Ruled.{plan-long}
+use Rattle.plan_laws.proofs.Accepted.{plan-long}
 use Rattle.plan_laws.proofs.Compiled.{plan-sayable}
 use Rattle.plan_laws.proofs.Counted.{code-lines, lines-most}
 use Rattle.plan_laws.proofs.ReadBack.{counts}

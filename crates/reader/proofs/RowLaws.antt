@@ -11,7 +11,8 @@ use Rattle.meaning.specs.Line.{room, rest-of, read-by, turn-of, in-order, line-
 use Rattle.meaning.specs.declared.Turns.{Turns}
 use Rattle.round_trip.proofs.Fields.{zero-good, worse-good, room-good}
 use Rattle.round_trip.proofs.Forms.{form-kept}
-use Rattle.round_trip.proofs.Records.{row-size, sized, clear}
+use Rattle.round_trip.specs.Rows.{row-size}
+use Rattle.round_trip.proofs.Records.{sized, clear}
 
 -- room for the row of a kind, and its numbers
 abbrev pub RowFits : Record → Turns → List ℤ → Type 0

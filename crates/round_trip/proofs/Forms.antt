@@ -18,8 +18,9 @@ use Rattle.meaning.specs.Split.{TAB, tails}
 use Rattle.meaning.specs.Line.{Line, worse, line, beside, or-else, read-field, read-by, write-field, write-by}
 use Rattle.round_trip.proofs.Splits.{AllFree}
 use Rattle.round_trip.proofs.Fields.{Good, worse-good, both, Plain, At, numbers, numbers-more, at-both, Kept, field-kept}
-use Rattle.round_trip.proofs.Fields.{field-reads, field-free, Sized, longest, field-short, Apart, apart-text, apart-row, tells}
-use Rattle.round_trip.proofs.Fields.{tells-own, tells-not}
+use Rattle.round_trip.proofs.Fields.{field-reads, field-free, Sized, longest, field-short}
+use Rattle.round_trip.proofs.Apart.{Apart, apart-text, apart-row, tells-own, tells-not}
+use Rattle.round_trip.specs.Rows.{tells}
 
 -- ---- unambiguous forms
 

@@ -1,6 +1,7 @@
 pub mod Numbers
 pub mod Splits
 pub mod Fields
+pub mod Apart
 pub mod Forms
 pub mod Records
 pub mod Shaped

@@ -16,20 +16,13 @@ use Rattle.meaning.specs.Number.{numeral}
 use Rattle.meaning.specs.Split.{TAB, LF, fields, joined, tails}
 use Rattle.meaning.specs.Line.{Line, worse, room, line, letter-of, field, rest-of, read-by, line-by, write-by, text-of-row}
 use Rattle.meaning.specs.Text.{record-of}
+use Rattle.round_trip.specs.Rows.{row-size}
 use Rattle.round_trip.proofs.Splits.{Free, AllFree, free-byte, free-joined, fields-joined, joined-fields}
-use Rattle.round_trip.proofs.Fields.{Good, Sized, worse-good, room-good, numbers-at, at-self, letter-field, other-letters}
-use Rattle.round_trip.proofs.Fields.{dash-number, place-history, place-state, history-state}
+use Rattle.round_trip.proofs.Fields.{Good, Sized, worse-good, room-good, numbers-at, at-self, letter-field}
+use Rattle.round_trip.proofs.Apart.{other-letters, dash-number, place-history, place-state, history-state}
 use Rattle.round_trip.proofs.Forms.{size, Clear, LineKept, form-kept, form-reads, form-free, most-bytes, form-short}
 
 -- ---- the forms
-
-abbrev pub row-size : Record → ℕ
-row-size s-record = STATE-ROW
-row-size v-record = VAR-ROW
-row-size e-record = 1
-row-size t-record = TRANS-ROW
-row-size a-record = ACT-ROW
-row-size no-record = 1
 
 pub sized : (r : Record) (n : ℕ) → size (form r n) ≡ row-size r
 sized s-record zero = refl

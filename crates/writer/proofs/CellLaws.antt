@@ -12,7 +12,8 @@ use Rattle.meaning.specs.Split.{TAB}
 use Rattle.meaning.specs.Line.{write-field}
 use Rattle.forms.specs.Table.{field-of}
 use Rattle.forms.proofs.TableLaws.{Letters, letters-else, has-byte, _also_, each-code}
-use Rattle.round_trip.proofs.Fields.{letter-is, tells}
+use Rattle.round_trip.specs.Rows.{tells}
+use Rattle.round_trip.proofs.Fields.{letter-is}
 use Rattle.pen.specs.Pen.{Pen, put-byte, put-all}
 
 -- ---- what tells a field

@@ -14,7 +14,8 @@ use Rattle.meaning.specs.Split.{TAB, LF, tails, joined}
 use Rattle.meaning.specs.Line.{write-field, write-by}
 use Rattle.forms.specs.Table.{ENTRIES, steps, fields, skips, field-of, no-form, form-at}
 use Rattle.forms.proofs.TableLaws.{form-or, form-then, form-last, form-past, or-inside}
-use Rattle.round_trip.proofs.Fields.{both, tells}
+use Rattle.round_trip.specs.Rows.{tells}
+use Rattle.round_trip.proofs.Fields.{both}
 use Rattle.round_trip.proofs.Forms.{Clear, Starts, starts-fits, choice-first, choice-second}
 use Rattle.round_trip.proofs.Records.{clear}
 use Rattle.pen.specs.Pen.{Pen, put-byte, put-all}

@@ -24,7 +24,8 @@ use Rattle.meaning.specs.Text.{text-by, text-of}
 use Rattle.chart_rows.proofs.Rows.{chunk-at, length-chunks, num-at, num-first}
 use Rattle.round_trip.proofs.Fields.{both}
 use Rattle.round_trip.proofs.Forms.{size, Clear}
-use Rattle.round_trip.proofs.Records.{row-size, sized, clear}
+use Rattle.round_trip.specs.Rows.{row-size}
+use Rattle.round_trip.proofs.Records.{sized, clear}
 use Rattle.round_trip.proofs.Splits.{ended-append}
 use Rattle.round_trip.proofs.Values.{value-shaped, size-few, enough}
 use Rattle.pen.specs.Pen.{Pen, put-all}

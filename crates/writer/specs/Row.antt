@@ -11,7 +11,7 @@ use Rattle.meaning.specs.Grammar.{form, name, most, record-by}
 use Rattle.meaning.specs.Value.{fits}
 use Rattle.meaning.specs.Split.{LF, joined}
 use Rattle.meaning.specs.Line.{write-by}
-use Rattle.round_trip.proofs.Records.{row-size}
+use Rattle.round_trip.specs.Rows.{row-size}
 
 -- "each line ended by LF"
 unfoldable pub with-lf : List ℕ → List ℕ

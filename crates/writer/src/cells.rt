@@ -31,7 +31,7 @@ ghost use Rattle.meaning.specs.Value.{fits-field};
 ghost use Rattle.meaning.specs.Line.{write-field};
 ghost use Rattle.forms.specs.Table.{field-of};
 ghost use Rattle.pen.specs.Pen.{pen, put-all};
-ghost use Rattle.round_trip.proofs.Fields.{tells};
+ghost use Rattle.round_trip.specs.Rows.{tells};
 
 const MINUS: u8 = 45;
 
