@@ -11,7 +11,7 @@ use Rattle.agreement.proofs.Calling.{calls-agree, plan-make}
 use Rattle.agreement.specs.PlanCalls.{machine-make}
 use Rattle.invariants.specs.CallLists.{Call, make, make-of, to-discard, to-post, to-run, to-start}
 use Rattle.invariants.proofs.CallLists.{Lived, value-sized, value-sound}
-use Rattle.meaning.specs.Calls.{Outcome, discard-of, post-of, refused, run-of, start-of}
+use Rattle.meaning.specs.Calls.{Outcome, discard-of, post-of, as-found, run-of, start-of}
 use Rattle.meaning.specs.Compile.{compile-of, plan-lent, plan-of}
 use Rattle.meaning.specs.Text.{answer-of}
 use Rattle.meaning.specs.Machine.{machine-discard, machine-post, machine-run, machine-start}
@@ -26,8 +26,8 @@ use Rattle.plan_laws.proofs.Compiled.{lent-read-back, lent-ruled, lent-well-for
 -- ---- a call over well-formed numbers is a call over their plan
 
 module _ (ns : List ℤ) (p : Plan) (well : well-formed ns ≡ true) (reads : plan-by ns ≡ p) where
-  made-well : (f : Plan → Outcome) (u : State) → elim (well-formed ns) [ true ↦ f (plan-by ns) | false ↦ refused 5 0 u ] ≡ f p
-  made-well f u = subst (λ b. elim b [ true ↦ f (plan-by ns) | false ↦ refused 5 0 u ] ≡ f p) (sym well) (ap f reads)
+  made-well : (f : Plan → Outcome) (u : State) → elim (well-formed ns) [ true ↦ f (plan-by ns) | false ↦ as-found 5 0 u ] ≡ f p
+  made-well f u = subst (λ b. elim b [ true ↦ f (plan-by ns) | false ↦ as-found 5 0 u ] ≡ f p) (sym well) (ap f reads)
 
   pub machine-makes : (x : Call) (u : State) → machine-make ns x u ≡ plan-make p x u
   unfolding machine-make plan-make machine-start machine-run machine-post machine-discard
@@ -39,8 +39,8 @@ module _ (ns : List ℤ) (p : Plan) (well : well-formed ns ≡ true) (reads : pl
 -- ---- a call over a value that passes the rules is a call over its chart
 
 module _ (v : List ℤ) (e : failing-rule-of v ≡ none) where
-  made-ruled : (f : Outcome) (u : State) → elim (failing-rule-of v) [ none ↦ f | some r ↦ refused 3 r u ] ≡ f
-  made-ruled f u = subst (λ x. elim x [ none ↦ f | some r ↦ refused 3 r u ] ≡ f) (sym e) refl
+  made-ruled : (f : Outcome) (u : State) → elim (failing-rule-of v) [ none ↦ f | some r ↦ as-found 3 r u ] ≡ f
+  made-ruled f u = subst (λ x. elim x [ none ↦ f | some r ↦ as-found 3 r u ] ≡ f) (sym e) refl
 
   pub value-makes : (x : Call) (u : State) → make-of v x u ≡ make (chart-of v) x u
   unfolding make-of make start-of run-of post-of discard-of

@@ -16,7 +16,7 @@ use Rattle.meaning.specs.declared.Called.{Called}
 use Rattle.meaning.specs.declared.State.{State}
 use Rattle.meaning.specs.Answers.{FOREIGN}
 use Rattle.meaning.specs.Lists.{padded}
-use Rattle.meaning.specs.Calls.{Outcome, refused, called, lent, unstarted}
+use Rattle.meaning.specs.Calls.{Outcome, as-found, called, lent, unstarted}
 use Rattle.promises.specs.declared.Replayed.{Replayed}
 use Rattle.promises.specs.Replay.{Course, replayed}
 use Rattle.promises.specs.Saved.{small, widget-of, moved-on}
@@ -60,7 +60,7 @@ too-few-refuses a e = go (eqb (a .number) 0) refl e
 pub start-short : (f : State → Outcome) {a v b : Answer} {ns : List ℤ} {n : ℕ} {r s : ℤ} {rep out : List ℤ}
     → length ns < STATE-NUMBERS → v ≡ a → b ≡ too-few v → out ≡ replicate n (pos 0) → s ≡ r → Told b 0 r rep
     → Traces (start-into a f ns) ns n s rep ns out
-unfolding start-into start-by refused called lent padded
+unfolding start-into start-by as-found called lent padded
 start-short f {a = a} {ns = ns} {n = n} h v e l i t =
     rw (lt-ltb (length ns) STATE-NUMBERS h) (record {
       ends = ends-refused _ (too-few-refuses a) i (told-as refl (e ∙ ap too-few v) refl t);
@@ -74,7 +74,7 @@ made n u = record { answer = record { number = n; place = 0 }; state = u; entrie
 
 pub unstarted-short : {u : State} {ns : List ℤ} {r s : ℤ} {rep after : List ℤ} → length ns < STATE-NUMBERS → u ≡ unstarted → s ≡ r
     → Ends (made FOREIGN u) ns r rep after → Ends (unstarted-into ns) ns s rep after
-unfolding unstarted-into called refused
+unfolding unstarted-into called as-found
 unstarted-short {ns = ns} h e i t = rw (lt-ltb (length ns) STATE-NUMBERS h) (ends-by i (ap (made FOREIGN) e) t)
 
 pub unstarted-room : {u : State} {ns : List ℤ} {r s : ℤ} {rep after : List ℤ} → STATE-NUMBERS ≤ length ns → u ≡ unstarted → s ≡ r

@@ -12,7 +12,7 @@ use Rattle.meaning.specs.declared.Answer.{Answer}
 use Rattle.meaning.specs.declared.Called.{Called}
 use Rattle.meaning.specs.Value.{rule-0, chart-of}
 use Rattle.meaning.specs.Rules.{failing-rule, failing-rule-of, verdict}
-use Rattle.meaning.specs.Calls.{Outcome, called, lent, refused, start, run, post, discard, start-of, run-of, post-of, discard-of}
+use Rattle.meaning.specs.Calls.{Outcome, called, lent, as-found, start, run, post, discard, start-of, run-of, post-of, discard-of}
 use Rattle.meaning.specs.Rules.{Ruled}
 use Rattle.promises.specs.Promises.{Checked, Started, Ran, Posted, Discarded}
 use Rattle.rules.proofs.Verdicts.{passed, failed}
@@ -40,7 +40,7 @@ rejected {v} {r} c z = failed (failing-rule-of v) r (c .result) z
 abbrev by-rules : State → Outcome → Option ℕ → Outcome
 by-rules u x o = elim o [
   | none ↦ x
-  | some r ↦ refused 3 r u
+  | some r ↦ as-found 3 r u
 ]
 
 module _ (v : List ℤ) (u : State) (o : Option ℕ) (e : failing-rule-of v ≡ o) where
@@ -95,18 +95,18 @@ module _ {v : List ℤ} {u : State} where
 
   -- ---- on a chart that fails a rule: 3 with the rule
   module _ {c : Answer} (k : Checked v c) (z : c .number ≡ 0 → ⊥) where
-    pub start-3 : {t : List ℤ} {r : Called} {t₁ : List ℤ} → Ends (refused 3 (c .place) u) t r t₁ → Started v u t r t₁
+    pub start-3 : {t : List ℤ} {r : Called} {t₁ : List ℤ} → Ends (as-found 3 (c .place) u) t r t₁ → Started v u t r t₁
     start-3 {t} d =
         let e = sym (start-by v u (some (c .place)) (rejected k z) (length t)) in
         record { result = d .0 ∙ ap called e; lent = d .1 ∙ ap (lent (length t)) e }
 
-    pub run-3 : {t : List ℤ} {r : Called} {t₁ : List ℤ} → Ends (refused 3 (c .place) u) t r t₁ → Ran v u t r t₁
+    pub run-3 : {t : List ℤ} {r : Called} {t₁ : List ℤ} → Ends (as-found 3 (c .place) u) t r t₁ → Ran v u t r t₁
     run-3 {t} d =
         let e = sym (run-by v u (some (c .place)) (rejected k z) (length t)) in
         record { result = d .0 ∙ ap called e; lent = d .1 ∙ ap (lent (length t)) e }
 
-    pub post-3 : {x a : ℤ} {r : Called} → r ≡ called (refused 3 (c .place) u) → Posted v u x a r
+    pub post-3 : {x a : ℤ} {r : Called} → r ≡ called (as-found 3 (c .place) u) → Posted v u x a r
     post-3 {x} {a} d = record { result = d ∙ ap called (sym (post-by v u (some (c .place)) (rejected k z) x a)) }
 
-    pub discard-3 : {r : Called} → r ≡ called (refused 3 (c .place) u) → Discarded v u r
+    pub discard-3 : {r : Called} → r ≡ called (as-found 3 (c .place) u) → Discarded v u r
     discard-3 d = record { result = d ∙ ap called (sym (discard-by v u (some (c .place)) (rejected k z))) }

@@ -16,7 +16,7 @@ use Rattle.meaning.specs.declared.Called.{Called}
 use Rattle.meaning.specs.Lists.{padded}
 use Rattle.meaning.specs.Steps.{Res, ok, refuse, Step}
 use Rattle.meaning.specs.Widget.{Ctx, ENTRY, begin}
-use Rattle.meaning.specs.Calls.{Outcome, refused, outcome, called, lent}
+use Rattle.meaning.specs.Calls.{Outcome, as-found, outcome, called, lent}
 use Rattle.widget.specs.View.{Lent, Whole, ctx, tracing, widget, said, went, Did}
 use Rattle.widget.specs.declared.Went.{Went}
 use Rattle.widget.proofs.Ending.{begins}
@@ -29,11 +29,11 @@ pub ends-as : {o p : Outcome} (t : List ℤ) {r : Called} {t₁ : List ℤ} → 
 ends-as t {r} {t₁} e h = subst (λ x. Ends x t r t₁) (sym e) h
 
 pub cleared : (n p : ℕ) (u : State) (t t₁ : List ℤ) → t₁ ≡ take 0 t ++ replicate (length t - 0) (pos 0)
-    → t₁ ≡ lent (length t) (refused n p u)
-unfolding lent refused padded
+    → t₁ ≡ lent (length t) (as-found n p u)
+unfolding lent as-found padded
 cleared n p u t t₁ e = e
 
-outcome-no : (n : ℕ) (k : Ctx) (u : State) → (n ≡ 0 → ⊥) → outcome u (said n k) ≡ refused n 0 u
+outcome-no : (n : ℕ) (k : Ctx) (u : State) → (n ≡ 0 → ⊥) → outcome u (said n k) ≡ as-found n 0 u
 unfolding outcome said
 outcome-no zero k u z = absurd (z refl)
 outcome-no (suc n) k u z = refl
@@ -45,7 +45,7 @@ outcome-on zero k u z = refl
 outcome-on (suc n) k u z = absurd (omega arith)
 
 module _ (u : State) (w : Went) (k : Lent) (r : Called) (t₁ : List ℤ) where
-  pub ends-no : (w .number ≡ 0 → ⊥) → Ends (refused (w .number) 0 u) (k .trace) r t₁ → Ends (outcome u (went w k)) (k .trace) r t₁
+  pub ends-no : (w .number ≡ 0 → ⊥) → Ends (as-found (w .number) 0 u) (k .trace) r t₁ → Ends (outcome u (went w k)) (k .trace) r t₁
   unfolding went
   ends-no z h = subst (λ o. Ends o (k .trace) r t₁) (sym (outcome-no (w .number) _ u z)) h
 

@@ -14,7 +14,7 @@ use widget::clear_from;
 ghost use mathlib.Core.Path.{_≡_};
 ghost use Prim.Native.Nat.{_≤_};
 ghost use lib.ListN.{length};
-ghost use Rattle.meaning.specs.Calls.{called, lent, outcome, refused as refusal};
+ghost use Rattle.meaning.specs.Calls.{called, lent, outcome, as-found as refusal};
 ghost use Rattle.widget.specs.View.{all-lent, went as gone};
 
 // "Any other leaves the state as it was and zeroes the lent output, its count."

@@ -16,7 +16,7 @@ use Rattle.laws.proofs.Lists.{same-or}
 use Rattle.laws.specs.Facts.{Each, none-left, one-more}
 use Rattle.laws.proofs.Sound.{Sound-chart, sound-chart}
 use Rattle.laws.proofs.Value.{Sized-chart, sized-chart, value-passes}
-use Rattle.meaning.specs.Calls.{Outcome, discard, discard-of, outcome, post, post-of, react, refused, run, run-of, start}
+use Rattle.meaning.specs.Calls.{Outcome, discard, discard-of, outcome, post, post-of, react, as-found, run, run-of, start}
 use Rattle.meaning.specs.Calls.{start-of, take-front, tests}
 use Rattle.meaning.specs.Chart.{Chart}
 use Rattle.meaning.specs.Effects.{enqueue}
@@ -40,8 +40,8 @@ pub record Lives (c : Chart) (o : Outcome) : Type 0 where
   pub traced : Traced c (o .trace)
 
 -- a refusal with another number leaves the state
-refused-lives : (c : Chart) (n p : ℕ) (u : State) → (n ≡ 6 → ⊥) → (n ≡ 14 → ⊥) → Lived c u → Lives c (refused n p u)
-unfolding refused
+refused-lives : (c : Chart) (n p : ℕ) (u : State) → (n ≡ 6 → ⊥) → (n ≡ 14 → ⊥) → Lived c u → Lives c (as-found n p u)
+unfolding as-found
 refused-lives c n p u a b l = record { never-6 = a; never-14 = b; lived = l; traced = nothing-traced c }
 
 facts-live : (c : Chart) (u : State) (o : Outcome) → Lived c u → Call-facts c u o → Lives c o
@@ -53,7 +53,7 @@ facts-live c u o l f = record {
 }
 
 -- not started: 7
-pub unstarted-7 : (c : Chart) (u : State) (F : Step Ctx) (k : Ctx) → u .started ≡ false → outcome u ((tests c u then F) k) ≡ refused 7 0 u
+pub unstarted-7 : (c : Chart) (u : State) (F : Step Ctx) (k : Ctx) → u .started ≡ false → outcome u ((tests c u then F) k) ≡ as-found 7 0 u
 unfolding tests _then_ require bind outcome
 unstarted-7 c u F k e = ap (λ b. outcome u (bind (bind (require 7 b k) (require 6 (own c u))) F)) e
 
@@ -101,7 +101,7 @@ module _ (v : List ℤ) where
 
   by-rule : (f : State → Outcome) (u : State)
       → (failing-rule-of v ≡ none → Lives (chart-of v) (f u)) → Lived (chart-of v) u → (x : Option ℕ) → failing-rule-of v ≡ x
-      → Lives (chart-of v) (elim x [ none ↦ f u | some n ↦ refused 3 n u ])
+      → Lives (chart-of v) (elim x [ none ↦ f u | some n ↦ as-found 3 n u ])
   by-rule f u h l none e = h e
   by-rule f u h l (some n) e = refused-lives (chart-of v) 3 n u (λ q. omega arith) (λ q. omega arith) l
 

@@ -19,7 +19,7 @@ use Rattle.invariants.proofs.Values.{fits-len, removed-fits}
 use Rattle.laws.proofs.Lists.{and-right, same-or}
 use Rattle.laws.proofs.Sound.{Sound-chart}
 use Rattle.laws.proofs.Value.{Sized-chart}
-use Rattle.meaning.specs.Calls.{Outcome, discard, fresh, outcome, post, react, refused, run, start, start-steps, take-front, tests}
+use Rattle.meaning.specs.Calls.{Outcome, discard, fresh, outcome, post, react, as-found, run, start, start-steps, take-front, tests}
 use Rattle.meaning.specs.Chart.{Chart}
 use Rattle.meaning.specs.Effects.{enqueue}
 use Rattle.meaning.specs.Foreign.{event-fits, legal, marks-fit, own, queue-fits, slots-fit, values-fit}
@@ -68,7 +68,7 @@ post-stands c r z u h e a false f = (λ x. omega arith, λ x. omega arith, λ x.
 
 module _ (c : Chart) (r : Sound-chart c) (z : Sized-chart c) where
   outcome-facts : (u : State) (x : Res Ctx) → Gives x (Whole c) → Call-facts c u (outcome u x)
-  unfolding outcome refused
+  unfolding outcome as-found
   outcome-facts u (ok k) w = record {
     never-6 = λ e. omega arith;
     never-14 = λ e. omega arith;

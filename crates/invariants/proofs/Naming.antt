@@ -22,7 +22,7 @@ use Rattle.laws.proofs.Lists.{and-both, and-left, and-right, or-left, same-or}
 use Rattle.laws.specs.Facts.{Each, none-left, one-more}
 use Rattle.laws.proofs.Sound.{Sound-chart}
 use Rattle.laws.proofs.Value.{Sized-chart}
-use Rattle.meaning.specs.Calls.{Outcome, discard, discard-of, outcome, post, post-of, react, refused, run, run-of, start, start-of}
+use Rattle.meaning.specs.Calls.{Outcome, discard, discard-of, outcome, post, post-of, react, as-found, run, run-of, start, start-of}
 use Rattle.meaning.specs.Calls.{take-front, tests}
 use Rattle.meaning.specs.Chart.{Chart}
 use Rattle.meaning.specs.Effects.{enqueue}
@@ -107,13 +107,13 @@ facts-answered c u o l f = record {
   named = traced-named c (o .trace) (f .traced);
 }
 
-refused-answered : (c : Chart) (n p : ℕ) (u : State) → Sized u → (n ≡ 0 → ⊥) → Answered c (refused n p u)
-unfolding refused all-named
+refused-answered : (c : Chart) (n p : ℕ) (u : State) → Sized u → (n ≡ 0 → ⊥) → Answered c (as-found n p u)
+unfolding as-found all-named
 refused-answered c n p u l h = record { done = λ e. absurd (h e); sized = l; named = refl }
 
 -- a state that is not the chart's own: 6
 foreign-6 : (c : Chart) (u : State) (F : Step Ctx) (k : Ctx) → u .started ≡ true → own c u ≡ false
-    → outcome u ((tests c u then F) k) ≡ refused 6 0 u
+    → outcome u ((tests c u then F) k) ≡ as-found 6 0 u
 unfolding tests _then_ require bind outcome
 foreign-6 c u F k e f =
     ap (λ b. outcome u (bind (bind (require 7 b k) (require 6 (own c u))) F)) e
@@ -141,7 +141,7 @@ module _ (c : Chart) (r : Sound-chart c) (z : Sized-chart c) (u : State) (l : Si
 
 module _ (v : List ℤ) (u : State) (l : Sized u) where
   by-rule : (o : Outcome) → (failing-rule-of v ≡ none → Answered (chart-of v) o) → (x : Option ℕ) → failing-rule-of v ≡ x
-      → Answered (chart-of v) (elim x [ none ↦ o | some n ↦ refused 3 n u ])
+      → Answered (chart-of v) (elim x [ none ↦ o | some n ↦ as-found 3 n u ])
   by-rule o h none e = h e
   by-rule o h (some n) e = refused-answered (chart-of v) 3 n u l (λ q. omega arith)
 

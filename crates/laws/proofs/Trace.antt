@@ -11,7 +11,7 @@ use lib.IntN.{ℤ}
 use borrow.Author.Tests.{leb-true}
 use Rattle.laws.proofs.Stays.{Plain, react-plain, require-stays, start-plain, then-stays}
 use Rattle.laws.proofs.Steps.{Holds}
-use Rattle.meaning.specs.Calls.{Outcome, called, fresh, outcome, react, refused, run, start, start-steps, tests}
+use Rattle.meaning.specs.Calls.{Outcome, called, fresh, outcome, react, as-found, run, start, start-steps, tests}
 use Rattle.meaning.specs.Chart.{Chart}
 use Rattle.meaning.specs.Foreign.{own}
 use Rattle.meaning.specs.Lists.{concat-map}
@@ -87,7 +87,7 @@ pub record Fits-room (n : ℕ) (o : Outcome) : Type 0 where
   pub room : length (o .trace) ≤ n
 
 pub outcome-fits : (n : ℕ) (u : State) (r : Res Ctx) → Holds r (Written n) → Fits-room n (outcome u r)
-unfolding outcome refused concat-map
+unfolding outcome as-found concat-map
 outcome-fits n u (ok k) h = record { entries = h .entries; room = omega (arith, h .room) }
 outcome-fits n u (refuse e) h = record { entries = ([], refl); room = omega arith }
 

@@ -11,7 +11,7 @@ use Rattle.meaning.specs.declared.plan.Counts.{Counts}
 use Rattle.meaning.specs.Plan.{Plan}
 use Rattle.meaning.specs.Steps.{Res, ok, refuse, Step, bind, _then_, require}
 use Rattle.meaning.specs.Widget.{Ctx}
-use Rattle.meaning.specs.Calls.{Outcome, refused}
+use Rattle.meaning.specs.Calls.{Outcome, as-found}
 use Rattle.meaning.specs.Machine.{plan-start, plan-run, plan-post, plan-discard, plan-own}
 use Rattle.meaning.specs.Machine.{plan-tests, machine-start, machine-run, machine-post, machine-discard}
 use Rattle.meaning.specs.WellFormed.{counts-of, plan-by, well-formed}
@@ -43,36 +43,36 @@ module _ (ns : List ℤ) {a : Answer} (e : a ≡ examined ns) where
 
   module _ (u : State) where
     by-start : (b : Bool) (n : ℕ) → well-formed ns ≡ b
-        → machine-start ns u n ≡ elim b [ true ↦ plan-start (plan-by ns) u n | false ↦ refused 5 0 u ]
+        → machine-start ns u n ≡ elim b [ true ↦ plan-start (plan-by ns) u n | false ↦ as-found 5 0 u ]
     unfolding machine-start
-    by-start b n f = subst (λ d. machine-start ns u n ≡ elim d [ true ↦ plan-start (plan-by ns) u n | false ↦ refused 5 0 u ]) f refl
+    by-start b n f = subst (λ d. machine-start ns u n ≡ elim d [ true ↦ plan-start (plan-by ns) u n | false ↦ as-found 5 0 u ]) f refl
 
     by-run : (b : Bool) (n : ℕ) → well-formed ns ≡ b
-        → machine-run ns u n ≡ elim b [ true ↦ plan-run (plan-by ns) u n | false ↦ refused 5 0 u ]
+        → machine-run ns u n ≡ elim b [ true ↦ plan-run (plan-by ns) u n | false ↦ as-found 5 0 u ]
     unfolding machine-run
-    by-run b n f = subst (λ d. machine-run ns u n ≡ elim d [ true ↦ plan-run (plan-by ns) u n | false ↦ refused 5 0 u ]) f refl
+    by-run b n f = subst (λ d. machine-run ns u n ≡ elim d [ true ↦ plan-run (plan-by ns) u n | false ↦ as-found 5 0 u ]) f refl
 
     by-post : (b : Bool) (x y : ℤ) → well-formed ns ≡ b
-        → machine-post ns u x y ≡ elim b [ true ↦ plan-post (plan-by ns) u x y | false ↦ refused 5 0 u ]
+        → machine-post ns u x y ≡ elim b [ true ↦ plan-post (plan-by ns) u x y | false ↦ as-found 5 0 u ]
     unfolding machine-post
-    by-post b x y f = subst (λ d. machine-post ns u x y ≡ elim d [ true ↦ plan-post (plan-by ns) u x y | false ↦ refused 5 0 u ]) f refl
+    by-post b x y f = subst (λ d. machine-post ns u x y ≡ elim d [ true ↦ plan-post (plan-by ns) u x y | false ↦ as-found 5 0 u ]) f refl
 
     by-discard : (b : Bool) → well-formed ns ≡ b
-        → machine-discard ns u ≡ elim b [ true ↦ plan-discard (plan-by ns) u | false ↦ refused 5 0 u ]
+        → machine-discard ns u ≡ elim b [ true ↦ plan-discard (plan-by ns) u | false ↦ as-found 5 0 u ]
     unfolding machine-discard
-    by-discard b f = subst (λ d. machine-discard ns u ≡ elim d [ true ↦ plan-discard (plan-by ns) u | false ↦ refused 5 0 u ]) f refl
+    by-discard b f = subst (λ d. machine-discard ns u ≡ elim d [ true ↦ plan-discard (plan-by ns) u | false ↦ as-found 5 0 u ]) f refl
 
     module _ (z : a .number ≡ 0 → ⊥) where
-      pub start-5 : (n : ℕ) → machine-start ns u n ≡ refused 5 0 u
+      pub start-5 : (n : ℕ) → machine-start ns u n ≡ as-found 5 0 u
       start-5 n = by-start false n (failed z)
 
-      pub run-5 : (n : ℕ) → machine-run ns u n ≡ refused 5 0 u
+      pub run-5 : (n : ℕ) → machine-run ns u n ≡ as-found 5 0 u
       run-5 n = by-run false n (failed z)
 
-      pub post-5 : (x y : ℤ) → machine-post ns u x y ≡ refused 5 0 u
+      pub post-5 : (x y : ℤ) → machine-post ns u x y ≡ as-found 5 0 u
       post-5 x y = by-post false x y (failed z)
 
-      pub discard-5 : machine-discard ns u ≡ refused 5 0 u
+      pub discard-5 : machine-discard ns u ≡ as-found 5 0 u
       discard-5 = by-discard false (failed z)
 
     module _ (z : a .number ≡ 0) where

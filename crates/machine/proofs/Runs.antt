@@ -22,7 +22,7 @@ use Rattle.meaning.specs.Steps.{Res, ok, refuse, Step, bind, _then_, require}
 use Rattle.meaning.specs.Plan.{Plan}
 use Rattle.meaning.specs.Widget.{Ctx, is-active, set-queue, change, begin}
 use Rattle.meaning.specs.Foreign.{marks-fit, values-fit, queue-fits}
-use Rattle.meaning.specs.Calls.{Outcome, refused, outcome, take-front, called, lent}
+use Rattle.meaning.specs.Calls.{Outcome, as-found, outcome, take-front, called, lent}
 use Rattle.meaning.specs.Machine.{plan-step, plan-settle, plan-tests, plan-react, plan-run, plan-slots-fit, plan-own}
 use Rattle.laws.proofs.Lists.{and-left, and-right}
 use Rattle.widget.specs.View.{Lent, all-lent, widget, went, Did}
@@ -60,17 +60,17 @@ module _ (C G : Step Ctx) (d : Bool) (k : Ctx) where
   one-waits g = rw g
 
 module _ (p : Plan) (u : State) (n : ℕ) where
-  pub run-7 : u .started ≡ false → plan-run p u n ≡ refused 7 0 u
+  pub run-7 : u .started ≡ false → plan-run p u n ≡ as-found 7 0 u
   unfolding plan-run outcome
   run-7 e = ap (outcome u) (tests-7 p u (plan-react p (removed (u .queue))) (begin u n) e)
 
   module _ (s : u .started ≡ true) where
-    pub run-6 : owns p u ≡ false → plan-run p u n ≡ refused 6 0 u
+    pub run-6 : owns p u ≡ false → plan-run p u n ≡ as-found 6 0 u
     unfolding plan-run outcome
     run-6 e = ap (outcome u) (tests-6 p u (plan-react p (removed (u .queue))) (begin u n) s e)
 
     module _ (o : owns p u ≡ true) (m : Removed) (x : m ≡ removed (u .queue)) where
-      pub run-8 : m .done ≡ false → plan-run p u n ≡ refused 8 0 u
+      pub run-8 : m .done ≡ false → plan-run p u n ≡ as-found 8 0 u
       unfolding plan-run plan-react take-front outcome
       run-8 e =
           ap (outcome u) (tests-on p u (plan-react p (removed (u .queue))) (begin u n) s o

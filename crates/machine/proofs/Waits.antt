@@ -13,7 +13,7 @@ use Rattle.meaning.specs.Steps.{Res, ok, refuse, Step, bind, _then_, require, l
 use Rattle.meaning.specs.Widget.{Ctx, set-queue, change, begin}
 use Rattle.meaning.specs.Effects.{take-queue, enqueue}
 use Rattle.meaning.specs.Foreign.{event-fits}
-use Rattle.meaning.specs.Calls.{refused, outcome, called, take-front}
+use Rattle.meaning.specs.Calls.{as-found, outcome, called, take-front}
 use Rattle.meaning.specs.Machine.{plan-tests, plan-post, plan-discard}
 use Rattle.queue_calls.specs.Parts.{quiet}
 use Rattle.queue_calls.proofs.Answering.{refusing, ending}
@@ -24,17 +24,17 @@ module _ (p : Plan) (u : State) where
     rest : Step Ctx
     rest = require 10 (event-fits (p .events) e a) then enqueue e a
 
-    pub post-7 : u .started ≡ false → called (refused 7 0 u) ≡ called (plan-post p u e a)
+    pub post-7 : u .started ≡ false → called (as-found 7 0 u) ≡ called (plan-post p u e a)
     unfolding plan-post rest
     post-7 s = refusing u (tests-7 p u rest (begin u 0) s)
 
     module _ (s : u .started ≡ true) where
-      pub post-6 : owns p u ≡ false → called (refused 6 0 u) ≡ called (plan-post p u e a)
+      pub post-6 : owns p u ≡ false → called (as-found 6 0 u) ≡ called (plan-post p u e a)
       unfolding plan-post rest
       post-6 o = refusing u (tests-6 p u rest (begin u 0) s o)
 
       module _ (o : owns p u ≡ true) {n : ℕ} (k : n ≡ p .events) where
-        pub post-10 : event-fits n e a ≡ false → called (refused 10 0 u) ≡ called (plan-post p u e a)
+        pub post-10 : event-fits n e a ≡ false → called (as-found 10 0 u) ≡ called (plan-post p u e a)
         unfolding plan-post rest
         post-10 f = refusing u (tests-on p u rest (begin u 0) s o
             ∙ require-no 10 (enqueue e a) (begin u 0) (ap (λ x. event-fits x e a) (sym k) ∙ f))
@@ -47,7 +47,7 @@ module _ (p : Plan) (u : State) where
               ∙ require-on 10 (enqueue e a) (begin u 0) (ap (λ x. event-fits x e a) (sym k) ∙ f)
               ∙ ap (λ x. take-queue x (begin u 0)) (sym g)
 
-          pub post-9 : q .done ≡ false → called (refused 9 0 u) ≡ called (plan-post p u e a)
+          pub post-9 : q .done ≡ false → called (as-found 9 0 u) ≡ called (plan-post p u e a)
           unfolding plan-post rest take-queue
           post-9 d = refusing u (to-queue ∙ require-no 9 (change (set-queue (q .queue))) (begin u 0) d)
 
@@ -55,12 +55,12 @@ module _ (p : Plan) (u : State) where
           unfolding plan-post rest take-queue
           post-0 d = ending u (q .queue) (to-queue ∙ require-on 9 (change (set-queue (q .queue))) (begin u 0) d)
 
-  pub discard-7 : u .started ≡ false → called (refused 7 0 u) ≡ called (plan-discard p u)
+  pub discard-7 : u .started ≡ false → called (as-found 7 0 u) ≡ called (plan-discard p u)
   unfolding plan-discard
   discard-7 s = refusing u (tests-7 p u (take-front (removed (u .queue))) (begin u 0) s)
 
   module _ (s : u .started ≡ true) where
-    pub discard-6 : owns p u ≡ false → called (refused 6 0 u) ≡ called (plan-discard p u)
+    pub discard-6 : owns p u ≡ false → called (as-found 6 0 u) ≡ called (plan-discard p u)
     unfolding plan-discard
     discard-6 o = refusing u (tests-6 p u (take-front (removed (u .queue))) (begin u 0) s o)
 
@@ -68,7 +68,7 @@ module _ (p : Plan) (u : State) where
       to-front : (plan-tests p u then take-front (removed (u .queue))) (begin u 0) ≡ take-front r (begin u 0)
       to-front = tests-on p u (take-front (removed (u .queue))) (begin u 0) s o ∙ ap (λ x. take-front x (begin u 0)) (sym g)
 
-      pub discard-8 : r .done ≡ false → called (refused 8 0 u) ≡ called (plan-discard p u)
+      pub discard-8 : r .done ≡ false → called (as-found 8 0 u) ≡ called (plan-discard p u)
       unfolding plan-discard take-front
       discard-8 d = refusing u (to-front ∙ require-no 8 (change (set-queue (r .queue))) (begin u 0) d)
 

@@ -9,7 +9,7 @@ use Rattle.meaning.specs.declared.State.{State}
 use Rattle.meaning.specs.Open.{all-open}
 use Rattle.meaning.specs.Widget.{Entry, taken, left, entered}
 use Rattle.meaning.specs.Rules.{failing-rule}
-use Rattle.meaning.specs.Calls.{Outcome, refused, unstarted, start, run}
+use Rattle.meaning.specs.Calls.{Outcome, as-found, unstarted, start, run}
 use Rattle.meaning.specs.Compile.{compile}
 use Rattle.meaning.specs.Machine.{machine-start, machine-run}
 use Rattle.meaning.specs.Examples.{chart-K, plan-K, chart-two, chart-self, chart-inside, chart-filling, chart-settling}
@@ -51,7 +51,7 @@ pub record Computed : Type 0 where
   pub event-1-restores-by-plan : machine-to plan-K 3000 1 state-3 ≡ gives state-4 entries-4
   pub event-1-held-by-plan : machine-to plan-K 3000 1 state-4 ≡ gives state-5 entries-5
   pub room-15-by-plan : machine-to plan-K 15 1 state-started ≡ gives state-1 entries-1
-  pub room-14-by-plan : machine-to plan-K 14 1 state-started ≡ refused 11 0 state-posted
+  pub room-14-by-plan : machine-to plan-K 14 1 state-started ≡ as-found 11 0 state-posted
   pub both-fire-by-plan : machine-start (compile chart-two) unstarted 3000 ≡ gives state-both both-entries
   pub self-pass : failing-rule chart-self ≡ none
   pub self-transition : react-to chart-self 3000 1 (start chart-self unstarted 3000 .after) ≡ gives state-self self-entries
@@ -66,12 +66,12 @@ pub record Computed : Type 0 where
       ≡ gives state-inside inside-entries
   -- a queue that fills in the middle of a reaction: 9, and the widget stays as it was, the event in front
   pub filling-pass : failing-rule chart-filling ≡ none
-  pub filling : react-to chart-filling 3000 1 (start chart-filling unstarted 3000 .after) ≡ refused 9 0 state-filling
+  pub filling : react-to chart-filling 3000 1 (start chart-filling unstarted 3000 .after) ≡ as-found 9 0 state-filling
   pub filling-by-plan : machine-to (compile chart-filling) 3000 1 (machine-start (compile chart-filling) unstarted 3000 .after)
-      ≡ refused 9 0 state-filling
+      ≡ as-found 9 0 state-filling
   -- "then 7, 6": a widget not yet started has no state active, which would be 6
-  pub not-started : run chart-K unstarted 3000 ≡ refused 7 0 unstarted
-  pub not-started-by-plan : machine-run plan-K unstarted 3000 ≡ refused 7 0 unstarted
+  pub not-started : run chart-K unstarted 3000 ≡ as-found 7 0 unstarted
+  pub not-started-by-plan : machine-run plan-K unstarted 3000 ≡ as-found 7 0 unstarted
   -- "Then null steps follow .. until none is enabled"
   pub settling-pass : failing-rule chart-settling ≡ none
   pub settling : react-to chart-settling 3000 1 (start chart-settling unstarted 3000 .after) ≡ gives state-settled settled-entries

@@ -13,7 +13,7 @@ use Rattle.meaning.specs.Value.{VALUE, chart-of}
 use Rattle.meaning.specs.Rules.{failing-rule}
 use Rattle.meaning.specs.Text.{done, read}
 use Rattle.meaning.specs.Text as text
-use Rattle.meaning.specs.Calls.{Outcome, refused, unstarted, start, start-of}
+use Rattle.meaning.specs.Calls.{Outcome, as-found, unstarted, start, start-of}
 use Rattle.meaning.specs.Compile.{start-block, block, plan-of, compile-of}
 use Rattle.meaning.specs.Examples.{text-K, value-K, chart-K, plan-K, chart-two, standing, gives, react-of}
 
@@ -88,7 +88,7 @@ pub record Starred : Type 0 where
   pub lent-194 : compile-of value-K 194 ≡ text.refused 4 0
   -- "The first event 1 with 15 trace numbers is done, with 14 gives 11"
   pub room-15 : react-of value-K 15 1 state-started ≡ gives state-1 entries-1
-  pub room-14 : react-of value-K 14 1 state-started ≡ refused 11 0 state-posted
+  pub room-14 : react-of value-K 14 1 state-started ≡ as-found 11 0 state-posted
   -- "Two components, null transitions: .. both fire"
   pub two-pass : failing-rule chart-two ≡ none
   pub both-fire : start chart-two unstarted 3000 ≡ gives state-both both-entries

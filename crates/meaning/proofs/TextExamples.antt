@@ -12,10 +12,10 @@ use Rattle.meaning.specs.Split.{ended}
 use Rattle.meaning.specs.Grammar.{bytes, s-record}
 use Rattle.meaning.specs.Number.{numeral}
 use Rattle.meaning.specs.Line.{text-of-row}
-use Rattle.meaning.specs.Text.{Outcome, done, refused, read, write}
+use Rattle.meaning.specs.Text.{Result, done, refused, read, write}
 use Rattle.meaning.specs.Examples.{text-K}
 
-both-ways : ℕ → Outcome (List ℤ) → Outcome (List ℕ)
+both-ways : ℕ → Result (List ℤ) → Result (List ℕ)
 both-ways n (done v) = write v n
 both-ways n (refused a p) = refused a p
 
@@ -34,7 +34,7 @@ unfolding all-open both-ways
 k-too-few = refl
 
 -- answer and place of some texts
-fault-of : Outcome (List ℤ) → List ℕ
+fault-of : Result (List ℤ) → List ℕ
 fault-of (done v) = 0 ∷ 0 ∷ []
 fault-of (refused a p) = a ∷ p ∷ []
 

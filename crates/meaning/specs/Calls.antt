@@ -35,12 +35,12 @@ pub record Outcome : Type 0 where
   pub trace : List ℤ
 
 -- "Any other leaves the state as it was and zeroes the lent output, its count"
-unfoldable pub refused : ℕ → ℕ → State → Outcome
-refused n p u = record { number = n; place = p; after = u; trace = [] }
+unfoldable pub as-found : ℕ → ℕ → State → Outcome
+as-found n p u = record { number = n; place = p; after = u; trace = [] }
 
 unfoldable pub outcome : State → Res Ctx → Outcome
 outcome u (ok k) = record { number = 0; place = 0; after = k .state; trace = k .out }
-outcome u (refuse n) = refused n 0 u
+outcome u (refuse n) = as-found n 0 u
 
 -- the answer, the state after, and the count of entries
 unfoldable pub called : Outcome → Called
@@ -167,7 +167,7 @@ discard c u = discard-by (by-chart c) u
 unfoldable pub if-ruled : List ℤ → State → (Chart → Outcome) → Outcome
 if-ruled v u call = elim (failing-rule-of v) [
   | none ↦ call (chart-of v)
-  | some r ↦ refused RULE-FAILS r u
+  | some r ↦ as-found RULE-FAILS r u
 ]
 
 unfoldable pub start-of : List ℤ → State → ℕ → Outcome
@@ -188,6 +188,6 @@ discard-of v u = if-ruled v u (λ c. discard c u)
 
 -- everything above, opened: for statements that compute
 unfoldable pub calls-open : ℕ
-unfolding refused outcome called lent unstarted fresh-by start-steps-by start-by tests-by take-front react-by run-by post-by discard-by
+unfolding as-found outcome called lent unstarted fresh-by start-steps-by start-by tests-by take-front react-by run-by post-by discard-by
     fresh enter-first start-steps start tests react run post discard if-ruled start-of run-of post-of discard-of
 calls-open = 0

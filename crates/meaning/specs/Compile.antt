@@ -18,7 +18,7 @@ use Rattle.meaning.specs.Entry.{Visit, plain, by-default, state-of, all-
 use Rattle.meaning.specs.Reaction.{choosing-order}
 use Rattle.meaning.specs.Value.{chart-of}
 use Rattle.meaning.specs.Rules.{failing-rule-of}
-use Rattle.meaning.specs.Text.{Outcome, done, refused, answer-of, count-of, lent}
+use Rattle.meaning.specs.Text.{Result, done, refused, answer-of, count-of, lent-result}
 use Rattle.meaning.specs.Plan.{Instr, go-in, go-out, skip-out, skip-empty, skip-full, skip-not, does, Head, Plan, plan-numbers}
 use Rattle.meaning.specs.declared.plan.Compiled.{Compiled}
 
@@ -152,24 +152,24 @@ compile c = plan-numbers (plan-of c)
 -- ---- compiling a chart handed over as a value into n lent numbers
 
 -- 4 "the plan is longer than the slice lent"
-unfoldable pub compiled-into : ℕ → List ℤ → Outcome (List ℤ)
+unfoldable pub compiled-into : ℕ → List ℤ → Result (List ℤ)
 compiled-into n plan = cond (ltb n (length plan)) (refused PLAN-TOO-LONG 0) (done plan)
 
 -- "chart 3 .. first"
-unfoldable pub compile-of : List ℤ → ℕ → Outcome (List ℤ)
+unfoldable pub compile-of : List ℤ → ℕ → Result (List ℤ)
 compile-of v n = elim (failing-rule-of v) [
   | none ↦ compiled-into n (compile (chart-of v))
   | some r ↦ refused RULE-FAILS r
 ]
 
 -- the answer and the count; "Any other .. zeroes the lent output, its count"
-unfoldable pub compiled : Outcome (List ℤ) → Compiled
+unfoldable pub compiled : Result (List ℤ) → Compiled
 compiled o = record { answer = answer-of o; length = count-of o }
 
 -- the lent slice of n numbers afterwards: "Past a plan .. the lent slice is 0"
-unfoldable pub plan-lent : ℕ → Outcome (List ℤ) → List ℤ
-unfolding lent
-plan-lent n o = lent (pos 0) n o
+unfoldable pub plan-lent : ℕ → Result (List ℤ) → List ℤ
+unfolding lent-result
+plan-lent n o = lent-result (pos 0) n o
 
 -- everything above, opened: for statements that compute
 unfoldable pub compile-open : ℕ

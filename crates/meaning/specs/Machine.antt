@@ -17,7 +17,7 @@ use Rattle.meaning.specs.Widget.{Ctx, Slot, empty, holds, is-active, slo
 use Rattle.meaning.specs.Effects.{perform, mark-left, mark-entered}
 use Rattle.meaning.specs.Reaction.{guard-holds, step-by, settle-in-by, settle-by}
 use Rattle.meaning.specs.Foreign.{values-fit, queue-fits, marks-fit}
-use Rattle.meaning.specs.Calls.{Outcome, Runner, refused, fresh-by, start-steps-by, start-by, tests-by, react-by, run-by, post-by}
+use Rattle.meaning.specs.Calls.{Outcome, Runner, as-found, fresh-by, start-steps-by, start-by, tests-by, react-by, run-by, post-by}
 use Rattle.meaning.specs.Calls.{discard-by}
 use Rattle.meaning.specs.Plan.{Instr, go-in, go-out, skip-out, skip-empty, skip-full, skip-not, does, Head, Plan}
 use Rattle.meaning.specs.WellFormed.{plan-by, well-formed}
@@ -181,7 +181,7 @@ plan-discard p u = discard-by (by-plan p) u
 unfoldable pub if-well-formed : List ℤ → State → (Plan → Outcome) → Outcome
 if-well-formed ns u call = elim (well-formed ns) [
   | true ↦ call (plan-by ns)
-  | false ↦ refused NOT-A-PLAN 0 u
+  | false ↦ as-found NOT-A-PLAN 0 u
 ]
 
 unfoldable pub machine-start : List ℤ → State → ℕ → Outcome

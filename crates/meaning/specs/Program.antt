@@ -106,7 +106,7 @@ unfoldable pub session : Chart → Turn → List ℕ → List ℕ
 session c t input = t .printed ++ turns c (t .state) (input-lines (lines input))
 
 -- "it starts, then posts and runs each line"; "A refused chart prints the same and ends the program"
-unfoldable pub output-by : text.Outcome (List ℤ) → List ℕ → List ℕ
+unfoldable pub output-by : text.Result (List ℤ) → List ℕ → List ℕ
 output-by (text.refused n p) input = report n []
 output-by (text.done v) input = let c = chart-of v in session c (reported (start c unstarted ROOM)) input
 

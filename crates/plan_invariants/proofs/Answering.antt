@@ -13,7 +13,7 @@ use Rattle.agreement.specs.PlanCalls.{machine-make}
 use Rattle.invariants.specs.CallLists.{Call, to-discard, to-post, to-run, to-start}
 use Rattle.laws.proofs.Lists.{or-right}
 use Rattle.laws.specs.Facts.{Each, none-left, one-more}
-use Rattle.meaning.specs.Calls.{Outcome, fresh-by, outcome, refused, take-front}
+use Rattle.meaning.specs.Calls.{Outcome, fresh-by, outcome, as-found, take-front}
 use Rattle.meaning.specs.Effects.{enqueue}
 use Rattle.meaning.specs.Foreign.{event-fits}
 use Rattle.meaning.specs.Lists.{has}
@@ -48,7 +48,7 @@ each-any (i ∷ is) = one-more tt (each-any is)
 
 pub answer-of : (l : List ℕ) (u : State) (r : Res Ctx) → has 0 l ≡ true → Ends (One-of l) r (On Whatever)
     → has (outcome u r .number) l ≡ true
-unfolding outcome refused
+unfolding outcome as-found
 answer-of l u (ok k) z h = z
 answer-of l u (refuse n) z h = h
 
@@ -111,7 +111,7 @@ module _ (ns : List ℤ) where
   abbrev or-5 : Call → State → Bool → Outcome
   or-5 x u b = elim b [
     | true ↦ plan-make (plan-by ns) x u
-    | false ↦ refused 5 0 u
+    | false ↦ as-found 5 0 u
   ]
 
   by-form : (x : Call) (u : State) → machine-make ns x u ≡ or-5 x u (well-formed ns)
@@ -126,7 +126,7 @@ module _ (ns : List ℤ) where
   formed e x u = machine-makes ns (plan-by ns) e refl x u
 
   -- not well formed: 5
-  pub unformed : well-formed ns ≡ false → (x : Call) (u : State) → machine-make ns x u ≡ refused 5 0 u
+  pub unformed : well-formed ns ≡ false → (x : Call) (u : State) → machine-make ns x u ≡ as-found 5 0 u
   unformed e x u = by-form x u ∙ ap (or-5 x u) e
 
   -- the numbers that a call may give, from any state whatsoever
@@ -134,7 +134,7 @@ module _ (ns : List ℤ) where
   formed-answer e x u = subst (λ o. has (o .number) (may-give x) ≡ true) (sym (formed e x u)) (plan-answer (plan-by ns) u x)
 
   pub machine-answer : (x : Call) (u : State) → has (machine-make ns x u .number) (5 ∷ may-give x) ≡ true
-  unfolding has refused
+  unfolding has as-found
   machine-answer x u = subst (λ o. has (o .number) (5 ∷ may-give x) ≡ true) (sym (by-form x u)) (go (well-formed ns))
     where
       go : (b : Bool) → has (or-5 x u b .number) (5 ∷ may-give x) ≡ true

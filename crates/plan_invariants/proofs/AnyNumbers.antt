@@ -12,7 +12,7 @@ use Rattle.agreement.specs.PlanCalls.{machine-make, outcomes}
 use Rattle.invariants.specs.CallLists.{Call, to-discard, to-post, to-run, to-start}
 use Rattle.invariants.specs.Good.{Sized}
 use Rattle.laws.proofs.Lists.{and-both, same-or}
-use Rattle.meaning.specs.Calls.{refused}
+use Rattle.meaning.specs.Calls.{as-found}
 use Rattle.meaning.specs.Lists.{every}
 use Rattle.meaning.specs.Plan.{Plan}
 use Rattle.meaning.specs.WellFormed.{plan-by, well-formed}
@@ -35,8 +35,8 @@ module _ (ns : List ℤ) where
   pub formed-facts : well-formed ns ≡ true → (x : Call) (u : State) → Sized u → Call-facts (plan-by ns) u (machine-make ns x u)
   formed-facts e x u z = subst (Call-facts (plan-by ns) u) (sym (formed ns e x u)) (plan-facts (plan-by ns) (well ns e) x u z)
 
-  refused-5 : (u : State) → Call-facts (plan-by ns) u (refused 5 0 u)
-  unfolding refused all-named
+  refused-5 : (u : State) → Call-facts (plan-by ns) u (as-found 5 0 u)
+  unfolding as-found all-named
   refused-5 u = record { done = λ e. absurd (omega arith); rolled-back = λ e. (refl, refl); named = refl }
 
   -- over any numbers

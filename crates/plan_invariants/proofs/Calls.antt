@@ -13,7 +13,7 @@ use Rattle.invariants.specs.Good.{Sized}
 use Rattle.invariants.proofs.Values.{empty-fits, fits-len, removed-fits}
 use Rattle.laws.proofs.Lists.{and-both, and-left, and-right, every-replicate, same-or}
 use Rattle.laws.specs.Facts.{Each, none-left, one-more}
-use Rattle.meaning.specs.Calls.{Outcome, fresh-by, outcome, refused, take-front}
+use Rattle.meaning.specs.Calls.{Outcome, fresh-by, outcome, as-found, take-front}
 use Rattle.meaning.specs.Effects.{enqueue}
 use Rattle.meaning.specs.Foreign.{event-fits, marks-fit, queue-fits, values-fit}
 use Rattle.meaning.specs.Lists.{every, padded}
@@ -203,7 +203,7 @@ module _ (p : Plan) where
 -- ---- over a plan that is well formed
 
 outcome-facts : (p : Plan) (u : State) (r : Res Ctx) → Ends Refusal r (Good p) → Call-facts p u (outcome u r)
-unfolding outcome refused all-named
+unfolding outcome as-found all-named
 outcome-facts p u (ok k) g = record { done = λ e. g .state; rolled-back = λ n. absurd (n refl); named = g .trace }
 outcome-facts p u (refuse n) h = record { done = λ e. absurd (h e); rolled-back = λ e. (refl, refl); named = refl }
 

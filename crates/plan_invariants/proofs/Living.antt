@@ -13,7 +13,7 @@ use Rattle.invariants.specs.CallLists.{Call, answers, to-discard, to-post, to-r
 use Rattle.invariants.specs.Good.{Sized}
 use Rattle.laws.proofs.Lists.{same-or}
 use Rattle.laws.specs.Facts.{Each, none-left, one-more}
-use Rattle.meaning.specs.Calls.{outcome, refused, take-front}
+use Rattle.meaning.specs.Calls.{outcome, as-found, take-front}
 use Rattle.meaning.specs.Effects.{enqueue}
 use Rattle.meaning.specs.Foreign.{event-fits}
 use Rattle.meaning.specs.Lists.{has}
@@ -54,7 +54,7 @@ module _ (p : Plan) (u : State) (F : Step Ctx) (k : Ctx) where
   tests-7 e = ap (λ b. bind (bind (require 7 b k) (require 6 (plan-own (p .states) (p .vars) (p .events) u))) F) e
 
   tested-not-6 : On Whatever k → Runs (One-of LEFT) (On Whatever) F → Lived p u → outcome u ((plan-tests p u then F) k) .number ≡ 6 → ⊥
-  unfolding outcome refused has
+  unfolding outcome as-found has
   tested-not-6 t f (inl e) q = let z : _≡_ {A = ℕ} 7 6 = sym (ap (λ r. outcome u r .number) (tests-7 e)) ∙ q in omega (arith, z)
   tested-not-6 t f (inr h) q =
       let a : has (outcome u (F k) .number) LEFT ≡ true = answer-of LEFT u (F k) refl (f k t) in

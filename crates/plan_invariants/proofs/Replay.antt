@@ -8,7 +8,7 @@ use lib.IntN.{ℤ}
 use lib.Dec.{eqb}
 use borrow.Author.Tests.{eqb-true}
 use Rattle.invariants.specs.Good.{Sized}
-use Rattle.meaning.specs.Calls.{Outcome, outcome, refused}
+use Rattle.meaning.specs.Calls.{Outcome, outcome, as-found}
 use Rattle.meaning.specs.Effects.{enqueue}
 use Rattle.meaning.specs.Foreign.{event-fits}
 use Rattle.meaning.specs.Machine.{machine-post, machine-run, plan-post, plan-react, plan-run, plan-tests, plan-own}
@@ -97,7 +97,7 @@ module _ (p : Plan) (u : State) where
   unfolding _then_ bind
   tests-refuse F k m e = ap (λ r. bind r F) e
 
-  post-refused : (m : ℕ) → plan-tests p u (begin u 0) ≡ refuse m → (x : Item) → calls-post p x u ≡ refused m 0 u
+  post-refused : (m : ℕ) → plan-tests p u (begin u 0) ≡ refuse m → (x : Item) → calls-post p x u ≡ as-found m 0 u
   unfolding plan-post outcome
   post-refused m e x = ap (outcome u) (tests-refuse
       (require 10 (event-fits (p .events) (x .event) (x .arg)) then enqueue (x .event) (x .arg)) (begin u 0) m e)
@@ -107,14 +107,14 @@ module _ (p : Plan) (u : State) where
     by-calls = replay-by (calls-post p) (calls-run p n) 0 u [] (x ∷ xs)
 
     refused-same : (m : ℕ) → eqb m 0 ≡ false → plan-tests p u (begin u 0) ≡ refuse m → by-calls ≡ replay-examined p u (x ∷ xs) n
-    unfolding replay-examined replay-by or-stop outcome refused
+    unfolding replay-examined replay-by or-stop outcome as-found
     refused-same m z e =
         ap (λ o. or-stop 0 [] o (λ v. run-and (calls-post p) (calls-run p n) 0 xs (calls-run p n v))) (post-refused m e x)
         ∙ stops (λ v. run-and (calls-post p) (calls-run p n) 0 xs (calls-run p n v))
         ∙ sym (ap (λ r. or-stop 0 [] (outcome u r) (λ v. replay-by (post-on p) (run-on p n) 0 v [] (x ∷ xs))) e
         ∙ stops (λ v. replay-by (post-on p) (run-on p n) 0 v [] (x ∷ xs)))
       where
-        stops : (f : State → Course) → or-stop 0 [] (refused m 0 u) f ≡ course 0 m u []
+        stops : (f : State → Course) → or-stop 0 [] (as-found m 0 u) f ≡ course 0 m u []
         stops f = ap (λ b. elim b [ true ↦ f u | false ↦ course 0 m u [] ]) z
 
     passed-same : Fit p u → plan-tests p u (begin u 0) ≡ ok (begin u 0) → by-calls ≡ replay-examined p u (x ∷ xs) n
@@ -140,13 +140,13 @@ module _ (p : Plan) (u : State) where
 
 -- replay with the plan examined once, and 7 and the whole test for 6 made once, is the fold of the single calls
 pub replay-tests-once : (ns : List ℤ) (u : State) → Sized u → (xs : List Item) (n : ℕ) → replay ns u xs n ≡ replay-once ns u xs n
-unfolding replay replay-once machine-post machine-run replay-by or-stop refused
+unfolding replay replay-once machine-post machine-run replay-by or-stop as-found
 replay-tests-once ns u z [] n = refl
 replay-tests-once ns u z (x ∷ xs) n = go (well-formed ns) refl
   where
     by : Bool → Course
-    by b = replay-by (λ y v. elim b [ true ↦ plan-post (plan-by ns) v (y .event) (y .arg) | false ↦ refused 5 0 v ])
-        (λ v. elim b [ true ↦ plan-run (plan-by ns) v n | false ↦ refused 5 0 v ]) 0 u [] (x ∷ xs)
+    by b = replay-by (λ y v. elim b [ true ↦ plan-post (plan-by ns) v (y .event) (y .arg) | false ↦ as-found 5 0 v ])
+        (λ v. elim b [ true ↦ plan-run (plan-by ns) v n | false ↦ as-found 5 0 v ]) 0 u [] (x ∷ xs)
 
     once : Bool → Course
     once b = elim b [ true ↦ replay-examined (plan-by ns) u (x ∷ xs) n | false ↦ course 0 5 u [] ]

@@ -14,7 +14,7 @@ use Rattle.agreement.specs.PlanCalls.{machine-make}
 use Rattle.invariants.specs.CallLists.{to-post, to-run}
 use Rattle.invariants.specs.Good.{Sized}
 use Rattle.laws.proofs.Lists.{le-or-lt, or-right}
-use Rattle.meaning.specs.Calls.{Outcome, outcome, refused, take-front}
+use Rattle.meaning.specs.Calls.{Outcome, outcome, as-found, take-front}
 use Rattle.meaning.specs.Effects.{enqueue, take-queue}
 use Rattle.meaning.specs.Foreign.{event-fits}
 use Rattle.meaning.specs.Lists.{has}
@@ -59,7 +59,7 @@ enqueue-waits e a k = ⊎-elim over room (le-or-lt QUEUE (k .state .queue .len))
     room l = subst Done (sym (appended-room (k .state .queue) e a l)) (ap (λ r. r .done) (removed-front _ (omega arith) (omega arith)))
 
 waits-of : (u : State) (r : Res Ctx) → Ends Refusal r (λ j. Waits (j .state)) → outcome u r .number ≡ 0 → Waits (outcome u r .after)
-unfolding outcome refused
+unfolding outcome as-found
 waits-of u (ok k) h q = h
 waits-of u (refuse n) h q = absurd (h q)
 
@@ -159,8 +159,8 @@ with-5 : (m : ℕ) → has m REPLAY-ANSWERS ≡ true → has m (5 ∷ REPLAY-ANS
 unfolding has
 with-5 m h = or-right (eqb m 5) _ h
 
-five : (v : State) → has (refused 5 0 v .number) (5 ∷ REPLAY-ANSWERS) ≡ true
-unfolding has refused
+five : (v : State) → has (as-found 5 0 v .number) (5 ∷ REPLAY-ANSWERS) ≡ true
+unfolding has as-found
 five v = refl
 
 zero-in : has 0 (5 ∷ REPLAY-ANSWERS) ≡ true
@@ -169,14 +169,14 @@ zero-in = refl
 
 -- never 8 and never 14
 pub replay-number : (ns : List ℤ) (u : State) (xs : List Item) (n : ℕ) → has (replay ns u xs n .number) (5 ∷ REPLAY-ANSWERS) ≡ true
-unfolding replay machine-post machine-run refused
+unfolding replay machine-post machine-run as-found
 replay-number ns u xs n = go (well-formed ns)
   where
     calls-post : Bool → Item → State → Outcome
-    calls-post b x v = elim b [ true ↦ plan-post (plan-by ns) v (x .event) (x .arg) | false ↦ refused 5 0 v ]
+    calls-post b x v = elim b [ true ↦ plan-post (plan-by ns) v (x .event) (x .arg) | false ↦ as-found 5 0 v ]
 
     calls-run : Bool → State → Outcome
-    calls-run b v = elim b [ true ↦ plan-run (plan-by ns) v n | false ↦ refused 5 0 v ]
+    calls-run b v = elim b [ true ↦ plan-run (plan-by ns) v n | false ↦ as-found 5 0 v ]
 
     post-in : (b : Bool) (x : Item) (v : State) → has (calls-post b x v .number) (5 ∷ REPLAY-ANSWERS) ≡ true
     post-in true x v = with-5 _ (post-number (plan-by ns) v (x .event) (x .arg))

@@ -16,7 +16,7 @@ use Rattle.invariants.specs.CallLists.{Call, to-discard, to-post, to-run, to-st
 use Rattle.invariants.specs.Good.{Sized}
 use Rattle.laws.proofs.Lists.{and-left, and-right}
 use Rattle.laws.specs.Facts.{Each, none-left, one-more}
-use Rattle.meaning.specs.Calls.{fresh-by, outcome, refused, take-front}
+use Rattle.meaning.specs.Calls.{fresh-by, outcome, as-found, take-front}
 use Rattle.meaning.specs.Effects.{enqueue, mark-entered}
 use Rattle.meaning.specs.Foreign.{event-fits}
 use Rattle.meaning.specs.Lists.{every}
@@ -127,7 +127,7 @@ module _ (p : Plan) (never : never-leaves-root p ≡ true) where
 -- ---- calls: one that is done leaves the root active
 
 done-rooted : (u : State) (r : Res Ctx) → Ends Refusal r (On Marked) → outcome u r .number ≡ 0 → is-active (outcome u r .after) 0 ≡ true
-unfolding outcome refused is-active
+unfolding outcome as-found is-active
 done-rooted u (ok k) h e = h
 done-rooted u (refuse m) h e = absurd (h e)
 

@@ -9,6 +9,7 @@ use mathlib.Core.Option.{Option, none, some}
 use lib.ListN.{length, length-append, replicate}
 use lib.Dec.{ltb}
 use lib.IntN.{pos, ℤ}
+use Rattle.laws.proofs.Lists.{each-of}
 use Rattle.laws.specs.Facts.{Each, none-left, one-more}
 use Rattle.laws.proofs.Sound.{Sound-chart, sound-chart}
 use Rattle.laws.proofs.Value.{Sized-chart, sized-chart, value-passes}
@@ -17,7 +18,7 @@ use Rattle.meaning.specs.Compile.{block, code-of, compile, compile-of, compiled
 use Rattle.meaning.specs.Compile.{plan-lent, plan-of, start-block}
 use Rattle.meaning.specs.Lists.{concat-map, padded}
 use Rattle.meaning.specs.Rules.{failing-rule, failing-rule-of, row-fits}
-use Rattle.meaning.specs.Text.{Outcome, answer-of, done, refused}
+use Rattle.meaning.specs.Text.{Result, answer-of, done, refused}
 use Rattle.meaning.specs.Tree.{var-row}
 use Rattle.meaning.specs.Value.{chart-of}
 use Rattle.meaning.specs.WellFormed.{plan-by, well-formed}
@@ -103,14 +104,14 @@ module _ (v : List ℤ) (n : ℕ) where
       plan : List ℤ
       plan = compile (chart-of v)
 
-      placed : Bool → Outcome (List ℤ)
+      placed : Bool → Result (List ℤ)
       placed b = cond b (refused 4 0) (done plan)
 
       by-room : failing-rule-of v ≡ none → (b : Bool) → answer-of (placed b) .number ≡ 0 → P (plan-lent n (placed b))
       by-room q true e = absurd (omega arith)
       by-room q false e = f q (replicate (n - length plan) (pos 0))
 
-      given : Option ℕ → Outcome (List ℤ)
+      given : Option ℕ → Result (List ℤ)
       given o = elim o [ none ↦ compiled-into n plan | some r ↦ refused 3 r ]
 
       by-rule : (o : Option ℕ) → failing-rule-of v ≡ o → answer-of (given o) .number ≡ 0 → P (plan-lent n (given o))

@@ -8,6 +8,7 @@ use mathlib.Core.List.{List, [], _++_, _∷_}
 use lib.ListN.{length, length-append}
 use lib.Dec.{eqb}
 use borrow.Author.Tests.{eq-eqb, ne-eqb}
+use Rattle.laws.proofs.Lists.{keep-within}
 use Rattle.laws.proofs.Descent.{picks}
 use Rattle.laws.specs.Facts.{Sound, Under, child, deeper}
 use Rattle.laws.proofs.Preorder.{sub-kept, sub-run}

@@ -15,7 +15,7 @@ use Rattle.meaning.specs.Chart.{Chart}
 use Rattle.meaning.specs.Compile.{compile, compile-of, compiled-into, plan-of}
 use Rattle.meaning.specs.Plan.{Plan, plan-numbers}
 use Rattle.meaning.specs.Rules.{failing-rule-of}
-use Rattle.meaning.specs.Text.{Outcome, answer-of, done, refused}
+use Rattle.meaning.specs.Text.{Result, answer-of, done, refused}
 use Rattle.meaning.specs.Value.{VAR-ROW, chart-of}
 use Rattle.meaning.specs.WellFormed.{HEAD-ROW, INSTR-ROW, SIX, code-at, heads-at, plan-end}
 use Rattle.plan_laws.proofs.Accepted.{plan-long}
@@ -50,7 +50,7 @@ room-suffices v n e l = by-rule (failing-rule-of v) e
     plan : List ℤ
     plan = compile (chart-of v)
 
-    given : Option ℕ → Outcome (List ℤ)
+    given : Option ℕ → Result (List ℤ)
     given o = elim o [ none ↦ compiled-into n plan | some r ↦ refused 3 r ]
 
     fits : length plan ≤ n

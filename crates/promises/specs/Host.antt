@@ -19,7 +19,7 @@ use Rattle.meaning.specs.Rules.{failing-rule-of, verdict}
 use Rattle.meaning.specs.Text.{read, write, answer-of, written, lent-numbers, lent-bytes}
 use Rattle.meaning.specs.Compile.{compile-of, compiled, plan-lent}
 use Rattle.meaning.specs.WellFormed.{well-formed}
-use Rattle.meaning.specs.Calls.{Outcome, refused, called, lent as lent-trace, unstarted, start-of, run-of, post-of, discard-of}
+use Rattle.meaning.specs.Calls.{Outcome, as-found, called, lent as lent-trace, unstarted, start-of, run-of, post-of, discard-of}
 use Rattle.meaning.specs.Machine.{machine-start, machine-run, machine-post, machine-discard}
 use Rattle.promises.specs.Promises.{plan-verdict}
 use Rattle.promises.specs.Replay.{items-of, replay, replayed}
@@ -76,7 +76,7 @@ too-few a = cond (eqb (a .number) 0) (record { number = FOREIGN; place = 0 }) a
 -- a widget not yet started
 unfoldable pub unstarted-into : List ℤ → Called
 unstarted-into ns =
-    cond (ltb (length ns) STATE-NUMBERS) (called (refused FOREIGN 0 unstarted))
+    cond (ltb (length ns) STATE-NUMBERS) (called (as-found FOREIGN 0 unstarted))
     (called (record { number = 0; place = 0; after = unstarted; trace = [] }))
 
 abbrev pub HostUnstarted : List ℤ → ℤ → List ℤ → List ℤ → Type 0
@@ -84,7 +84,7 @@ HostUnstarted ns r report after = Ends (unstarted-into ns) ns r report after
 
 -- a start, by whether too few numbers are lent, the verdict on its chart or plan, and what it does where there is room
 unfoldable pub start-by : Bool → Answer → (State → Outcome) → State → Outcome
-start-by true a f u = refused (too-few a .number) (too-few a .place) u
+start-by true a f u = as-found (too-few a .number) (too-few a .place) u
 start-by false a f u = f u
 
 unfoldable pub start-into : Answer → (State → Outcome) → List ℤ → Outcome

@@ -13,7 +13,7 @@ use Rattle.meaning.specs.Steps.{Res, ok, refuse, Step, bind, _then_, require, l
 use Rattle.meaning.specs.Widget.{Ctx, set-queue, change, begin}
 use Rattle.meaning.specs.Effects.{take-queue, enqueue}
 use Rattle.meaning.specs.Foreign.{event-fits, own}
-use Rattle.meaning.specs.Calls.{refused, outcome, called, tests, take-front, post, discard}
+use Rattle.meaning.specs.Calls.{as-found, outcome, called, tests, take-front, post, discard}
 use Rattle.queue_calls.specs.Parts.{quiet}
 
 -- ---- a test that is met, or not
@@ -58,7 +58,7 @@ module _ (c : Chart) (u : State) (E : Step Ctx) (k : Ctx) where
 -- ---- the outcome
 
 module _ (u : State) {r : Res Ctx} where
-  pub refusing : {n : ℕ} → r ≡ refuse n → called (refused n 0 u) ≡ called (outcome u r)
+  pub refusing : {n : ℕ} → r ≡ refuse n → called (as-found n 0 u) ≡ called (outcome u r)
   unfolding outcome
   refusing e = ap (λ x. called (outcome u x)) (sym e)
 
@@ -73,17 +73,17 @@ module _ (c : Chart) (u : State) where
     rest : Step Ctx
     rest = require 10 (event-fits (c .events) e a) then enqueue e a
 
-    pub post-7 : u .started ≡ false → called (refused 7 0 u) ≡ called (post c u e a)
+    pub post-7 : u .started ≡ false → called (as-found 7 0 u) ≡ called (post c u e a)
     unfolding post rest
     post-7 s = refusing u (tests-7 c u rest (begin u 0) s)
 
     module _ (s : u .started ≡ true) where
-      pub post-6 : own c u ≡ false → called (refused 6 0 u) ≡ called (post c u e a)
+      pub post-6 : own c u ≡ false → called (as-found 6 0 u) ≡ called (post c u e a)
       unfolding post rest
       post-6 o = refusing u (tests-6 c u rest (begin u 0) s o)
 
       module _ (o : own c u ≡ true) {n : ℕ} (k : n ≡ c .events) where
-        pub post-10 : event-fits n e a ≡ false → called (refused 10 0 u) ≡ called (post c u e a)
+        pub post-10 : event-fits n e a ≡ false → called (as-found 10 0 u) ≡ called (post c u e a)
         unfolding post rest
         post-10 f = refusing u
             (tests-on c u rest (begin u 0) s o ∙ require-no 10 (enqueue e a) (begin u 0) (ap (λ x. event-fits x e a) (sym k) ∙ f))
@@ -96,7 +96,7 @@ module _ (c : Chart) (u : State) where
               ∙ require-on 10 (enqueue e a) (begin u 0) (ap (λ x. event-fits x e a) (sym k) ∙ f)
               ∙ ap (λ x. take-queue x (begin u 0)) (sym g)
 
-          pub post-9 : q .done ≡ false → called (refused 9 0 u) ≡ called (post c u e a)
+          pub post-9 : q .done ≡ false → called (as-found 9 0 u) ≡ called (post c u e a)
           unfolding post rest take-queue
           post-9 d = refusing u (to-queue ∙ require-no 9 (change (set-queue (q .queue))) (begin u 0) d)
 
@@ -104,12 +104,12 @@ module _ (c : Chart) (u : State) where
           unfolding post rest take-queue
           post-0 d = ending u (q .queue) (to-queue ∙ require-on 9 (change (set-queue (q .queue))) (begin u 0) d)
 
-  pub discard-7 : u .started ≡ false → called (refused 7 0 u) ≡ called (discard c u)
+  pub discard-7 : u .started ≡ false → called (as-found 7 0 u) ≡ called (discard c u)
   unfolding discard
   discard-7 s = refusing u (tests-7 c u (take-front (removed (u .queue))) (begin u 0) s)
 
   module _ (s : u .started ≡ true) where
-    pub discard-6 : own c u ≡ false → called (refused 6 0 u) ≡ called (discard c u)
+    pub discard-6 : own c u ≡ false → called (as-found 6 0 u) ≡ called (discard c u)
     unfolding discard
     discard-6 o = refusing u (tests-6 c u (take-front (removed (u .queue))) (begin u 0) s o)
 
@@ -117,7 +117,7 @@ module _ (c : Chart) (u : State) where
       to-front : (tests c u then take-front (removed (u .queue))) (begin u 0) ≡ take-front r (begin u 0)
       to-front = tests-on c u (take-front (removed (u .queue))) (begin u 0) s o ∙ ap (λ x. take-front x (begin u 0)) (sym g)
 
-      pub discard-8 : r .done ≡ false → called (refused 8 0 u) ≡ called (discard c u)
+      pub discard-8 : r .done ≡ false → called (as-found 8 0 u) ≡ called (discard c u)
       unfolding discard take-front
       discard-8 d = refusing u (to-front ∙ require-no 8 (change (set-queue (r .queue))) (begin u 0) d)
 

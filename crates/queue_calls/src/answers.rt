@@ -5,7 +5,7 @@ use meaning::State;
 use queue::Queue;
 ghost use mathlib.Core.Path.{_≡_};
 ghost use Rattle.meaning.specs.Widget.{set-queue};
-ghost use Rattle.meaning.specs.Calls.{called, refused as refusal};
+ghost use Rattle.meaning.specs.Calls.{called, as-found as refusal};
 ghost use Rattle.queue_calls.specs.Parts.{quiet};
 
 // 01: any other number leaves the state as it was, and no entry counts.

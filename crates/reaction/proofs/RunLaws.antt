@@ -27,7 +27,7 @@ use Rattle.meaning.specs.Value.{chart-of}
 use Rattle.meaning.specs.Widget.{Ctx, set-queue, change, begin}
 use Rattle.meaning.specs.Reaction.{step, settle}
 use Rattle.meaning.specs.Foreign.{own, queue-fits}
-use Rattle.meaning.specs.Calls.{refused, outcome, tests, take-front, react, run, called, lent}
+use Rattle.meaning.specs.Calls.{as-found, outcome, tests, take-front, react, run, called, lent}
 use Rattle.laws.proofs.Lists.{and-left, le-or-lt}
 use Rattle.meaning.specs.Rules.{Ruled}
 use Rattle.tree_walks.proofs.Passing.{sound}
@@ -69,16 +69,16 @@ module _ (b o : Bool) (k : Ctx) where
     one-waits e f g = rw (e, f, g)
 
 module _ (c : Chart) (u : State) (n : ℕ) where
-  pub run-7 : u .started ≡ false → run c u n ≡ refused 7 0 u
+  pub run-7 : u .started ≡ false → run c u n ≡ as-found 7 0 u
   unfolding run tests outcome
   run-7 e = ap (outcome u) (not-started (u .started) (own c u) (begin u n) (react c (removed (u .queue))) e)
 
-  pub run-6 : u .started ≡ true → own c u ≡ false → run c u n ≡ refused 6 0 u
+  pub run-6 : u .started ≡ true → own c u ≡ false → run c u n ≡ as-found 6 0 u
   unfolding run tests outcome
   run-6 s e = ap (outcome u) (foreign (u .started) (own c u) (begin u n) (react c (removed (u .queue))) s e)
 
   module _ (m : Removed) (x : m ≡ removed (u .queue)) (s : u .started ≡ true) (o : own c u ≡ true) where
-    pub run-8 : m .done ≡ false → run c u n ≡ refused 8 0 u
+    pub run-8 : m .done ≡ false → run c u n ≡ as-found 8 0 u
     unfolding run tests react take-front outcome
     run-8 e = ap (outcome u) (none-waits (u .started) (own c u) (begin u n) _ _ (removed (u .queue) .done) s o (ap
         (λ y. y .done) (sym x) ∙ e))

@@ -11,7 +11,7 @@ use Rattle.sizes.specs.Sizes.{STATES, VARIABLES, TRANSITIONS, ACTIONS}
 use Rattle.meaning.specs.Value.{Rows, VALUE, num, STATES-AT, STATE-ROW, VARS-AT, VAR-ROW, TRANSITIONS-AT, TRANS-ROW, ACTIONS-AT, ACT-ROW}
 use Rattle.meaning.specs.Grammar.{Record, s-record, v-record, e-record, t-record, a-record, no-record}
 use Rattle.meaning.specs.Line.{stage-after}
-use Rattle.meaning.specs.Text.{Walk, start, no-rows, turns-of, with-row, taken, flat, area, value-of}
+use Rattle.meaning.specs.Text.{Walk, walk-start, no-rows, turns-of, with-row, row-taken, flat, area, value-of}
 use Rattle.meaning.specs.declared.Turns.{Turns}
 use Rattle.reader.specs.Order.{place-of, turns-after, Within, with-counts}
 use Rattle.reader.specs.Scanned.{zeros, Wide, Fit}
@@ -133,7 +133,7 @@ module _ (w : Walk) (y z : List ℤ) (f : Fit (w .rows)) where
   next-numbers a-record q = store-a (w .rows) z y f (q .0) (q .1)
   next-numbers no-record q = let h = q .0 in absurd (omega arith)
 
-  pub next-turns : (k : Record) → RowFits k (turns-of w) y → turns-after k (turns-of w) ≡ turns-of (taken k y w)
+  pub next-turns : (k : Record) → RowFits k (turns-of w) y → turns-after k (turns-of w) ≡ turns-of (row-taken k y w)
   unfolding turns-of turns-after with-row stage-after
   next-turns s-record q = rw (length-more (w .rows .states) y)
   next-turns v-record q = rw (length-more (w .rows .vars) y)
@@ -210,7 +210,7 @@ fit-start = record {
   few-actions = omega arith;
 }
 
-pub turns-start : record { stage = 0; states = 0; vars = 0; transitions = 0; actions = 0 } ≡ turns-of start
+pub turns-start : record { stage = 0; states = 0; vars = 0; transitions = 0; actions = 0 } ≡ turns-of walk-start
 unfolding turns-of
 turns-start = refl
 

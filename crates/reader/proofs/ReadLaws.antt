@@ -15,7 +15,8 @@ use Rattle.sizes.specs.Sizes.{TEXT}
 use Rattle.meaning.specs.Value.{Rows, VALUE}
 use Rattle.meaning.specs.Split.{fields, lines}
 use Rattle.meaning.specs.Line.{line-of}
-use Rattle.meaning.specs.Text.{Outcome, done, refused, answer, answer-of, Walk, start, turns-of, taken, further, record-of, ending, walk}
+use Rattle.meaning.specs.Text.{Result, done, refused, answer, answer-of, Walk, walk-start, turns-of, row-taken, further}
+use Rattle.meaning.specs.Text.{record-of, ending, walk}
 use Rattle.meaning.specs.Text.{read-unless, read-text, value-of}
 use Rattle.meaning.specs.declared.Answer.{Answer}
 use Rattle.reader.specs.Scanned.{zeros, Fit, Scanned}
@@ -49,10 +50,10 @@ never-zero n w ((b ∷ bs) ∷ []) p e = let z : _≡_ {A = ℕ} 0 1 = cc in abs
 never-zero n w (line ∷ next ∷ rest) p e = go (line-of (record-of (fields line)) (turns-of w) (fields line) .mark) e (λ v. never-zero
     (n + 1) v (next ∷ rest) p)
   where
-    go : (m : ℕ) → further m n (taken (record-of (fields line)) (line-of (record-of (fields line)) (turns-of w) (fields line) .row) w)
+    go : (m : ℕ) → further m n (row-taken (record-of (fields line)) (line-of (record-of (fields line)) (turns-of w) (fields line) .row) w)
         (λ v. walk (n + 1) v (next ∷ rest)) ≡ refused 0 p
         → ((v : Walk) → walk (n + 1) v (next ∷ rest) ≡ refused 0 p → ⊥) → ⊥
-    go zero e ih = ih (taken (record-of (fields line)) (line-of (record-of (fields line)) (turns-of w) (fields line) .row) w) e
+    go zero e ih = ih (row-taken (record-of (fields line)) (line-of (record-of (fields line)) (turns-of w) (fields line) .row) w) e
     go (suc m) e ih = let z : _≡_ {A = ℕ} 0 1 = cc in absurd (omega arith)
 
 pub read-never-zero : (s : List ℕ) (p : ℕ) → read-text s ≡ refused 0 p → ⊥
@@ -61,11 +62,11 @@ read-never-zero s p e = go (ltb TEXT (length s)) e
   where
     go : (b : Bool) → read-unless b s ≡ refused 0 p → ⊥
     go true e = let z : _≡_ {A = ℕ} 0 1 = cc in absurd (omega arith)
-    go false e = never-zero 1 start (lines s) p e
+    go false e = never-zero 1 walk-start (lines s) p e
 
 -- ---- the whole
 module _ (s : List ℕ) (n : ℕ) where
-  read-walk : length s ≤ TEXT → read-text s ≡ walk 1 start (lines s)
+  read-walk : length s ≤ TEXT → read-text s ≡ walk 1 walk-start (lines s)
   unfolding read-text
   read-walk h = rw (le-ltb TEXT (length s) h)
 
@@ -73,12 +74,12 @@ module _ (s : List ℕ) (n : ℕ) where
   unfolding read-text
   rows-long l h e = rw (lt-ltb TEXT (length s) h) (record { answer = refl; numbers = e })
 
-  module _ (h : length s ≤ TEXT) (a : Answer) (l : List ℤ) (q : Scanned (walk 1 start (lines s)) a n l) where
-    by-cases : (P : Outcome Rows → Type 0) → ((r : Rows) → walk 1 start (lines s) ≡ done r → P (done r)) → ((b p : ℕ)
-        → walk 1 start (lines s) ≡ refused b p → P (refused b p)) → P (read-text s)
-    by-cases P f g = rw (read-walk h) (go (walk 1 start (lines s)) refl)
+  module _ (h : length s ≤ TEXT) (a : Answer) (l : List ℤ) (q : Scanned (walk 1 walk-start (lines s)) a n l) where
+    by-cases : (P : Result Rows → Type 0) → ((r : Rows) → walk 1 walk-start (lines s) ≡ done r → P (done r)) → ((b p : ℕ)
+        → walk 1 walk-start (lines s) ≡ refused b p → P (refused b p)) → P (read-text s)
+    by-cases P f g = rw (read-walk h) (go (walk 1 walk-start (lines s)) refl)
       where
-        go : (o : Outcome Rows) → walk 1 start (lines s) ≡ o → P o
+        go : (o : Result Rows) → walk 1 walk-start (lines s) ≡ o → P o
         go (done r) e = f r e
         go (refused b p) e = g b p e
 
@@ -88,10 +89,10 @@ module _ (s : List ℕ) (n : ℕ) where
         (λ b p f. record { answer = q .answer ∙ ap answer-of f; numbers = e })
 
     module _ (z : a .number ≡ 0) where
-      no-fault : (b p : ℕ) → walk 1 start (lines s) ≡ refused b p → ⊥
+      no-fault : (b p : ℕ) → walk 1 walk-start (lines s) ≡ refused b p → ⊥
       no-fault b p f =
           let k : b ≡ 0 = sym (ap (λ (a : Answer). a .number) (q .answer ∙ ap answer-of f)) ∙ z in
-          never-zero 1 start (lines s) p (f ∙ ap (λ (b : ℕ). refused b p) k)
+          never-zero 1 walk-start (lines s) p (f ∙ ap (λ (b : ℕ). refused b p) k)
 
       pub rows-few : (l′ : List ℤ) → n < VALUE → l′ ≡ zeros n → RowsRead (read-text s) n (answer 3 0) l′
       rows-few l′ v e = by-cases (λ o. RowsRead o n (answer 3 0) l′)
@@ -116,7 +117,7 @@ all-zero l k e = let h : length l ≡ k = ap length e ∙ length-replicate k (po
 pub zero-again : (l : List ℤ) (k n : ℕ) → k ≡ n → l ≡ zeros k → l ≡ zeros n
 zero-again l k n h e = e ∙ ap zeros h
 
-pub scanned-at : {o : Outcome Rows} {a : Answer} {k n : ℕ} {l : List ℤ} → k ≡ n → Scanned o a k l → Scanned o a n l
+pub scanned-at : {o : Result Rows} {a : Answer} {k n : ℕ} {l : List ℤ} → k ≡ n → Scanned o a k l → Scanned o a n l
 scanned-at {o} {a} {k} {n} {l} e q = subst (λ (i : ℕ). Scanned o a i l) e q
 
 pub zero-length : (l : List ℤ) (k : ℕ) → l ≡ zeros k → length l ≡ k

@@ -12,7 +12,8 @@ use borrow.Author.Tests.{leb-true}
 use Rattle.meaning.specs.Lists.{padded}
 use Rattle.meaning.specs.Value.{Rows, VALUE, chart-by, chart-of, rows-of}
 use Rattle.meaning.specs.Rules.{failing-rule, verdict}
-use Rattle.meaning.specs.Text.{Outcome, done, refused, answer, answer-of, lent, lent-numbers, read-text, value-of, by-rule, checked-if}
+use Rattle.meaning.specs.Text.{Result, done, refused, answer, answer-of, lent-result, lent-numbers, read-text, value-of, by-rule}
+use Rattle.meaning.specs.Text.{checked-if}
 use Rattle.meaning.specs.Text.{checked, read}
 use Rattle.meaning.specs.declared.Answer.{Answer}
 use Rattle.reader.specs.Scanned.{zeros, Fit}
@@ -22,19 +23,19 @@ use Rattle.reader.proofs.ReadLaws.{read-never-zero}
 use Rattle.reader.proofs.RowsBack.{rows-back, value-length}
 
 -- what the caller sees of an outcome
-abbrev pub Seen : ℕ → Outcome (List ℤ) → Answer → List ℤ → Type 0
+abbrev pub Seen : ℕ → Result (List ℤ) → Answer → List ℤ → Type 0
 Seen n o a l = (a ≡ answer-of o) × (l ≡ lent-numbers n o)
 
 seen-refused : (n b p : ℕ) (l : List ℤ) → l ≡ zeros n → Seen n (refused b p) (answer b p) l
-unfolding lent-numbers lent zeros
+unfolding lent-numbers lent-result zeros
 seen-refused n b p l e = (refl, e)
 
 seen-done : (n : ℕ) (r : Rows) (l : List ℤ) → Fit r → l ≡ value-of r ++ zeros (n - VALUE) → Seen n (done (value-of r)) (answer 0 0) l
-unfolding lent-numbers lent padded zeros
+unfolding lent-numbers lent-result padded zeros
 seen-done n r l f e = (refl, e ∙ ap (λ (k : ℕ). value-of r ++ replicate (n - k) (pos 0)) (sym (value-length r [] f)))
 
 -- ---- the lines were refused
-fault-by : (n : ℕ) (o : Outcome Rows) (a : Answer) (l : List ℤ) → RowsRead o n a l → (a .number ≡ 0 → ⊥) → Seen n (checked n o) a l
+fault-by : (n : ℕ) (o : Result Rows) (a : Answer) (l : List ℤ) → RowsRead o n a l → (a .number ≡ 0 → ⊥) → Seen n (checked n o) a l
 fault-by n (done r) a l q z = go (leb VALUE n) (q .answer) (q .numbers)
   where
     go : (b : Bool) → a ≡ answer-of (roomy-if b r) → Left (roomy-if b r) n l → Seen n (checked-if b r) a l
@@ -78,7 +79,7 @@ module _ (s : List ℕ) (n : ℕ) (a : Answer) (l : List ℤ) (q : RowsRead (rea
             (w ∙ ap (λ c. verdict (failing-rule c)) (chart-is r (j .1) (j .0))) l′ bad good
         passed r false h i j = let m : _≡_ {A = ℕ} 3 0 = sym (ap (λ (a : Answer). a .number) i) ∙ z in absurd (omega arith)
 
-        by : (o : Outcome Rows) → read-text s ≡ o → a ≡ answer-of (roomy n o) → Left (roomy n o) n l → Seen n (checked n o) v l′
+        by : (o : Result Rows) → read-text s ≡ o → a ≡ answer-of (roomy n o) → Left (roomy n o) n l → Seen n (checked n o) v l′
         by (done r) e i j = passed r (leb VALUE n) refl i j
         by (refused b p) e i j =
             let m : b ≡ 0 = sym (ap (λ (a : Answer). a .number) i) ∙ z in

@@ -13,7 +13,8 @@ use Rattle.meaning.specs.Value.{Rows, VALUE}
 use Rattle.meaning.specs.Split.{all, split, fields, lines}
 use Rattle.meaning.specs.Grammar.{Record, record-by}
 use Rattle.meaning.specs.Line.{Line, letter-of, field, line-of}
-use Rattle.meaning.specs.Text.{Outcome, done, refused, answer, answer-of, Walk, start, turns-of, taken, further, after-line, line-taken}
+use Rattle.meaning.specs.Text.{Result, done, refused, answer, answer-of, Walk, walk-start, turns-of, row-taken, further}
+use Rattle.meaning.specs.Text.{after-line, line-taken}
 use Rattle.meaning.specs.Text.{record-of, ending, walk, value-of}
 use Rattle.meaning.specs.declared.Answer.{Answer}
 use Rattle.meaning.specs.declared.Turns.{Turns}
@@ -60,7 +61,7 @@ module _ (s : List ℕ) (at e : ℕ) (q : Stop 10 s at (length s) e) where
 pub walking-start : (s : List ℕ) (n0 : ℕ) (l : List ℤ) → l ≡ zeros n0
     → Walking s n0 l 0 1 (record { stage = 0; states = 0; vars = 0; transitions = 0; actions = 0 })
 walking-start s n0 l e = record {
-  read = start;
+  read = walk-start;
   turns = turns-start;
   numbers = λ h. e ∙ laid-none n0 h;
   fit = fit-start;
@@ -78,21 +79,21 @@ module _ (s : List ℕ) (n0 : ℕ) (l : List ℤ) (at n : ℕ) (t : Turns) (w : 
   unfolding turns-of
   same-stage = ap (λ (t : Turns). t .stage) (w .turns)
 
-  gives : (o : Outcome Rows) → walk n (w .read) (lines (slice at (length s) s)) ≡ o → walk 1 start (lines s) ≡ o
+  gives : (o : Result Rows) → walk n (w .read) (lines (slice at (length s) s)) ≡ o → walk 1 walk-start (lines s) ≡ o
   gives o e = sym (w .same) ∙ e
 
-  refusal : (a p : ℕ) (l′ : List ℤ) → length l′ ≡ n0 → walk 1 start (lines s) ≡ refused a p
-      → Scanned (walk 1 start (lines s)) (answer a p) n0 l′
+  refusal : (a p : ℕ) (l′ : List ℤ) → length l′ ≡ n0 → walk 1 walk-start (lines s) ≡ refused a p
+      → Scanned (walk 1 walk-start (lines s)) (answer a p) n0 l′
   refusal a p l′ z e = record { answer = sym (ap answer-of e); numbers = λ r f h. impossible r (sym e ∙ f); size = z }
     where
       impossible : (r : Rows) → refused a p ≡ done r → (l′ ≡ value-of r ++ zeros (n0 - VALUE)) × Fit r
       impossible r f = let z : _≡_ {A = ℕ} 0 1 = cc in absurd (omega arith)
 
   module _ (e : ℕ) (q : Stop 10 s at (length s) e) where
-    pub scan-cut : e ≡ length s → at < length s → Scanned (walk 1 start (lines s)) (answer 1 n) n0 l
+    pub scan-cut : e ≡ length s → at < length s → Scanned (walk 1 walk-start (lines s)) (answer 1 n) n0 l
     scan-cut h k = refusal 1 n l (w .size) (gives (refused 1 n) (walk-cut s at e q (w .read) n h k))
 
-    pub scan-missing : e ≡ length s → length s ≤ at → t .stage < 2 → Scanned (walk 1 start (lines s)) (answer 1 n) n0 l
+    pub scan-missing : e ≡ length s → length s ≤ at → t .stage < 2 → Scanned (walk 1 walk-start (lines s)) (answer 1 n) n0 l
     scan-missing h k d =
         let g = same-stage in
         let z : leb 2 (w .read .stage) ≡ false = lt-leb 2 (w .read .stage) (omega arith) in
@@ -100,12 +101,13 @@ module _ (s : List ℕ) (n0 : ℕ) (l : List ℤ) (at n : ℕ) (t : Turns) (w : 
         (w .read .rows)) (refused 1 n)) z))
 
     pub scan-done : (l′ : List ℤ) → l′ ≡ with-counts t l → e ≡ length s → length s ≤ at → 2 ≤ t .stage
-        → Scanned (walk 1 start (lines s)) (answer 0 0) n0 l′
+        → Scanned (walk 1 walk-start (lines s)) (answer 0 0) n0 l′
     unfolding with-counts
     scan-done l′ f h k d =
         let g = same-stage in
         let z : leb 2 (w .read .stage) ≡ true = le-leb 2 (w .read .stage) (omega arith) in
-        let r : walk 1 start (lines s) ≡ done (w .read .rows) = gives (done (w .read .rows)) (walk-last s at e q (w .read) n h k ∙ ap (λ
+        let r : walk 1 walk-start (lines s) ≡ done (w .read .rows) =
+        gives (done (w .read .rows)) (walk-last s at e q (w .read) n h k ∙ ap (λ
         (b : Bool). cond b (done (w .read .rows)) (refused 1 n)) z) in
         record {
           answer = sym (ap answer-of r);
@@ -135,16 +137,16 @@ module _ (s : List ℕ) (n0 : ℕ) (l : List ℤ) (at n : ℕ) (t : Turns) (w : 
       mark-is : m ≡ line-of (record-of fs) (turns-of (w .read)) fs .mark
       mark-is = o .mark ∙ ap (λ (l : Line). l .mark) as-read
 
-      next-is : walk 1 start (lines s) ≡ further m n (taken (record-of fs) (line-of (record-of fs) (turns-of (w .read)) fs .row)
+      next-is : walk 1 walk-start (lines s) ≡ further m n (row-taken (record-of fs) (line-of (record-of fs) (turns-of (w .read)) fs .row)
           (w .read)) (λ v. walk (n + 1) v (lines (slice (e + 1) (length s) s)))
-      next-is = sym (w .same) ∙ walk-next s at e q (w .read) n h ∙ ap (λ (a : ℕ). further a n (taken (record-of fs) (line-of
+      next-is = sym (w .same) ∙ walk-next s at e q (w .read) n h ∙ ap (λ (a : ℕ). further a n (row-taken (record-of fs) (line-of
           (record-of fs) (turns-of (w .read)) fs .row) (w .read)) (λ v. walk (n + 1) v (lines (slice (e + 1) (length s) s)))) (sym mark-is)
 
-      pub scan-fault : (m ≡ 0 → ⊥) → Scanned (walk 1 start (lines s)) (answer m n) n0 l′
-      scan-fault z = refusal m n l′ (o .size ∙ w .size) (next-is ∙ stops m (taken (record-of fs) (line-of (record-of fs) (turns-of
+      pub scan-fault : (m ≡ 0 → ⊥) → Scanned (walk 1 walk-start (lines s)) (answer m n) n0 l′
+      scan-fault z = refusal m n l′ (o .size ∙ w .size) (next-is ∙ stops m (row-taken (record-of fs) (line-of (record-of fs) (turns-of
           (w .read)) fs .row) (w .read)) (λ v. walk (n + 1) v (lines (slice (e + 1) (length s) s))) z)
         where
-          stops : (m : ℕ) (v : Walk) (more : Walk → Outcome Rows) → (m ≡ 0 → ⊥) → further m n v more ≡ refused m n
+          stops : (m : ℕ) (v : Walk) (more : Walk → Result Rows) → (m ≡ 0 → ⊥) → further m n v more ≡ refused m n
           stops zero v more z = absurd (z refl)
           stops (suc m) v more z = refl
 
@@ -158,7 +160,7 @@ module _ (s : List ℕ) (n0 : ℕ) (l : List ℤ) (at n : ℕ) (t : Turns) (w : 
           let stored : VALUE ≤ n0 → l′ ≡ sets (laid (w .read .rows) (zeros (n0 - VALUE))) (place-of (record-of fs) (turns-of (w .read))) y =
           λ v. o .row z ∙ rw (g, w .turns, w .numbers v) in
           record {
-            read = taken (record-of fs) y (w .read);
+            read = row-taken (record-of fs) y (w .read);
             turns = i ∙ rw (g, w .turns) (next-turns (w .read) y (zeros (n0 - VALUE)) (w .fit) (record-of fs) fits);
             numbers = λ v. stored v ∙ next-numbers (w .read) y (zeros (n0 - VALUE)) (w .fit) (record-of fs) fits;
             fit = next-fit (w .read) y (zeros (n0 - VALUE)) (w .fit) (record-of fs) fits;
@@ -178,7 +180,7 @@ module _ (s : List ℕ) (n0 : ℕ) (l : List ℤ) where
   pub onward-start : l ≡ zeros n0 → Onward s n0 l begun
   onward-start e = record { goes = λ f. walking-start s n0 l e; ends = no-clash }
 
-  pub onward-over : (at : ℕ) (a : Answer) (r : Progress) → r ≡ over a → Scanned (walk 1 start (lines s)) a n0 l
+  pub onward-over : (at : ℕ) (a : Answer) (r : Progress) → r ≡ over a → Scanned (walk 1 walk-start (lines s)) a n0 l
       → Onward s n0 l r × (r .going ≡ true → at < r .at)
   onward-over at a r e h = subst (λ x. Onward s n0 l x × (x .going ≡ true
       → at < x .at)) (sym e) (record { goes = λ f. no-clash (sym f); ends = λ f. h }, λ f. no-clash (sym f))

@@ -9,7 +9,7 @@ use lib.Seq.{slice}
 use Rattle.sizes.specs.Sizes.{STATES, VARIABLES, TRANSITIONS, ACTIONS}
 use Rattle.meaning.specs.Value.{Rows, VALUE, STATE-ROW, VAR-ROW, TRANS-ROW, ACT-ROW}
 use Rattle.meaning.specs.Split.{lines}
-use Rattle.meaning.specs.Text.{Walk, answer, area, start, turns-of, walk}
+use Rattle.meaning.specs.Text.{Walk, answer, area, walk-start, turns-of, walk}
 use Rattle.meaning.specs.declared.Answer.{Answer}
 use Rattle.meaning.specs.declared.Turns.{Turns}
 use Rattle.reader.specs.Scanned.{zeros, Fit, Scanned}
@@ -30,7 +30,7 @@ pub record Walking (s : List ℕ) (n0 : ℕ) (l : List ℤ) (at n : ℕ) (t : Tu
   pub size : length l ≡ n0
   pub inside : at ≤ length s
   pub line : n ≤ at + 1
-  pub same : walk n read (lines (slice at (length s) s)) ≡ walk 1 start (lines s)
+  pub same : walk n read (lines (slice at (length s) s)) ≡ walk 1 walk-start (lines s)
 
 -- nothing is counted
 abbrev pub no-turns : Turns
@@ -47,4 +47,4 @@ over a = record { going = false; at = 0; line = 0; turns = no-turns; answer = a 
 -- so far: the next line is to be read, or the reading is over with its answer
 pub record Onward (s : List ℕ) (n0 : ℕ) (l : List ℤ) (p : Progress) : Type 0 where
   pub goes : p .going ≡ true → Walking s n0 l (p .at) (p .line) (p .turns)
-  pub ends : p .going ≡ false → Scanned (walk 1 start (lines s)) (p .answer) n0 l
+  pub ends : p .going ≡ false → Scanned (walk 1 walk-start (lines s)) (p .answer) n0 l

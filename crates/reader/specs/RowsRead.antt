@@ -7,24 +7,24 @@ use Prim.Native.Nat.{ℕ, _-_, _≤_}
 use lib.Dec.{leb}
 use lib.IntN.{ℤ}
 use Rattle.meaning.specs.Value.{Rows, VALUE}
-use Rattle.meaning.specs.Text.{Outcome, done, refused, answer-of, value-of}
+use Rattle.meaning.specs.Text.{Result, done, refused, answer-of, value-of}
 use Rattle.meaning.specs.declared.Answer.{Answer}
 use Rattle.reader.specs.Scanned.{zeros, Fit}
 
-abbrev pub roomy-if : Bool → Rows → Outcome Rows
+abbrev pub roomy-if : Bool → Rows → Result Rows
 roomy-if true r = done r
 roomy-if false r = refused 3 0
 
 -- 3 with place 0 where n numbers are too few
-abbrev pub roomy : ℕ → Outcome Rows → Outcome Rows
+abbrev pub roomy : ℕ → Result Rows → Result Rows
 roomy n (done r) = roomy-if (leb VALUE n) r
 roomy n (refused a p) = refused a p
 
 -- n lent numbers after it
-abbrev pub Left : Outcome Rows → ℕ → List ℤ → Type 0
+abbrev pub Left : Result Rows → ℕ → List ℤ → Type 0
 Left (done r) n l = (l ≡ value-of r ++ zeros (n - VALUE)) × Fit r
 Left (refused a p) n l = l ≡ zeros n
 
-pub record RowsRead (o : Outcome Rows) (n : ℕ) (a : Answer) (l : List ℤ) : Type 0 where
+pub record RowsRead (o : Result Rows) (n : ℕ) (a : Answer) (l : List ℤ) : Type 0 where
   pub answer : a ≡ answer-of (roomy n o)
   pub numbers : Left (roomy n o) n l

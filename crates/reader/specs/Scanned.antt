@@ -7,7 +7,7 @@ use lib.IntN.{ℤ, pos}
 use lib.ListN.{length, replicate}
 use Rattle.sizes.specs.Sizes.{STATES, VARIABLES, TRANSITIONS, ACTIONS}
 use Rattle.meaning.specs.Value.{Rows, VALUE, STATE-ROW, VAR-ROW, TRANS-ROW, ACT-ROW}
-use Rattle.meaning.specs.Text.{Outcome, done, refused, answer-of, value-of}
+use Rattle.meaning.specs.Text.{Result, done, refused, answer-of, value-of}
 use Rattle.meaning.specs.declared.Answer.{Answer}
 
 -- shut, or a page of them stands in each goal
@@ -31,7 +31,7 @@ pub record Fit (r : Rows) : Type 0 where
   pub few-actions : length (r .actions) ≤ ACTIONS
 
 -- of what a text gives, o, the answer is a, and n lent numbers are l
-pub record Scanned (o : Outcome Rows) (a : Answer) (n : ℕ) (l : List ℤ) : Type 0 where
+pub record Scanned (o : Result Rows) (a : Answer) (n : ℕ) (l : List ℤ) : Type 0 where
   pub answer : a ≡ answer-of o
   pub numbers : (r : Rows) → o ≡ done r → VALUE ≤ n → (l ≡ value-of r ++ zeros (n - VALUE)) × Fit r
   pub size : length l ≡ n

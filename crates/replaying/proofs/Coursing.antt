@@ -14,7 +14,7 @@ use Rattle.queue.specs.declared.Item.{Item}
 use Rattle.queue.proofs.Numbers.{places-long}
 use Rattle.invariants.specs.Good.{Sized}
 use Rattle.invariants.proofs.Values.{fits-free}
-use Rattle.meaning.specs.Calls.{Outcome, refused as refusal}
+use Rattle.meaning.specs.Calls.{Outcome, as-found as refusal}
 use Rattle.meaning.specs.Machine.{plan-post, plan-run}
 use Rattle.meaning.specs.Plan.{Plan}
 use Rattle.meaning.specs.declared.State.{State}

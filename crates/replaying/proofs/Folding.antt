@@ -8,7 +8,7 @@ use lib.IntN.{ℤ}
 use lib.Dec.{eqb}
 use borrow.Author.Tests.{eqb-true, eqb-false}
 use Rattle.queue.specs.declared.Item.{Item}
-use Rattle.meaning.specs.Calls.{Outcome, refused}
+use Rattle.meaning.specs.Calls.{Outcome, as-found}
 use Rattle.meaning.specs.declared.State.{State}
 use Rattle.widget.proofs.Ending.{ended}
 use Rattle.promises.specs.Replay.{Course, course, or-stop, replay-by}
@@ -68,16 +68,16 @@ module _ (post : Item → State → Outcome) (run : State → Outcome) where
       (sym (goes d (r .trace) r (λ w. replay-by post run (suc d) w (r .trace) ys) b) ∙ f)
 
   module _ (d : ℕ) (u : State) (t : List ℤ) (x : Item) (xs : List Item) where
-    pub post-stops : {n : ℕ} → post x u ≡ refused n 0 u → (n ≡ 0 → ⊥) → replay-by post run d u t (x ∷ xs) ≡ course d n u t
-    unfolding replay-by refused
+    pub post-stops : {n : ℕ} → post x u ≡ as-found n 0 u → (n ≡ 0 → ⊥) → replay-by post run d u t (x ∷ xs) ≡ course d n u t
+    unfolding replay-by as-found
     post-stops {n} e z =
         stops d t (post x u) (ran d xs) (λ y. z (ap (λ (o : Outcome). o .number) (sym e) ∙ y))
         ∙ ap (λ (o : Outcome). course d (o .number) (o .after) t) e
 
     module _ (p : post x u .number ≡ 0) where
-      pub run-stops : {n : ℕ} → run (post x u .after) ≡ refused n 0 (post x u .after) → (n ≡ 0 → ⊥)
+      pub run-stops : {n : ℕ} → run (post x u .after) ≡ as-found n 0 (post x u .after) → (n ≡ 0 → ⊥)
           → replay-by post run d u t (x ∷ xs) ≡ course d n (post x u .after) []
-      unfolding replay-by refused
+      unfolding replay-by as-found
       run-stops {n} e z =
           let r = run (post x u .after) in
           goes d t (post x u) (ran d xs) p

@@ -15,7 +15,7 @@ use Rattle.queue.specs.declared.Queue.{Queue}
 use Rattle.queue.proofs.Numbers.{held-lent, numbers-long}
 use Rattle.invariants.specs.Good.{Sized}
 use Rattle.invariants.proofs.Values.{fits-len}
-use Rattle.meaning.specs.Calls.{Outcome, outcome, refused}
+use Rattle.meaning.specs.Calls.{Outcome, outcome, as-found}
 use Rattle.meaning.specs.Foreign.{event-fits}
 use Rattle.meaning.specs.Lists.{padded}
 use Rattle.meaning.specs.Machine.{plan-tests, plan-own}
@@ -70,11 +70,11 @@ module _ (p : Plan) (u : State) (xs : List Item) (n : ℕ) where
       ∙ ap (λ b. or-stop 0 [] (outcome u ((require 7 s then require 6 b) (begin u 0))) (λ v. through p n v xs)) f
 
   pub once-7 : u .started ≡ false → replay-examined p u xs n ≡ course 0 7 u []
-  unfolding or-stop outcome refused require _then_ bind
+  unfolding or-stop outcome as-found require _then_ bind
   once-7 e = once-by false (plan-own (p .states) (p .vars) (p .events) u) e refl
 
   pub once-6 : u .started ≡ true → plan-own (p .states) (p .vars) (p .events) u ≡ false → replay-examined p u xs n ≡ course 0 6 u []
-  unfolding or-stop outcome refused require _then_ bind
+  unfolding or-stop outcome as-found require _then_ bind
   once-6 e f = once-by true false e f
 
   pub once-on : Starts p u → replay-examined p u xs n ≡ through p n u xs
@@ -106,11 +106,11 @@ module _ {p : Plan} {u : State} (h : Starts p u) (z : Sized u) {ns : List ℤ} (
 
 posted-after : (p : Plan) (x : Item) (u : State) → post-on p x u .number ≡ 0
     → post-on p x u .after ≡ set-queue (appended (u .queue) (x .event) (x .arg) .queue) u
-unfolding refused
+unfolding as-found
 posted-after p x u z = go (is-active u 0) (event-fits (p .events) (x .event) (x .arg)) (appended (u .queue) (x .event) (x .arg) .done)
     refl refl refl
   where
-    no : {m : ℕ} → post-on p x u ≡ refused m 0 u → (m ≡ 0 → ⊥) → ⊥
+    no : {m : ℕ} → post-on p x u ≡ as-found m 0 u → (m ≡ 0 → ⊥) → ⊥
     no e k = k (ap (λ (o : Outcome). o .number) (sym e) ∙ z)
 
     go : (a b d : Bool) → is-active u 0 ≡ a → event-fits (p .events) (x .event) (x .arg) ≡ b

@@ -18,7 +18,7 @@ use Rattle.queue.specs.declared.Queue.{Queue}
 use Rattle.queue.specs.declared.Removed.{Removed}
 use Rattle.queue.proofs.Waiting.{appended-full}
 use Rattle.laws.proofs.Lists.{le-or-lt}
-use Rattle.meaning.specs.Calls.{Outcome, outcome, refused, take-front}
+use Rattle.meaning.specs.Calls.{Outcome, outcome, as-found, take-front}
 use Rattle.meaning.specs.Effects.{enqueue, take-queue}
 use Rattle.meaning.specs.Foreign.{event-fits}
 use Rattle.meaning.specs.Machine.{plan-react, plan-settle, plan-step}
@@ -42,12 +42,12 @@ module _ (p : Plan) (x : Item) (u : State) where
   rest : Step Ctx
   rest = require 10 (event-fits (p .events) (x .event) (x .arg)) then enqueue (x .event) (x .arg)
 
-  pub post-6 : is-active u 0 ≡ false → post-on p x u ≡ refused 6 0 u
+  pub post-6 : is-active u 0 ≡ false → post-on p x u ≡ as-found 6 0 u
   unfolding post-on rest outcome
   post-6 a = ap (outcome u) (require-no 6 rest (begin u 0) a)
 
   module _ (a : is-active u 0 ≡ true) {n : ℕ} (k : n ≡ p .events) where
-    pub post-10 : event-fits n (x .event) (x .arg) ≡ false → post-on p x u ≡ refused 10 0 u
+    pub post-10 : event-fits n (x .event) (x .arg) ≡ false → post-on p x u ≡ as-found 10 0 u
     unfolding post-on rest outcome
     post-10 f = ap (outcome u) (require-on 6 rest (begin u 0) a
         ∙ require-no 10 (enqueue (x .event) (x .arg)) (begin u 0) (ap (λ m. event-fits m (x .event) (x .arg)) (sym k) ∙ f))
@@ -58,7 +58,7 @@ module _ (p : Plan) (x : Item) (u : State) where
       to-queue = require-on 6 rest (begin u 0) a
           ∙ require-on 10 (enqueue (x .event) (x .arg)) (begin u 0) (ap (λ m. event-fits m (x .event) (x .arg)) (sym k) ∙ f)
 
-      pub post-9 : appended (u .queue) (x .event) (x .arg) .done ≡ false → post-on p x u ≡ refused 9 0 u
+      pub post-9 : appended (u .queue) (x .event) (x .arg) .done ≡ false → post-on p x u ≡ as-found 9 0 u
       unfolding post-on rest outcome take-queue
       post-9 d = ap (outcome u) (to-queue
           ∙ require-no 9 (change (set-queue (appended (u .queue) (x .event) (x .arg) .queue))) (begin u 0) d)
@@ -99,7 +99,7 @@ room-len q e a d = ⊎-elim full room (le-or-lt QUEUE (q .len))
 -- ---- the ways that an event goes
 
 module _ (p : Plan) (x : Item) (k : Lent) where
-  stays : (n : ℕ) → post-on p x (widget k) ≡ refused n 0 (widget k) → (n ≡ 0 → ⊥)
+  stays : (n : ℕ) → post-on p x (widget k) ≡ as-found n 0 (widget k) → (n ≡ 0 → ⊥)
       → Turned p x k (record { posted = false; number = n; at = 0 }) k
   stays n e z = record {
     not-posted = λ y. (e, refl);
@@ -172,7 +172,8 @@ module _ (p : Plan) (x : Item) (k : Lent) where
           not-posted = λ y. absurd (true≢false y);
           some-answer = λ y. absurd (true≢false y);
           was-posted = λ y. ap (λ o. o .number) posts;
-          not-run = λ y z. after-is ∙ runs ∙ ends-refused v (ran .did) whole-now z ∙ ap (λ o. refused (w .number) 0 (o .after)) (sym posts);
+          not-run = λ y z. after-is ∙ runs ∙ ends-refused v (ran .did) whole-now z
+              ∙ ap (λ o. as-found (w .number) 0 (o .after)) (sym posts);
           was-run = λ y z. after-is ∙ runs ∙ ends-done v (ran .did) whole-now z;
           fits = ran .did .fits;
           kept = ran .did .kept;

@@ -8,7 +8,7 @@ use lib.IntN.{ℤ}
 use Rattle.queue.specs.Queue.{appended, removed}
 use Rattle.queue.specs.Numbers.{queue-by}
 use Rattle.queue.specs.declared.Item.{Item}
-use Rattle.meaning.specs.Calls.{Outcome, refused}
+use Rattle.meaning.specs.Calls.{Outcome, as-found}
 use Rattle.meaning.specs.Foreign.{is-none}
 use Rattle.meaning.specs.Lists.{every}
 use Rattle.meaning.specs.Plan.{Plan}
@@ -40,11 +40,11 @@ run-after p x before = run-on p (length (before .trace)) (after-post p x before)
 -- an event that was posted and run
 pub record Turned (p : Plan) (x : Item) (before : Lent) (r : Turn) (after : Lent) : Type 0 where
   -- the post is refused, and nothing is touched
-  pub not-posted : r .posted ≡ false → (post-on p x (widget before) ≡ refused (r .number) 0 (widget before)) × (after ≡ before)
+  pub not-posted : r .posted ≡ false → (post-on p x (widget before) ≡ as-found (r .number) 0 (widget before)) × (after ≡ before)
   pub some-answer : r .posted ≡ false → r .number ≡ 0 → ⊥
   pub was-posted : r .posted ≡ true → post-on p x (widget before) .number ≡ 0
   -- the run is refused; nothing is said of the arrays
-  pub not-run : r .posted ≡ true → (r .number ≡ 0 → ⊥) → run-after p x before ≡ refused (r .number) 0 (after-post p x before)
+  pub not-run : r .posted ≡ true → (r .number ≡ 0 → ⊥) → run-after p x before ≡ as-found (r .number) 0 (after-post p x before)
   pub was-run : r .posted ≡ true → r .number ≡ 0
       → run-after p x before ≡ record { number = 0; place = 0; after = widget after; trace = take (r .at) (after .trace) }
   pub fits : r .at ≤ length (after .trace)

@@ -15,7 +15,7 @@ use Rattle.meaning.specs.Chart.{Chart}
 use Rattle.meaning.specs.Tree.{is-o, kind-of}
 use Rattle.meaning.specs.Rules.{rule-1, rule-2, rule-3, rule-4, rule-5, rule-6, rule-7, first-failing, failing-rule, after-rule-0}
 use Rattle.meaning.specs.Rules.{failing-rule-of}
-use Rattle.meaning.specs.Text.{Outcome, done, refused, value-of, by-rule, checked-if, checked, read-text, read, text-of, write}
+use Rattle.meaning.specs.Text.{Result, done, refused, value-of, by-rule, checked-if, checked, read-text, read, text-of, write}
 use Rattle.round_trip.proofs.Numbers.{no}
 use Rattle.round_trip.proofs.Fields.{both}
 use Rattle.round_trip.proofs.WalkKept.{text-kept}
@@ -78,7 +78,7 @@ accepted text n v e = go (read-text text) refl e
     room r true s e = rule r (failing-rule (chart-by r)) s refl e
     room r false s e = no cc
 
-    go : (o : Outcome Rows) → read-text text ≡ o → checked n o ≡ done v → Accepted text v
+    go : (o : Result Rows) → read-text text ≡ o → checked n o ≡ done v → Accepted text v
     go (done r) s e = room r (leb VALUE n) s e
     go (refused a p) s e = no cc
 

@@ -16,7 +16,7 @@ use Rattle.meaning.specs.Value.{action-statable}
 use Rattle.meaning.specs.Split.{LF, fields, lines, tails, ended}
 use Rattle.meaning.specs.Grammar.{Record, s-record, v-record, e-record, t-record, a-record, no-record, name, record-by}
 use Rattle.meaning.specs.Line.{Line, letter-of, field, in-order, stage-after, turn-of, line-by, line-in-order, line-of, text-of-row}
-use Rattle.meaning.specs.Text.{done, refused, Walk, start, turns-of, with-row, taken, further, record-of, ending, walk, no-rows}
+use Rattle.meaning.specs.Text.{done, refused, Walk, walk-start, turns-of, with-row, row-taken, further, record-of, ending, walk, no-rows}
 use Rattle.meaning.specs.Text.{read-unless, read-text, text-by}
 use Rattle.meaning.specs.declared.Turns.{Turns}
 use Rattle.round_trip.proofs.Numbers.{no}
@@ -73,7 +73,7 @@ module _ (w : Walk) (s : Sound w) (l : List ℕ) (x : List ℤ) where
   rs = w .rows
 
   s-step : w .stage ≡ 0 → RowKept s-record (length (rs .states)) l x
-      → Step w l (taken s-record x w)
+      → Step w l (row-taken s-record x w)
   unfolding with-row stage-after state-statable
   s-step o k = record {
     more =
@@ -105,7 +105,7 @@ module _ (w : Walk) (s : Sound w) (l : List ℕ) (x : List ℤ) where
     };
   }
 
-  v-step : w .stage ≤ 1 → RowKept v-record (length (rs .vars)) l x → Step w l (taken v-record x w)
+  v-step : w .stage ≤ 1 → RowKept v-record (length (rs .vars)) l x → Step w l (row-taken v-record x w)
   unfolding with-row stage-after var-statable
   v-step o k = record {
     more =
@@ -137,7 +137,7 @@ module _ (w : Walk) (s : Sound w) (l : List ℕ) (x : List ℤ) where
     };
   }
 
-  e-step : w .stage ≤ 1 → RowKept e-record 0 l x → Step w l (taken e-record x w)
+  e-step : w .stage ≤ 1 → RowKept e-record 0 l x → Step w l (row-taken e-record x w)
   unfolding with-row stage-after
   e-step o k = record {
     more =
@@ -167,7 +167,7 @@ module _ (w : Walk) (s : Sound w) (l : List ℕ) (x : List ℤ) where
   }
 
   t-step : w .stage ≡ 2 → RowKept t-record (length (rs .transitions)) l x
-      → Step w l (taken t-record x w)
+      → Step w l (row-taken t-record x w)
   unfolding with-row stage-after trans-statable
   t-step o k = record {
     more =
@@ -198,7 +198,7 @@ module _ (w : Walk) (s : Sound w) (l : List ℕ) (x : List ℤ) where
     };
   }
 
-  a-step : 2 ≤ w .stage → RowKept a-record (length (rs .actions)) l x → Step w l (taken a-record x w)
+  a-step : 2 ≤ w .stage → RowKept a-record (length (rs .actions)) l x → Step w l (row-taken a-record x w)
   unfolding with-row stage-after action-statable
   a-step o k = record {
     more =
@@ -254,7 +254,7 @@ module _ (w : Walk) (s : Sound w) (l : List ℕ) where
   turns = turns-of w
 
   abbrev StepBy : Record → Line → Type 0
-  StepBy k x = Step w l (taken k (x .row) w)
+  StepBy k x = Step w l (row-taken k (x .row) w)
 
   in-order-kept : (k : Record) (b : Bool) → in-order (w .stage) k ≡ b → Named (letter-of (field (fields l) 0)) k
       → Good (line-in-order b k (turn-of k turns) (fields l) .mark) → StepBy k (line-in-order b k (turn-of k turns) (fields l))
@@ -307,11 +307,11 @@ walk-kept n w (line ∷ next ∷ rest) r s e = go (x .mark) refl e (λ v t f. wa
     x : Line
     x = line-of k (turns-of w) (fields line)
 
-    go : (m : ℕ) → x .mark ≡ m → further m n (taken k (x .row) w) (λ v. walk (n + 1) v (next ∷ rest)) ≡ done r
+    go : (m : ℕ) → x .mark ≡ m → further m n (row-taken k (x .row) w) (λ v. walk (n + 1) v (next ∷ rest)) ≡ done r
         → ((v : Walk) → Sound v → walk (n + 1) v (next ∷ rest) ≡ done r → Kept v (next ∷ rest) r) → Kept w (line ∷ next ∷ rest) r
     go zero h e ih =
         let st = line-kept w s line (zero-good (x .mark) h) in
-        let v : Walk = taken k (x .row) w in
+        let v : Walk = row-taken k (x .row) w in
         let t = ih v (st .sound) e in
         record {
           text = grow (lines-of (w .stage) (w .rows)) (lines-of (v .stage) (v .rows)) line (next ++ tails LF rest) (st .more) ∙ t .text;
@@ -321,7 +321,7 @@ walk-kept n w (line ∷ next ∷ rest) r s e = go (x .mark) refl e (λ v t f. wa
 
 -- ---- the text
 
-start-sound : Sound start
+start-sound : Sound walk-start
 start-sound = record {
   shaped = record {
     states = no-states;
@@ -345,5 +345,5 @@ text-kept text r e = go (ltb TEXT (length text)) e
     go : (t : Bool) → read-unless t text ≡ done r → (text-by r ≡ text) × Shaped r
     go true e = no cc
     go false e =
-        let k = walk-kept 1 start (lines text) r start-sound e in
+        let k = walk-kept 1 walk-start (lines text) r start-sound e in
         (sym (k .text) ∙ rw (start-lines, glued-lines), k .shaped)

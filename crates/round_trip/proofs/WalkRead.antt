@@ -15,7 +15,7 @@ use Rattle.meaning.specs.Value.{action-statable}
 use Rattle.meaning.specs.Split.{LF, fields, lines, ended}
 use Rattle.meaning.specs.Grammar.{s-record, v-record, e-record, t-record, a-record, record-by}
 use Rattle.meaning.specs.Line.{in-order, stage-after, line-of, text-of-row}
-use Rattle.meaning.specs.Text.{Outcome, done, Walk, start, turns-of, with-row, line-taken, ending, walk, read-text, text-by}
+use Rattle.meaning.specs.Text.{Result, done, Walk, walk-start, turns-of, with-row, line-taken, ending, walk, read-text, text-by}
 use Rattle.round_trip.proofs.Splits.{Free, AllFree, all-free-append, lines-ended}
 use Rattle.round_trip.proofs.Fields.{both}
 use Rattle.round_trip.proofs.Records.{row-free, row-named, row-reads}
@@ -25,7 +25,7 @@ use Rattle.round_trip.proofs.Shaped.{Shaped, Fitting, AllLong}
 
 -- from w the line l is taken, and v is what was read then
 abbrev Goes : Walk → List ℕ → Walk → Type 0
-Goes w l v = (n : ℕ) (more : Walk → Outcome Rows) → line-taken (fields l) n w more ≡ more v
+Goes w l v = (n : ℕ) (more : Walk → Result Rows) → line-taken (fields l) n w more ≡ more v
 
 data Reads : Walk → List (List ℕ) → Walk → Type 0 where
   none : {w : Walk} → Reads w [] w
@@ -211,7 +211,7 @@ module _
     abbrev v-past : ℕ
     v-past = stage-past 1 (stage-past 0 0 ss) vs
 
-    all-reads : Reads start all-lines (at (stage-past 3 (stage-past 2 2 ts) qs) ss vs m ts qs)
+    all-reads : Reads walk-start all-lines (at (stage-past 3 (stage-past 2 2 ts) qs) ss vs m ts qs)
     all-reads =
         let s0 : stage-past 0 0 ss ≤ 1 = past-below 0 0 ss 1 (omega arith) (omega arith) in
         let s2 : 2 ≤ stage-past 2 2 ts = past-above 2 2 ts 2 (omega arith) (omega arith) in
@@ -225,7 +225,7 @@ module _
         (fine-reads (text-of-row a-record) ARow (λ st acc. at st ss vs m ts acc) (λ st. 2 ≤ st) 3 (omega arith) (a-goes ss vs ts m)
         (stage-past 2 2 ts) [] qs 0 refl s2 fa))))
 
-    all-walked : walk 1 start (all-lines ++ ([] ∷ []))
+    all-walked : walk 1 walk-start (all-lines ++ ([] ∷ []))
         ≡ done (record { states = ss; vars = vs; events = m; transitions = ts; actions = qs })
     all-walked =
         let s2 : 2 ≤ stage-past 2 2 ts = past-above 2 2 ts 2 (omega arith) (omega arith) in
@@ -270,10 +270,10 @@ module _ (r : Rows) (s : Shaped r) where
   fa : AllFine ARow 0 (r .actions)
   fa = fine-rows action-statable ACT-ROW ACTIONS (r .actions) (s .actions)
 
-  lines-read : walk 1 start (lines (text-by r)) ≡ done r
+  lines-read : walk 1 walk-start (lines (text-by r)) ≡ done r
   unfolding text-by
   lines-read =
-      ap (λ (ls : List (List ℕ)). walk 1 start ls) (lines-ended
+      ap (λ (ls : List (List ℕ)). walk 1 walk-start ls) (lines-ended
       (all-lines (r .states) (r .vars) (r .transitions) (r .actions) (r .events) fs fv (s .events) ft fa)
       (all-free (r .states) (r .vars) (r .transitions) (r .actions) (r .events) fs fv (s .events) ft fa))
       ∙ all-walked (r .states) (r .vars) (r .transitions) (r .actions) (r .events) fs fv (s .events) ft fa

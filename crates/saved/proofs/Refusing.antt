@@ -14,7 +14,7 @@ use Rattle.meaning.specs.Plan.{Plan}
 use Rattle.meaning.specs.Steps.{refuse, Step, _then_, bind, require}
 use Rattle.meaning.specs.Widget.{Ctx, is-active}
 use Rattle.meaning.specs.Foreign.{own, legal}
-use Rattle.meaning.specs.Calls.{outcome, refused, tests, run, post, discard}
+use Rattle.meaning.specs.Calls.{outcome, as-found, tests, run, post, discard}
 use Rattle.meaning.specs.Machine.{plan-tests, plan-run, plan-post, plan-discard, plan-own}
 use Rattle.promises.specs.Saved.{states-widget, no-widget, widget-of}
 
@@ -49,26 +49,26 @@ module _ (started : Bool) where
     | false ↦ refl
   ]
 
-  pub run-refused : (c : Chart) (n : ℕ) → run c none n ≡ refused (answered started) 0 none
+  pub run-refused : (c : Chart) (n : ℕ) → run c none n ≡ as-found (answered started) 0 none
   unfolding run outcome
   run-refused c n = ap (outcome none) (then-refused (tests c none) _ _ _ (tests-refuse c _))
 
-  pub post-refused : (c : Chart) (e a : ℤ) → post c none e a ≡ refused (answered started) 0 none
+  pub post-refused : (c : Chart) (e a : ℤ) → post c none e a ≡ as-found (answered started) 0 none
   unfolding post outcome
   post-refused c e a = ap (outcome none) (then-refused (tests c none) _ _ _ (tests-refuse c _))
 
-  pub discard-refused : (c : Chart) → discard c none ≡ refused (answered started) 0 none
+  pub discard-refused : (c : Chart) → discard c none ≡ as-found (answered started) 0 none
   unfolding discard outcome
   discard-refused c = ap (outcome none) (then-refused (tests c none) _ _ _ (tests-refuse c _))
 
-  pub plan-run-refused : (p : Plan) (n : ℕ) → plan-run p none n ≡ refused (answered started) 0 none
+  pub plan-run-refused : (p : Plan) (n : ℕ) → plan-run p none n ≡ as-found (answered started) 0 none
   unfolding plan-run outcome
   plan-run-refused p n = ap (outcome none) (then-refused (plan-tests p none) _ _ _ (plan-tests-refuse p _))
 
-  pub plan-post-refused : (p : Plan) (e a : ℤ) → plan-post p none e a ≡ refused (answered started) 0 none
+  pub plan-post-refused : (p : Plan) (e a : ℤ) → plan-post p none e a ≡ as-found (answered started) 0 none
   unfolding plan-post outcome
   plan-post-refused p e a = ap (outcome none) (then-refused (plan-tests p none) _ _ _ (plan-tests-refuse p _))
 
-  pub plan-discard-refused : (p : Plan) → plan-discard p none ≡ refused (answered started) 0 none
+  pub plan-discard-refused : (p : Plan) → plan-discard p none ≡ as-found (answered started) 0 none
   unfolding plan-discard outcome
   plan-discard-refused p = ap (outcome none) (then-refused (plan-tests p none) _ _ _ (plan-tests-refuse p _))

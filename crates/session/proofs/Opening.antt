@@ -13,7 +13,7 @@ use Rattle.meaning.specs.Lists.{padded}
 use Rattle.meaning.specs.Value.{Rows, VALUE, chart-of, chart-by}
 use Rattle.meaning.specs.Rules.{failing-rule}
 use Rattle.meaning.specs.Calls.{start, unstarted}
-use Rattle.meaning.specs.Text.{Outcome, done, refused, answer-of, lent, lent-numbers, read, read-text, checked, checked-if, by-rule}
+use Rattle.meaning.specs.Text.{Result, done, refused, answer-of, lent-result, lent-numbers, read, read-text, checked, checked-if, by-rule}
 use Rattle.meaning.specs.Program.{ROOM, reported, do-line, output-by, output}
 use Rattle.meaning.specs.Rules.{Ruled}
 use Rattle.reader.proofs.ReadLaws.{read-never-zero}
@@ -38,7 +38,7 @@ never-zero text n p e = go (read-text text) refl e
     room r true e = rule r (failing-rule (chart-by r)) e
     room r false e = let z : _≡_ {A = ℕ} 3 0 = cc in omega arith
 
-    go : (o : Outcome Rows) → read-text text ≡ o → checked n o ≡ refused 0 p → ⊥
+    go : (o : Result Rows) → read-text text ≡ o → checked n o ≡ refused 0 p → ⊥
     go (done r) s e = room r (leb VALUE n) e
     go (refused a q) s e = let z : a ≡ 0 = cc in read-never-zero text q (s ∙ ap (λ b. refused b q) z)
 
@@ -56,7 +56,7 @@ module _ (text : List ℕ) (a : Answer) (l : List ℤ) (before after : List ℕ)
   unfolding Opens
   open-refused e h g w = go (read text VALUE) e
     where
-      go : (o : Outcome (List ℤ)) → a ≡ answer-of o → Opens o l before at after r
+      go : (o : Result (List ℤ)) → a ≡ answer-of o → Opens o l before at after r
       go (done v) e = absurd (h (ap (λ x. x .number) e))
       go (refused n p) e = record { going = g; went = rw (ap (λ x. x .number) e) at w }
 
@@ -70,10 +70,10 @@ module _ (text : List ℕ) (a : Answer) (l : List ℤ) (e : a ≡ answer-of (rea
     ruled : Ruled v
 
   read-done : Read
-  unfolding lent-numbers lent
+  unfolding lent-numbers lent-result
   read-done = go (read text VALUE) refl e m
     where
-      go : (o : Outcome (List ℤ)) → read text VALUE ≡ o → a ≡ answer-of o → l ≡ lent-numbers VALUE o → Read
+      go : (o : Result (List ℤ)) → read text VALUE ≡ o → a ≡ answer-of o → l ≡ lent-numbers VALUE o → Read
       go (done v) s e m = record { v = v; is = s; here = read-is text v l s m k; ruled = read-then-rules text VALUE v s }
       go (refused n p) s e m =
           let y : n ≡ 0 = sym (ap (λ x. x .number) e) ∙ z in
@@ -91,12 +91,12 @@ module _ (text : List ℕ) (a : Answer) (l : List ℤ) (e : a ≡ answer-of (rea
 -- ---- what a caller learns
 
 module _ (l : List ℤ) (before after : List ℕ) (at : ℕ) (r : Opened) where
-  pub opens-whole : (o : Outcome (List ℤ)) → Opens o l before at after r → at + LARGEST ≤ length before → r .at ≤ at + LARGEST
+  pub opens-whole : (o : Result (List ℤ)) → Opens o l before at after r → at + LARGEST ≤ length before → r .at ≤ at + LARGEST
   unfolding Opens
   opens-whole (refused n p) w = w .went .whole
   opens-whole (done v) w = w .went .whole
 
-  pub opens-ruled : (o : Outcome (List ℤ)) → Opens o l before at after r → r .going ≡ true → Ruled l
+  pub opens-ruled : (o : Result (List ℤ)) → Opens o l before at after r → r .going ≡ true → Ruled l
   unfolding Opens
   opens-ruled (refused n p) w h = absurd (false≢true (sym (w .going) ∙ h))
   opens-ruled (done v) w h = rw (w .value) (w .ruled)

@@ -17,7 +17,7 @@ use Rattle.meaning.specs.Steps.{Res, ok, refuse}
 use Rattle.meaning.specs.Split.{LF}
 use Rattle.meaning.specs.Widget.{Ctx, ENTRY}
 use Rattle.meaning.specs.Value.{chart-of}
-use Rattle.meaning.specs.Calls.{Outcome, called, lent, outcome, refused, start, post, run, start-of, run-of}
+use Rattle.meaning.specs.Calls.{Outcome, called, lent, outcome, as-found, start, post, run, start-of, run-of}
 use Rattle.meaning.specs.Program.{ROOM, report, reported, do-line, after-post}
 use Rattle.meaning.specs.Rules.{Ruled}
 use Rattle.promises.specs.Promises.{Started, Ran}
@@ -77,7 +77,7 @@ module _ (before after : List ℕ) (at to : ℕ) where
 
 -- "Any other leaves the state as it was and zeroes the lent output": a refused call has no entry
 refused-quiet : (u : State) (r : Res Ctx) → (outcome u r .number ≡ 0 → ⊥) → outcome u r .trace ≡ []
-unfolding outcome refused
+unfolding outcome as-found
 refused-quiet u (ok k) h = absurd (h refl)
 refused-quiet u (refuse n) h = refl
 

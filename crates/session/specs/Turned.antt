@@ -9,7 +9,7 @@ use lib.ListN.{length}
 use Rattle.meaning.specs.declared.State.{State}
 use Rattle.meaning.specs.Value.{chart-of}
 use Rattle.meaning.specs.Calls.{start, unstarted}
-use Rattle.meaning.specs.Text.{Outcome, done, refused}
+use Rattle.meaning.specs.Text.{Result, done, refused}
 use Rattle.meaning.specs.Program.{ENTRIES, ROOM, Turn, report, reported}
 use Rattle.meaning.specs.Rules.{Ruled}
 use Rattle.pen.specs.Pen.{pen, put-all}
@@ -49,7 +49,7 @@ pub record Starts (v chart : List ℤ) (before : List ℕ) (at : ℕ) (after : L
   pub ruled : Ruled v
   pub went : Went (reported (start (chart-of v) unstarted ROOM)) before at after (turned r)
 
-unfoldable pub Opens : Outcome (List ℤ) → List ℤ → List ℕ → ℕ → List ℕ → Opened → Type 0
+unfoldable pub Opens : Result (List ℤ) → List ℤ → List ℕ → ℕ → List ℕ → Opened → Type 0
 Opens (refused n p) chart before at after r = Ends n before at after r
 Opens (done v) chart before at after r = Starts v chart before at after r
 

@@ -11,7 +11,7 @@ use Rattle.meaning.specs.declared.State.{State}
 use Rattle.meaning.specs.Steps.{Step}
 use Rattle.meaning.specs.Lists.{padded}
 use Rattle.meaning.specs.Widget.{Ctx, begin, ENTRY}
-use Rattle.meaning.specs.Calls.{Outcome, refused, outcome, lent}
+use Rattle.meaning.specs.Calls.{Outcome, as-found, outcome, lent}
 use Rattle.widget.specs.declared.Went.{Went}
 use Rattle.widget.specs.View.{Lent, Whole, tracing, widget, ctx, said, went, Did}
 
@@ -29,7 +29,7 @@ unfolding said outcome
 said-done u zero k z = refl
 said-done u (suc n) k z = absurd (omega arith)
 
-said-refused : (u : State) (n : ℕ) (k : Ctx) → (n ≡ 0 → ⊥) → outcome u (said n k) ≡ refused n 0 u
+said-refused : (u : State) (n : ℕ) (k : Ctx) → (n ≡ 0 → ⊥) → outcome u (said n k) ≡ as-found n 0 u
 unfolding said outcome
 said-refused u zero k z = absurd (z refl)
 said-refused u (suc n) k z = refl
@@ -43,7 +43,7 @@ module _ (u : State) {D : Step Ctx} {k : Lent} {r : Went} {k′ : Lent} (d : Did
   unfolding ctx tracing
   ends-done z = ap (outcome u) goes-to ∙ said-done u (r .number) (ctx k′ (r .at)) z
 
-  pub ends-refused : (r .number ≡ 0 → ⊥) → outcome u (D (begin (widget k) (length (k .trace)))) ≡ refused (r .number) 0 u
+  pub ends-refused : (r .number ≡ 0 → ⊥) → outcome u (D (begin (widget k) (length (k .trace)))) ≡ as-found (r .number) 0 u
   ends-refused z = ap (outcome u) goes-to ∙ said-refused u (r .number) (ctx k′ (r .at)) z
 
 -- ---- the lent slice after the call, as `clear_from` leaves it
@@ -54,8 +54,8 @@ unfolding lent padded
 lent-done u t t′ at h e = rw (length-take-le at t′ h, e)
 
 pub lent-refused : (u : State) (n p : ℕ) (t t′ : List ℤ) → length t′ ≡ length t
-    → take 0 t′ ++ replicate (length t′ - 0) (pos 0) ≡ lent (length t) (refused n p u)
-unfolding lent padded refused
+    → take 0 t′ ++ replicate (length t′ - 0) (pos 0) ≡ lent (length t) (as-found n p u)
+unfolding lent padded as-found
 lent-refused u n p t t′ e = rw e
 
 -- the count of entries

@@ -14,7 +14,7 @@ use lib.Seq.{sets, sets-eq, drop-length}
 use borrow.Author.Tests.{lt-ltb, le-ltb, ltb-true, ltb-false}
 use Rattle.meaning.specs.Lists.{padded}
 use Rattle.meaning.specs.Rules.{failing-rule-of, verdict}
-use Rattle.meaning.specs.Text.{answer, answer-of, count-of, lent, text-of, written-by, write, written, lent-bytes}
+use Rattle.meaning.specs.Text.{answer, answer-of, count-of, lent-result, text-of, written-by, write, written, lent-bytes}
 use Rattle.meaning.specs.declared.Answer.{Answer}
 use Rattle.meaning.specs.declared.Written.{Written}
 use Rattle.pen.specs.Pen.{Pen, pen, put-if, put-byte, put-all}
@@ -92,11 +92,11 @@ module _
     told a k = record { answer = a; length = k }
 
     seen-over : n < length (text-of v) → Seen (told (answer 13 0) 0) (zeros n)
-    unfolding written write lent-bytes lent zeros
+    unfolding written write lent-bytes lent-result zeros
     seen-over h = rw (allowed, lt-ltb n (length (text-of v)) h) (refl, refl)
 
     seen-in : length (text-of v) ≤ n → Seen (told (answer 0 0) (length (text-of v))) (padded n 0 (text-of v))
-    unfolding written write lent-bytes lent
+    unfolding written write lent-bytes lent-result
     seen-in h = rw (allowed, le-ltb n (length (text-of v)) h) (refl, refl)
 
     -- by the place after the last byte
@@ -119,11 +119,12 @@ module _
 module _ (v : List ℤ) (a : Answer) (e : a ≡ verdict (failing-rule-of v)) where
   pub wrote-refused : (n k : ℕ) (m : List ℕ) → (a .number ≡ 0 → ⊥) → k ≡ n → m ≡ zeros k
       → (record { answer = a; length = 0 } ≡ written v n) × (m ≡ lent-bytes n (write v n))
-  unfolding verdict written write lent-bytes lent zeros
+  unfolding verdict written write lent-bytes lent-result zeros
   wrote-refused n k m h ek em = go (failing-rule-of v) e
     where
       go : (o : Option ℕ) → a ≡ verdict o
           → (_≡_ {A = Written} (record { answer = a; length = 0 })
-          (record { answer = answer-of (written-by o v n); length = count-of (written-by o v n) })) × (m ≡ lent 0 n (written-by o v n))
+          (record { answer = answer-of (written-by o v n); length = count-of (written-by o v n) }))
+          × (m ≡ lent-result 0 n (written-by o v n))
       go none x = absurd (h (ap (λ (y : Answer). y .number) x))
       go (some r) x = (ap (λ (y : Answer). record { answer = y; length = 0 }) x, em ∙ ap zeros ek)

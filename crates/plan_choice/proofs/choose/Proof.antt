@@ -119,6 +119,9 @@ heads-at-requires c κs = counts-sized (c .before .pre .0)
 add-i : tie.Need-add-i Inv-loop μ-loop Inv-heads μ-heads
 add-i c = omega (arith, c .before .if1 .left)
 
+mul-i : tie.Need-mul-i Inv-loop μ-loop Inv-heads μ-heads
+mul-i c = omega (arith, c .before .if1 .left)
+
 element-copy-out-i : tie.Need-element-copy-out-i Inv-loop μ-loop Inv-heads μ-heads
 element-copy-out-i c = omega (arith, c .before .if1 .left, c .before .before .pre .2 .size)
 
@@ -133,6 +136,9 @@ add-end c = omega (arith, c .before .before .if1 .left)
 
 add-end-2 : tie.Need-add-end-2 Inv-loop μ-loop Inv-heads μ-heads
 add-end-2 c = omega (arith, c .before .before .if1 .left)
+
+mul-end : tie.Need-mul-end Inv-loop μ-loop Inv-heads μ-heads
+mul-end c = omega (arith, c .before .before .if1 .left)
 
 element-copy-out-end : tie.Need-element-copy-out-end Inv-loop μ-loop Inv-heads μ-heads
 element-copy-out-end c = omega (arith, c .before .before .if1 .left, c .before .before .before .pre .2 .size)
@@ -152,6 +158,9 @@ heads-holds c =
     let d = c .before .before .before .before in
     turn-begin (own d) (begins (c .before .before)) (linked d) (c .before .before .before .if1 .left) (d .pre .1)
 
+mul-h : tie.Need-mul-h Inv-loop μ-loop Inv-heads μ-heads
+mul-h c = omega (arith, few c)
+
 element-copy-out-h : tie.Need-element-copy-out-h Inv-loop μ-loop Inv-heads μ-heads
 element-copy-out-h c = omega (arith, few c, start-from-in-heads c .pre .2 .size)
 
@@ -160,6 +169,9 @@ cast-h c = omega (arith, names (c .before), counts-sized (own (start-from-in-hea
 
 add-source : tie.Need-add-source Inv-loop μ-loop Inv-heads μ-heads
 add-source c = omega (arith, few (c .before))
+
+mul-source : tie.Need-mul-source Inv-loop μ-loop Inv-heads μ-heads
+mul-source c = omega (arith, few (c .before))
 
 element-copy-out-source : tie.Need-element-copy-out-source Inv-loop μ-loop Inv-heads μ-heads
 element-copy-out-source c = omega (arith, few (c .before), start-from-in-heads (c .before) .pre .2 .size)
@@ -272,8 +284,9 @@ returns-2 c =
 
 pub choose-spec : {M : Type 1} → statement M
 choose-spec =
-    tie.close (tie.spec Inv-loop μ-loop Inv-heads μ-heads returns heads-at-requires add-i element-copy-out-i cast-i add-end
-    add-end-2 element-copy-out-end cast-end heads-holds element-copy-out-h cast-h add-source element-copy-out-source cast-source
+    tie.close (tie.spec Inv-loop μ-loop Inv-heads μ-heads returns heads-at-requires add-i mul-i element-copy-out-i cast-i add-end
+    add-end-2 mul-end element-copy-out-end cast-end heads-holds mul-h element-copy-out-h cast-h add-source mul-source
+    element-copy-out-source cast-source
     mul-at add-at add-i-2 enabled-requires heads-less heads-again loop-holds mul-pick element-copy-out-pick mul-meet add-meet
     meet-requires heads-less-2 heads-again-2 add-j (λ c. omega arith) loop-again mul-picks element-write-picks
     add-count heads-less-3 heads-again-3 returns-2)

@@ -47,5 +47,5 @@ returns-3 c =
 
 pub settled-spec : {M : Type 1} → statement M
 settled-spec =
-    tie.close (tie.spec returns (λ c. omega arith) element-copy-out-if2 element-copy-out-if2-2 returns-2 settle-requires
-    (λ c. search needs) returns-3)
+    tie.close (tie.spec returns (λ c. omega arith) (λ c. omega arith) element-copy-out-if2 element-copy-out-if2-2 returns-2
+    settle-requires (λ c. search needs) returns-3)
