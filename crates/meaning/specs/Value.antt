@@ -9,7 +9,7 @@ use lib.ListN.{length, getD, take, drop}
 use lib.IntN.{ℤ, pos, negsuc}
 use lib.Signed.{leZ}
 use lib.Dec.{eqb, leb, ltb}
-use Rattle.sizes.specs.Sizes.{STATES, VARIABLES, EVENTS, TRANSITIONS, ACTIONS, MOST}
+use Rattle.sizes.specs.Sizes.{LEAST-STATES, STATES, VARIABLES, EVENTS, TRANSITIONS, ACTIONS, MOST}
 use Rattle.numbers.specs.Equal.{eqZ}
 use Rattle.numbers.specs.Range.{inRange}
 use Rattle.numbers.specs.Reference.{ref}
@@ -201,7 +201,7 @@ action-statable row = fits (form a-record 0) 0 row
 -- states 2 to 64, variables 0 to 16, events 0 to 32, transitions 0 to 128, actions 0 to 256
 unfoldable pub counts-fit : List ℤ → Bool
 counts-fit v =
-    count-fits 2 STATES (num v 0) && (count-fits 0 VARIABLES (num v 1)
+    count-fits LEAST-STATES STATES (num v 0) && (count-fits 0 VARIABLES (num v 1)
     && (count-fits 0 EVENTS (num v 2) && (count-fits 0 TRANSITIONS (num v 3) && count-fits 0 ACTIONS (num v 4))))
 
 unfoldable pub rows-statable : Rows → Bool
