@@ -4,7 +4,6 @@ pub mod index;
 
 use chart_rows::action_count;
 use chart_rows::action_row;
-use chart_rows::tree::o_parent;
 use chart_rows::var_row;
 use index::INDEX;
 use index::first_row;
@@ -14,6 +13,7 @@ use meaning::chart::Owner;
 use queue::lent::QUEUE_NUMBERS;
 use sizes::STATES;
 use sizes::VARIABLES;
+use tree::kin::o_parent;
 use widget::Went;
 use widget::mark_entered;
 use widget::mark_left;

@@ -3,22 +3,22 @@
 use acts::index::INDEX;
 use chart_rows::kind_of;
 use chart_rows::parent_of;
-use chart_rows::tree::is_o;
-use chart_rows::tree::o_parent;
 use emitter::actions::act_count;
 use emitter::actions::put_acts;
 use emitter::put_instr;
 use meaning::chart::Owner;
 use meaning::plan::Instr;
-use ways::Next;
-use ways::by_default;
+use tree::kin::is_o;
+use tree::kin::o_parent;
+use tree::ways::Next;
+use tree::ways::by_default;
 ghost use mathlib.Core.Path.{_≡_};
 ghost use Prim.Native.Nat.{_<_};
 ghost use lib.ListN.{length};
 ghost use Rattle.meaning.specs.Compile.{exit-code, enter-code, visit-code, stored-code};
 ghost use Rattle.meaning.specs.Tree.{kind-of as kind-in};
 ghost use Rattle.meaning.specs.Value.{chart-of};
-ghost use Rattle.ways.specs.Ways.{way-by, defaulting, visit-as};
+ghost use Rattle.tree.specs.Courses.{way-by, defaulting, visit-as};
 ghost use Rattle.emitter.specs.Pen.{pen, emits, Room};
 ghost use Rattle.acts.specs.Index.{Ready};
 

@@ -9,10 +9,10 @@ use meaning::chart::Owner;
 use queue::lent::QUEUE_NUMBERS;
 use sizes::STATES;
 use sizes::VARIABLES;
-use ways::Aim;
-use ways::Course;
-use ways::Goal;
-use ways::aim_of;
+use tree::ways::Aim;
+use tree::ways::Course;
+use tree::ways::Goal;
+use tree::ways::aim_of;
 use widget::Went;
 use widget::mark_taken;
 ghost use mathlib.Core.Path.{_≡_};
@@ -25,8 +25,8 @@ ghost use Rattle.meaning.specs.Tree.{descendants};
 ghost use Rattle.meaning.specs.Value.{chart-of};
 ghost use Rattle.acts.specs.Index.{Ready};
 ghost use Rattle.widget.specs.View.{all-lent, Did};
-ghost use Rattle.ways.specs.Aims.{Found};
-ghost use Rattle.ways.specs.Ways.{Inside, Owned, Led};
+ghost use Rattle.tree.specs.Aims.{Found};
+ghost use Rattle.tree.specs.Courses.{Inside, Owned, Led};
 ghost use Rattle.firing.specs.Moving.{moving};
 
 // The states below the scope are left, then the transition's actions, then the way down to the goal.

@@ -20,7 +20,7 @@ use Rattle.meaning.specs.Chart.{Chart}
 use Rattle.meaning.specs.Tree.{parent-of, kind-of, is-o, all-states, is-child, children}
 use Rattle.meaning.specs.Widget.{slot, is-filled}
 use Rattle.meaning.specs.Foreign.{leads-on, slot-fits, slots-fit}
-use Rattle.chart_rows.proofs.Climb.{child-below}
+use Rattle.tree.proofs.Climb.{child-below}
 use Rattle.queue_calls.specs.Parts.{leads-if, slot-if, slots-if, is-at, held-as, held, Completes}
 use Rattle.queue_calls.proofs.Kept.{kept-skip, kept-none, pass-skip, pass-more, pass-no, pass-done}
 use Rattle.queue_calls.proofs.Slots.{getD-any}

@@ -3,8 +3,6 @@
 use chart_rows::kind_of;
 use chart_rows::parent_of;
 use chart_rows::state_count;
-use chart_rows::tree::is_child;
-use chart_rows::tree::is_o;
 use chart_rows::var_count;
 use chart_rows::var_row;
 use meaning::State;
@@ -15,6 +13,8 @@ use numbers::place_of;
 use numbers::same;
 use sizes::STATES;
 use sizes::VARIABLES;
+use tree::kin::is_child;
+use tree::kin::is_o;
 use widget::fits::marks_fit;
 use widget::fits::queue_fits;
 ghost use mathlib.Core.Path.{_≡_};
