@@ -31,7 +31,7 @@ ghost use Rattle.meaning.specs.Tree.{kind-of};
 ghost use Rattle.meaning.specs.Value.{chart-of};
 ghost use Rattle.meaning.specs.Widget.{is-filled, slot};
 ghost use Rattle.meaning.specs.Foreign.{legal-at, legal, values-fit, slots-fit, own as owns};
-ghost use Rattle.queue_calls.specs.Parts.{tally-of, Tallied, value-fits, leads-if, slot-if, slots-if, is-at, held, Completes};
+ghost use Rattle.queue_calls.specs.Parts.{tally-of, Tallied, value-fits, leads-if, slot-if, slots-if, is-at, in-slot, Completes};
 
 // How many children a state has, and how many of them are active.
 pub struct Tally {
@@ -163,7 +163,7 @@ fn holds(slots: &[i32; STATES], s: usize, d: usize) -> bool
 // An a state in the slot of its parent.
 fn is_held(chart: &[i32], slots: &[i32; STATES], p: usize) -> bool
     requires { ⌜ length (now slots) ≡ states ⌝ }
-    ensures { λ r. ⌜ ((u : Widget) → u .slots ≡ now (slots .entry) → r ≡ held (chart-of (now (chart .entry))) u p) ⌝ }
+    ensures { λ r. ⌜ ((u : Widget) → u .slots ≡ now (slots .entry) → r ≡ in-slot (chart-of (now (chart .entry))) u p) ⌝ }
 {
     match kind_of(chart, p) {
         Kind::O => false,

@@ -1,9 +1,9 @@
--- `Part::number` is `part-number`, case by case. Assumes nothing.
+-- `Digits::number` is `digits-number`, case by case. Assumes nothing.
 use Rattle.console.proofs.ScanLaws.{number-zero, number-plain, number-negative}
 use borrow.Author.Needs.{needs}
-use Rattle.console.specs.Scan.{part-number}
-use Rattle.console.proofs.scan.Part.number.Statement.{statement}
-use Rattle.console.proofs.scan.Part.number.Tie as tie
+use Rattle.console.specs.Scan.{digits-number}
+use Rattle.console.proofs.scan.Digits.number.Statement.{statement}
+use Rattle.console.proofs.scan.Digits.number.Tie as tie
 
 returns : tie.Need-returns
 returns c = number-zero _ (c .enum-told .given .1)
@@ -15,15 +15,15 @@ returns-3 : tie.Need-returns-3
 returns-3 c = number-negative _ _ _ (c .before .before .self2 .given .1) (c .minus-number .ensures)
 
 returns-4 : tie.Need-returns-4
-unfolding part-number
+unfolding digits-number
 returns-4 c = search needs
 
 returns-5 : tie.Need-returns-5
-unfolding part-number
+unfolding digits-number
 returns-5 c = search needs
 
 returns-6 : tie.Need-returns-6
-unfolding part-number
+unfolding digits-number
 returns-6 c = search needs
 
 pub number-spec : {M : Type 1} → statement M

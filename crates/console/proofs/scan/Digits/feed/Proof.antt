@@ -1,9 +1,9 @@
--- `Part::feed` is `part-fed`, case by case. Assumes nothing.
+-- `Digits::feed` is `digits-fed`, case by case. Assumes nothing.
 use Rattle.console.proofs.ScanLaws.{start-minus, start-zero, start-digit, minus-zero, minus-digit, plain-digit}
 use Rattle.console.proofs.ScanLaws.{negative-digit, zero-more, broken-more}
 use borrow.Author.Needs.{needs}
-use Rattle.console.proofs.scan.Part.feed.Statement.{statement}
-use Rattle.console.proofs.scan.Part.feed.Tie as tie
+use Rattle.console.proofs.scan.Digits.feed.Statement.{statement}
+use Rattle.console.proofs.scan.Digits.feed.Tie as tie
 
 returns : tie.Need-returns
 returns c = start-minus _ _ (c .before .enum-told .given .1) (c .if1 .taken)
