@@ -17,7 +17,8 @@ use Rattle.console.specs.declared.scan.Digits.{Digits}
 use Rattle.console.specs.declared.scan.Digits.the-variants.{Start, Minus, Zero, Plain, Negative, Broken}
 use Rattle.console.specs.declared.scan.Scan.{Scan}
 use Rattle.console.specs.declared.scan.Scan.the-variants.{Event, Argument, More}
-use Rattle.console.specs.Scan.{ZERO, MINUS, grown, if-digit, digits-fed, digits-number, empty, fed, line-at, scan-on, scan-of, began}
+use Rattle.numerals.specs.Small.{grown}
+use Rattle.console.specs.Scan.{ZERO, MINUS, if-digit, digits-fed, digits-number, empty, fed, line-at, scan-on, scan-of, began}
 
 -- ---- a field
 

@@ -22,7 +22,8 @@ use Rattle.console.specs.declared.scan.Digits.{Digits}
 use Rattle.console.specs.declared.scan.Digits.the-variants.{Start, Minus, Zero, Plain, Negative, Broken}
 use Rattle.console.specs.declared.scan.Scan.{Scan}
 use Rattle.console.specs.declared.scan.Scan.the-variants.{Event, Argument, More}
-use Rattle.console.specs.Scan.{ZERO, NINE, MINUS, grown, if-digit, digits-fed, digits-number, fed, line-at}
+use Rattle.numerals.specs.Small.{grown}
+use Rattle.console.specs.Scan.{ZERO, NINE, MINUS, if-digit, digits-fed, digits-number, fed, line-at}
 
 -- ---- a byte after digits: below 0, above 9, or one digit more
 module _ (b : ℕ) (p : Digits) where

@@ -1,17 +1,18 @@
 -- The input line under way (01, the end of "Checked by example"): what it is after each byte, and what line it is at the end.
 -- That this is `line-of (fields bs)` for every list of bytes is proved in proofs/Lines. Assumes nothing.
-use Prim.Native.Nat.{ℕ, _+_, _-_, _*_, min}
+use Prim.Native.Nat.{ℕ}
 use mathlib.Core.Bool.{Bool, true, false, cond}
 use mathlib.Core.List.{List, [], _∷_}
 use mathlib.Core.Option.{some}
 use lib.Dec.{ltb, eqb}
 use Rattle.meaning.specs.declared.Num.{Num}
 use Rattle.meaning.specs.declared.Num.the-variants as num
-use Rattle.meaning.specs.Number.{BEYOND, capped, with-no-sign, minus}
+use Rattle.meaning.specs.Number.{capped, with-no-sign, minus}
 use Rattle.meaning.specs.Split.{TAB}
 use Rattle.meaning.specs.declared.Input.{Input}
 use Rattle.meaning.specs.declared.Input.the-variants.{Wrong}
 use Rattle.meaning.specs.Program.{input-by}
+use Rattle.numerals.specs.Small.{grown}
 use Rattle.console.specs.declared.scan.Digits.{Digits}
 use Rattle.console.specs.declared.scan.Digits.the-variants.{Start, Minus, Zero, Plain, Negative, Broken}
 use Rattle.console.specs.declared.scan.Scan.{Scan}
@@ -28,10 +29,6 @@ abbrev pub MINUS : ℕ
 MINUS = 45
 
 -- ---- a field under way
-
--- the value v with one digit more, held at one past the range
-abbrev pub grown : ℕ → ℕ → ℕ
-grown v b = min BEYOND (v * 10 + (b - ZERO))
 
 -- a digit gives p, any other byte breaks the field
 abbrev pub if-digit : ℕ → Digits → Digits

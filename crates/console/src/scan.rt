@@ -4,6 +4,8 @@ use fields::LF;
 use fields::TAB;
 use meaning::Input;
 use meaning::Num;
+use numerals::BEYOND;
+use numerals::grown;
 use sizes::MOST;
 ghost use mathlib.Core.Path.{_≡_};
 ghost use mathlib.Core.Option.{some};
@@ -12,14 +14,11 @@ ghost use lib.ListN.{length};
 ghost use Rattle.meaning.specs.declared.Num.the-variants.{Is};
 ghost use Rattle.meaning.specs.Number.{capped, with-no-sign, minus};
 ghost use Rattle.meaning.specs.Program.{input-by};
+ghost use Rattle.numerals.specs.Small.{grown as grown-by};
 ghost use Rattle.console.specs.declared.scan.Digits.the-variants.{Plain, Negative};
-ghost use Rattle.console.specs.Scan.{grown, if-digit, digits-fed, digits-number, empty, began, fed, line-at};
+ghost use Rattle.console.specs.Scan.{if-digit, digits-fed, digits-number, empty, began, fed, line-at};
 ghost use Rattle.console.specs.Stretch.{Collects};
 
-// One past the range: it stands for every number beyond.
-const BEYOND: u64 = (MOST as u64) + 1;
-// Digits of a larger value, and one digit more, are beyond.
-const TENTH: u64 = (MOST as u64) / 10;
 // "a number past ±1,000,000,000 is posted as 1,000,000,001"
 const POSTED: i32 = MOST + 1;
 
@@ -46,21 +45,9 @@ pub struct Collected {
     pub scan: Scan,
 }
 
-// The value with one digit more.
-fn with_digit(v: u64, b: u8) -> u64
-    requires { ⌜ (48 ≤ b) × (b ≤ 57) ⌝ }
-    ensures { λ r. ⌜ r ≡ grown v b ⌝ }
-{
-    if TENTH < v {
-        return BEYOND;
-    }
-    let m = v * 10 + ((b - 48) as u64);
-    if m < BEYOND { m } else { BEYOND }
-}
-
 // A digit after others, with no sign and behind a minus; any other byte breaks the field.
 fn plain_fed(v: u64, b: u8) -> Digits
-    ensures { λ r. ⌜ r ≡ if-digit b (Plain (grown v b)) ⌝ }
+    ensures { λ r. ⌜ r ≡ if-digit b (Plain (grown-by v b)) ⌝ }
 {
     if b < 48 {
         return Digits::Broken;
@@ -68,11 +55,11 @@ fn plain_fed(v: u64, b: u8) -> Digits
     if 57 < b {
         return Digits::Broken;
     }
-    Digits::Plain(with_digit(v, b))
+    Digits::Plain(grown(v, b))
 }
 
 fn negative_fed(v: u64, b: u8) -> Digits
-    ensures { λ r. ⌜ r ≡ if-digit b (Negative (grown v b)) ⌝ }
+    ensures { λ r. ⌜ r ≡ if-digit b (Negative (grown-by v b)) ⌝ }
 {
     if b < 48 {
         return Digits::Broken;
@@ -80,7 +67,7 @@ fn negative_fed(v: u64, b: u8) -> Digits
     if 57 < b {
         return Digits::Broken;
     }
-    Digits::Negative(with_digit(v, b))
+    Digits::Negative(grown(v, b))
 }
 
 // A number with no sign, and behind a minus: there is no minus zero.
