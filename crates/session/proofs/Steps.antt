@@ -26,7 +26,7 @@ use Rattle.console.specs.declared.scan.Scan.{Scan}
 use Rattle.console.specs.Scan.{empty, line-at, began}
 use Rattle.console.specs.Session.{Turns, ended, by-began, passed, finished}
 use Rattle.console.specs.Session.{Under as Seen}
-use Rattle.console.specs.Shown.{held, shown, largest}
+use Rattle.console.specs.Shown.{entries-held, shown, largest}
 use Rattle.console.proofs.Lent.{report-lent}
 use Rattle.session.specs.declared.Turned.{Turned}
 use Rattle.session.specs.declared.Under.{Under}
@@ -70,7 +70,7 @@ module _ (before after : List ℕ) (at to : ℕ) where
   unfolding shown
   none-takes number u l k w = record {
     widget = refl;
-    bytes = w .0 ∙ (let z : ENTRY * held 0 l ≡ 0 = omega arith in rw z);
+    bytes = w .0 ∙ (let z : ENTRY * entries-held 0 l ≡ 0 = omega arith in rw z);
     whole = λ h. let z : largest l ≡ 48 = rw k in let p = w .1 (omega arith) in omega arith;
   }
 
