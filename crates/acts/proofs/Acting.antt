@@ -33,7 +33,7 @@ use Rattle.widget.specs.Acts.{Named}
 use Rattle.widget.proofs.Going.{owes-all}
 use Rattle.widget.proofs.Loops.{each-none, each-next, each-ends}
 use Rattle.meaning.specs.Rules.{Ruled}
-use Rattle.tree_walks.proofs.Passing.{sound, rules-passed}
+use Rattle.tree.proofs.Passing.{sound, rules-passed}
 use Rattle.acts.specs.Index.{before-first, row-from}
 use Rattle.acts.proofs.Finding.{owner-one, first-own, first-from, acts-onward, later-from}
 

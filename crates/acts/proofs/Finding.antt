@@ -22,7 +22,7 @@ use Rattle.meaning.specs.declared.chart.ActRow.{ActRow}
 use Rattle.meaning.specs.Effects.{same-owner, acts-in}
 use Rattle.meaning.specs.Value.{chart-of, owner-by, action-by, ACTIONS-AT, ACT-ROW}
 use Rattle.meaning.specs.Rules.{Ruled}
-use Rattle.tree_walks.proofs.Passing.{sound}
+use Rattle.tree.proofs.Passing.{sound}
 use Rattle.acts.specs.Index.{OWNERS, key, Fits, before-first, row-from, Indexed}
 
 -- ---- owners and their places

@@ -20,7 +20,7 @@ use Rattle.widget.specs.View.{Lent, all-lent, with-active, with-slots, with-var
 use Rattle.widget.specs.Acts.{Below}
 use Rattle.widget.proofs.Going.{then-on, then-stop}
 use Rattle.meaning.specs.Rules.{Ruled}
-use Rattle.tree_walks.proofs.Passing.{sound}
+use Rattle.tree.proofs.Passing.{sound}
 
 -- ---- entering
 

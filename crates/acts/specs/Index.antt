@@ -49,6 +49,6 @@ pub record Indexed (c : Chart) (index : List ℕ) : Type 0 where
       getD index (OWNERS + i) 0 ≡ length (c .actions) - row-from c (getD (c .actions) i no-action .owner) (suc i)
 
 -- a chart that passes the rules, with its index
-pub record Ready (v : List ℤ) (index : List ℕ) : Type 0 where
+pub record Prepared (v : List ℤ) (index : List ℕ) : Type 0 where
   pub ruled : Ruled v
   pub indexed : Indexed (chart-of v) index

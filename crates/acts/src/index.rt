@@ -16,7 +16,7 @@ ghost use lib.ListN.{length, getD};
 ghost use Rattle.meaning.specs.Chart.{no-action};
 ghost use Rattle.meaning.specs.Value.{chart-of};
 ghost use Rattle.meaning.specs.Rules.{Ruled};
-ghost use Rattle.acts.specs.Index.{key, Fits, row-from, Indexed, Ready};
+ghost use Rattle.acts.specs.Index.{key, Fits, row-from, Indexed, Prepared};
 
 // How many owners there can be: entry, exit and default of each state, and each transition.
 pub const OWNERS: usize = 3 * STATES + TRANSITIONS;
@@ -66,7 +66,7 @@ pub fn index_of(chart: &[i32]) -> [usize; INDEX]
 
 // The owner's first row; one past the rows where there is none.
 pub fn first_row(chart: &[i32], index: &[usize; INDEX], owner: Owner) -> usize
-    requires { ⌜ Ready (now chart) (now index) × Fits owner ⌝ }
+    requires { ⌜ Prepared (now chart) (now index) × Fits owner ⌝ }
     ensures { λ r. ⌜ r ≡ row-from (chart-of (now (chart .entry))) owner 0 ⌝ }
 {
     let at = key_of(owner);
@@ -75,7 +75,7 @@ pub fn first_row(chart: &[i32], index: &[usize; INDEX], owner: Owner) -> usize
 
 // The next row of the same owner after row i.
 pub fn next_row(chart: &[i32], index: &[usize; INDEX], i: usize) -> usize
-    requires { ⌜ Ready (now chart) (now index) × (i < length (chart-of (now chart) .actions)) ⌝ }
+    requires { ⌜ Prepared (now chart) (now index) × (i < length (chart-of (now chart) .actions)) ⌝ }
     ensures { λ r. ⌜ r ≡ row-from (chart-of (now (chart .entry)))
         (getD (chart-of (now (chart .entry)) .actions) i no-action .owner) (suc i) ⌝ }
 {

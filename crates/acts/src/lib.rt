@@ -4,7 +4,6 @@ pub mod index;
 
 use chart_rows::action_count;
 use chart_rows::action_row;
-use chart_rows::tree::o_parent;
 use chart_rows::var_row;
 use index::INDEX;
 use index::first_row;
@@ -14,6 +13,7 @@ use meaning::chart::Owner;
 use queue::lent::QUEUE_NUMBERS;
 use sizes::STATES;
 use sizes::VARIABLES;
+use tree::kin::o_parent;
 use widget::Went;
 use widget::mark_entered;
 use widget::mark_left;
@@ -24,7 +24,7 @@ ghost use lib.ListN.{length};
 ghost use Rattle.meaning.specs.Effects.{act-var, perform-all, enter as enters, leave as leaves};
 ghost use Rattle.meaning.specs.Value.{chart-of};
 ghost use Rattle.sizes.specs.Sizes.{STATES as states};
-ghost use Rattle.acts.specs.Index.{Fits, Ready};
+ghost use Rattle.acts.specs.Index.{Fits, Prepared};
 ghost use Rattle.widget.specs.View.{Lent, all-lent, with-active, with-vars, with-queue, with-trace, Within, Did};
 
 // The variable of an act; send and tell have none.
@@ -51,7 +51,7 @@ pub fn perform_all(
     trace: &mut [i32],
     at: usize,
 ) -> Went
-    requires { ⌜ Ready (now chart) (now index) × (at ≤ length (now trace)) × Fits owner ⌝ }
+    requires { ⌜ Prepared (now chart) (now index) × (at ≤ length (now trace)) × Fits owner ⌝ }
     ensures { λ r. ⌜ Within (now (trace .entry)) r (now (trace .exit))
         × ((k : Lent) → Did (perform-all (chart-of (now (chart .entry))) arg owner)
         (with-vars (now (vars .entry)) (with-queue (now (queue .entry)) (with-trace (now (trace .entry)) k))) at r
@@ -85,7 +85,7 @@ pub fn enter(
     trace: &mut [i32],
     at: usize,
 ) -> Went
-    requires { ⌜ Ready (now chart) (now index) × (s < states) × (at ≤ length (now trace)) ⌝ }
+    requires { ⌜ Prepared (now chart) (now index) × (s < states) × (at ≤ length (now trace)) ⌝ }
     ensures { λ r. ⌜ Within (now (trace .entry)) r (now (trace .exit))
         × ((k : Lent) → Did (enters (chart-of (now (chart .entry))) arg s) (with-active (now (active .entry))
         (with-vars (now (vars .entry)) (with-queue (now (queue .entry)) (with-trace (now (trace .entry)) k)))) at r (with-active
@@ -120,7 +120,7 @@ pub fn leave(
     trace: &mut [i32],
     at: usize,
 ) -> Went
-    requires { ⌜ Ready (now chart) (now index) × (s < states) × (at ≤ length (now trace)) ⌝ }
+    requires { ⌜ Prepared (now chart) (now index) × (s < states) × (at ≤ length (now trace)) ⌝ }
     ensures { λ r. ⌜ Did (leaves (chart-of (now (chart .entry))) arg s)
         (all-lent (now (active .entry)) (now (slots .entry)) (now (vars .entry)) (now (queue .entry)) (now (trace .entry))) at r
         (all-lent (now (active .exit)) (now (slots .exit)) (now (vars .exit)) (now (queue .exit)) (now (trace .exit))) ⌝ }

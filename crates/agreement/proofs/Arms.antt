@@ -7,7 +7,7 @@ use lib.ListN.{length}
 use lib.IntN.{ℤ}
 use Rattle.agreement.proofs.DefaultArm.{Same-slots, default-arm-does, visits-slots}
 use Rattle.agreement.proofs.Running.{Does, Does-where, block-does, passed-over, run-append, test-does}
-use Rattle.agreement.proofs.StoredArm.{Ready, stored-arm-agrees}
+use Rattle.agreement.proofs.StoredArm.{Restore-begins, stored-arm-agrees}
 use Rattle.invariants.proofs.Keeps.{holds-of}
 use Rattle.invariants.proofs.Slots.{slot-at}
 use Rattle.laws.proofs.Sound.{Sound-chart}
@@ -57,7 +57,7 @@ module _ (c : Chart) (a : ℤ) (b : ℕ) where
   slot-same j sl e = ap (λ l. slot-at l b) e
 
   module _ (r : Sound-chart c) where
-    pub arms-do : Does-where (λ k. Ready c b (k .state)) (run-code (c .vars) a (arms c b)) (restore c a b)
+    pub arms-do : Does-where (λ k. Restore-begins c b (k .state)) (run-code (c .vars) a (arms c b)) (restore c a b)
     unfolding arms arms-of restore restore-by look when is-empty go-on bind slot
     arms-do k y =
         run-append (c .vars) a (skip-full b (length (default-arm c b)) ∷ default-arm c b) second (passing 0 k)
@@ -75,5 +75,5 @@ module _ (c : Chart) (a : ℤ) (b : ℕ) where
         go (holds d) e = rw e (after-full k d (stored-arm c b) e ∙ stored-arm-agrees c r a b k y d e)
 
     -- as a block
-    pub arms-agree : (k : Ctx) → Ready c b (k .state) → run-block (c .vars) a (arms c b) k ≡ restore c a b k
+    pub arms-agree : (k : Ctx) → Restore-begins c b (k .state) → run-block (c .vars) a (arms c b) k ≡ restore c a b k
     arms-agree k y = block-does (c .vars) a (arms c b) (restore c a b) k (arms-do k y)

@@ -39,7 +39,7 @@ use Rattle.numbers.specs.declared.Place.{Place as Slot}
 use Rattle.numbers.specs.declared.Place.the-variants.{At as holds, Empty as empty}
 
 -- where a restore of b begins: its owner is in, nothing below it is, and filled slots lead to filled ones
-pub record Ready (c : Chart) (b : ℕ) (u : State) : Type 0 where
+pub record Restore-begins (c : Chart) (b : ℕ) (u : State) : Type 0 where
   pub inside : b < length (c .states)
   pub kind : kind-of c b ≡ kind-o
   pub wide : length (c .states) ≤ length (u .active)
@@ -100,7 +100,7 @@ under-parent : (c : Chart) → Ordered c → (b x : ℕ) → Under c b (suc x) �
 under-parent c o b x (child q) = omega arith
 under-parent c o b x (deeper v) = omega (arith, under-lt c o v)
 
-module _ (c : Chart) (r : Sound-chart c) (a : ℤ) (b : ℕ) (k : Ctx) (y : Ready c b (k .state)) where
+module _ (c : Chart) (r : Sound-chart c) (a : ℤ) (b : ℕ) (k : Ctx) (y : Restore-begins c b (k .state)) where
   abbrev u : State
   u = k .state
 

@@ -13,7 +13,7 @@ use borrow.Author.Tests.{eq-eqb, eqb-true, ne-eqb}
 use Rattle.agreement.proofs.Arms.{arms-do}
 use Rattle.agreement.proofs.Entered.{visit-does}
 use Rattle.agreement.proofs.Running.{Does-where, any-holds, append-does-where}
-use Rattle.agreement.proofs.StoredArm.{Ready}
+use Rattle.agreement.proofs.StoredArm.{Restore-begins}
 use Rattle.invariants.proofs.Entering.{Marks, visit-marks, with-all, with-state}
 use Rattle.invariants.proofs.Keeps.{Gives, gives-map, holds-of, then-leads}
 use Rattle.invariants.proofs.Restoring.{restore-marks, restore-way}
@@ -79,7 +79,7 @@ module _ (c : Chart) (r : Sound-chart c) (a : ℤ) (b : ℕ) (l : b < length (c 
   clear-with x m on h y u = ap (λ t. t || on y) (ne-eqb y x (λ q. omega (arith, under-lt c (r .ordered) u))) ∙ h y u
 
   -- once the owner is in, the restore is ready to begin
-  ready : (on : ℕ → Bool) → Clear on → (u : State) → Marks c sl (with-state b on) u → Ready c b u
+  ready : (on : ℕ → Bool) → Clear on → (u : State) → Marks c sl (with-state b on) u → Restore-begins c b u
   ready on h u m = record {
     inside = l;
     kind = kb;
@@ -104,10 +104,10 @@ module _ (c : Chart) (r : Sound-chart c) (a : ℤ) (b : ℕ) (l : b < length (c 
     owner-does : state-of v ≡ b → Clear on
         → Does-where (At on) (run-code (c .vars) a (visit-code c v ++ arms c b)) (visit c a v then restore c a b)
     owner-does e h =
-        append-does-where (c .vars) a (At on) (λ k. Ready c b (k .state)) (visit-code c v) (arms c b) (visit c a v) (restore c a b)
+        append-does-where (c .vars) a (At on) (λ k. Restore-begins c b (k .state)) (visit-code c v) (arms c b) (visit c a v) (restore c a b)
         (λ k m. visit-does c a v k)
-        (λ k m. holds-of (λ j. Ready c b (j .state)) (visit c a v k)
-        (gives-map (At now) (λ j. Ready c b (j .state)) (visit c a v k) (enters k m)
+        (λ k m. holds-of (λ j. Restore-begins c b (j .state)) (visit c a v k)
+        (gives-map (At now) (λ j. Restore-begins c b (j .state)) (visit c a v k) (enters k m)
         (λ j w. ready on h (j .state) (subst (λ x. Marks c sl (with-state x on) (j .state)) e w))))
         (arms-do c a b r)
 

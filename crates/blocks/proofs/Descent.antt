@@ -14,11 +14,11 @@ use Rattle.meaning.specs.declared.plan.Instr.{Instr}
 use Rattle.meaning.specs.Lists.{concat-map, from, keep}
 use Rattle.meaning.specs.Tree.{kind-of, is-child, descendants}
 use Rattle.meaning.specs.Entry.{Visit, Way, below}
-use Rattle.ways.specs.Ways.{defaulting, visit-as}
+use Rattle.tree.specs.Courses.{defaulting, visit-as}
 use Rattle.blocks.specs.Kids.{Kids-left}
 use Rattle.leave_enter.proofs.Descending.{range-none, range-next, range-skip, range-take}
 use Rattle.leave_enter.proofs.Falling.{falls-by}
-use Rattle.tree_walks.proofs.On.{end-within}
+use Rattle.tree.proofs.On.{end-within}
 use Rattle.emitter.specs.Pen.{Pen, pen, emits, Room}
 use Rattle.emitter.proofs.Laws.{concat-map-append, owes-on, owes-none, owes-room, same-size}
 

@@ -23,14 +23,14 @@ use Rattle.meaning.specs.Compile.{code-acts, enter-code, visit-code, default-ar
 use Rattle.meaning.specs.Compile.{exits-code, block-to, block, start-block}
 use Rattle.meaning.specs.Value.{chart-of}
 use Rattle.meaning.specs.Rules.{Ruled}
-use Rattle.tree_walks.proofs.Passing.{sound}
-use Rattle.ways.specs.declared.Goal.{Goal}
-use Rattle.ways.specs.declared.Goal.the-variants.{Target as aim, Owner as owner}
-use Rattle.ways.specs.declared.Aim.{Aim}
-use Rattle.ways.specs.declared.Aim.the-variants.{Goes, Stays}
-use Rattle.ways.specs.Aims.{aim-by, aimed-at}
-use Rattle.ways.specs.Ways.{goal-way, defaulting, visit-as, Inside}
-use Rattle.ways.proofs.Aiming.{goes-by, stays-by, goal-facts, goal-bound}
+use Rattle.tree.proofs.Passing.{sound}
+use Rattle.tree.specs.declared.ways.Goal.{Goal}
+use Rattle.tree.specs.declared.ways.Goal.the-variants.{Target as aim, Owner as owner}
+use Rattle.tree.specs.declared.ways.Aim.{Aim}
+use Rattle.tree.specs.declared.ways.Aim.the-variants.{Goes, Stays}
+use Rattle.tree.specs.Aims.{aim-by, aimed-at}
+use Rattle.tree.specs.Courses.{goal-way, defaulting, visit-as, Inside}
+use Rattle.tree.proofs.Aiming.{goes-by, stays-by, goal-facts, goal-bound}
 use Rattle.emitter.specs.Pen.{Pen, emits, Room}
 use Rattle.emitter.proofs.Laws.{put-first, put-both}
 use Rattle.blocks.specs.Parts.{goal-code, move-code}

@@ -9,9 +9,9 @@ use Rattle.meaning.specs.Chart.{Chart}
 use Rattle.meaning.specs.Entry.{Way, below, goes-on}
 use Rattle.meaning.specs.Lists.{concat-map, from, keep}
 use Rattle.meaning.specs.Tree.{kind-of, is-child}
-use Rattle.ways.specs.Ways.{defaulting, goal-way, visit-as, way-by, Kids}
-use Rattle.ways.specs.declared.Next.{Next}
-use Rattle.ways.specs.declared.Goal.{Goal}
+use Rattle.tree.specs.Courses.{defaulting, goal-way, visit-as, way-by, Kids}
+use Rattle.tree.specs.declared.ways.Next.{Next}
+use Rattle.tree.specs.declared.ways.Goal.{Goal}
 use Rattle.blocks.specs.Kids.{Kids-left}
 
 -- with a state left, that level is what is entered first

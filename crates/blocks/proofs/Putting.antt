@@ -11,7 +11,7 @@ use Rattle.chart_rows.proofs.Rows.{states-most}
 use Rattle.numbers.specs.declared.Place.{Place}
 use Rattle.numbers.specs.declared.Place.the-variants.{Empty, At}
 use Rattle.meaning.specs.Rules.{Ruled}
-use Rattle.tree_walks.proofs.Passing.{sound}
+use Rattle.tree.proofs.Passing.{sound}
 use Rattle.meaning.specs.Value.{chart-of}
 use Rattle.meaning.specs.Chart.{Chart}
 use Rattle.meaning.specs.declared.chart.Kind.{Kind}
@@ -22,7 +22,7 @@ use Rattle.meaning.specs.declared.plan.Instr.the-variants.{Out as go-out, SkipO
 use Rattle.meaning.specs.Tree.{parent-of, kind-of, is-o}
 use Rattle.meaning.specs.Effects.{o-parent}
 use Rattle.meaning.specs.Compile.{code-acts, exit-code, enter-code, visit-code, held-code, past-if-out, stored-code}
-use Rattle.ways.specs.Ways.{visit-as}
+use Rattle.tree.specs.Courses.{visit-as}
 use Rattle.emitter.specs.Pen.{Pen, emits, Small-place}
 use Rattle.emitter.proofs.Laws.{put-first, put-both}
 

@@ -7,7 +7,7 @@ use Rattle.meaning.specs.Chart.{Chart}
 use Rattle.meaning.specs.Entry.{Way, below}
 use Rattle.meaning.specs.Lists.{concat-map, from, keep}
 use Rattle.meaning.specs.Tree.{kind-of, is-child}
-use Rattle.ways.specs.Ways.{defaulting, visit-as}
+use Rattle.tree.specs.Courses.{defaulting, visit-as}
 
 -- what is entered below s, with so many states left, are those of the numbers from first up to below end that are its children, each with
 -- what is below it

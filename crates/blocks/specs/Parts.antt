@@ -8,9 +8,9 @@ use Rattle.meaning.specs.Lists.{concat-map}
 use Rattle.meaning.specs.Entry.{Visit, all-below}
 use Rattle.meaning.specs.declared.plan.Instr.{Instr}
 use Rattle.meaning.specs.Compile.{code-acts, visit-code, towards-code, exits-code}
-use Rattle.ways.specs.declared.Goal.{Goal}
-use Rattle.ways.specs.declared.Goal.the-variants.{Target, Owner}
-use Rattle.ways.specs.Ways.{goal-way}
+use Rattle.tree.specs.declared.ways.Goal.{Goal}
+use Rattle.tree.specs.declared.ways.Goal.the-variants.{Target, Owner}
+use Rattle.tree.specs.Courses.{goal-way}
 
 -- how a state on the way to a target, or to the owner of a history, is entered
 abbrev pub goal-code : Chart → Goal → Visit → List Instr

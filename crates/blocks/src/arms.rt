@@ -5,12 +5,12 @@ use super::pieces::put_stored;
 use super::pieces::put_visit;
 use acts::index::INDEX;
 use chart_rows::state_count;
-use chart_rows::tree::is_child;
 use emitter::WIDTH;
 use emitter::put_instr;
 use meaning::plan::Instr;
-use tree_walks::end_below;
-use ways::Next;
+use tree::kin::is_child;
+use tree::walks::end_below;
+use tree::ways::Next;
 ghost use mathlib.Core.Path.{_≡_};
 ghost use Prim.Native.Nat.{_<_};
 ghost use lib.ListN.{length};
@@ -19,7 +19,7 @@ ghost use Rattle.meaning.specs.Entry.{below, by-defaults};
 ghost use Rattle.meaning.specs.Lists.{concat-map};
 ghost use Rattle.meaning.specs.Value.{chart-of};
 ghost use Rattle.emitter.specs.Pen.{pen, emits, Room};
-ghost use Rattle.acts.specs.Index.{Ready};
+ghost use Rattle.acts.specs.Index.{Prepared};
 
 // Below s everything by default.
 pub fn put_defaults(
@@ -30,7 +30,7 @@ pub fn put_defaults(
     plan: &mut [i32],
     at: usize,
 ) -> usize
-    requires { ⌜ Ready (now chart) (now index) × (s < length (chart-of (now chart) .states))
+    requires { ⌜ Prepared (now chart) (now index) × (s < length (chart-of (now chart) .states))
         × Room (concat-map (visit-code (chart-of (now chart))) (below (chart-of (now chart)) by-defaults left s)) at ⌝ }
     ensures { λ r. ⌜ pen (now (plan .exit)) r ≡ emits (concat-map (visit-code (chart-of (now (chart .entry))))
         (below (chart-of (now (chart .entry))) by-defaults left s)) (pen (now (plan .entry)) at) ⌝ }
@@ -50,7 +50,7 @@ pub fn put_defaults(
 
 // How many instructions the default arm of b has.
 fn default_length(chart: &[i32], index: &[usize; INDEX], b: usize) -> usize
-    requires { ⌜ Ready (now chart) (now index)
+    requires { ⌜ Prepared (now chart) (now index)
         × (b < length (chart-of (now chart) .states)) × Room (default-arm (chart-of (now chart)) b) 0 ⌝ }
     ensures { λ r. ⌜ r ≡ length (default-arm (chart-of (now (chart .entry))) b) ⌝ }
 {
@@ -67,7 +67,7 @@ fn put_stored_arm(
     plan: &mut [i32],
     at: usize,
 ) -> usize
-    requires { ⌜ Ready (now chart) (now index)
+    requires { ⌜ Prepared (now chart) (now index)
         × (b < length (chart-of (now chart) .states)) × Room (stored-arm (chart-of (now chart)) b) at ⌝ }
     ensures { λ r. ⌜ pen (now (plan .exit)) r ≡ emits (stored-arm (chart-of (now (chart .entry))) b) (pen (now (plan .entry)) at) ⌝ }
 {
@@ -83,7 +83,7 @@ fn put_stored_arm(
 
 // How many instructions the stored arm of b has.
 fn stored_length(chart: &[i32], index: &[usize; INDEX], b: usize) -> usize
-    requires { ⌜ Ready (now chart) (now index)
+    requires { ⌜ Prepared (now chart) (now index)
         × (b < length (chart-of (now chart) .states)) × Room (stored-arm (chart-of (now chart)) b) 0 ⌝ }
     ensures { λ r. ⌜ r ≡ length (stored-arm (chart-of (now (chart .entry))) b) ⌝ }
 {
@@ -100,7 +100,8 @@ pub fn put_arms(
     plan: &mut [i32],
     at: usize,
 ) -> usize
-    requires { ⌜ Ready (now chart) (now index) × (b < length (chart-of (now chart) .states)) × Room (arms (chart-of (now chart)) b) at ⌝ }
+    requires { ⌜ Prepared (now chart) (now index) × (b < length (chart-of (now chart) .states))
+        × Room (arms (chart-of (now chart)) b) at ⌝ }
     ensures { λ r. ⌜ pen (now (plan .exit)) r ≡ emits (arms (chart-of (now (chart .entry))) b) (pen (now (plan .entry)) at) ⌝ }
 {
     let k = default_length(chart, index, b);

@@ -1,12 +1,12 @@
 // The children that a state goes on with as long as states are left: the compiler's descents count the states down.
-use ways::Children;
-use ways::Next;
-use ways::goes_on;
+use tree::ways::Children;
+use tree::ways::Next;
+use tree::ways::goes_on;
 ghost use Prim.Native.Nat.{_<_};
 ghost use lib.ListN.{length};
 ghost use Rattle.meaning.specs.Value.{chart-of};
 ghost use Rattle.meaning.specs.Rules.{Ruled};
-ghost use Rattle.ways.specs.Ways.{way-by, On-child};
+ghost use Rattle.tree.specs.Courses.{way-by, On-child};
 ghost use Rattle.blocks.specs.Kids.{Kids-left};
 
 // With no state left there is none to enter.

@@ -9,7 +9,6 @@ use arms::put_arms;
 use arms::put_defaults;
 use chart_rows::state_count;
 use chart_rows::trans_row;
-use chart_rows::tree::is_child;
 use emitter::WIDTH;
 use emitter::actions::put_acts;
 use kids::kids_within;
@@ -17,13 +16,14 @@ use meaning::chart::Owner;
 use pieces::put_enter;
 use pieces::put_exit;
 use pieces::put_visit;
-use tree_walks::end_below;
-use tree_walks::scope;
-use ways::Aim;
-use ways::Goal;
-use ways::aim_of;
-use ways::aimed;
-use ways::next_of;
+use tree::kin::is_child;
+use tree::walks::end_below;
+use tree::walks::scope;
+use tree::ways::Aim;
+use tree::ways::Goal;
+use tree::ways::aim_of;
+use tree::ways::aimed;
+use tree::ways::next_of;
 ghost use mathlib.Core.Path.{_≡_};
 ghost use Prim.Native.Nat.{_<_};
 ghost use lib.ListN.{length};
@@ -32,14 +32,14 @@ ghost use Rattle.meaning.specs.Entry.{below};
 ghost use Rattle.meaning.specs.Lists.{concat-map};
 ghost use Rattle.meaning.specs.Tree.{kind-of as kind-in, descendants};
 ghost use Rattle.meaning.specs.Value.{chart-of};
-ghost use Rattle.ways.specs.Ways.{goal-way, defaulting, visit-as, Inside};
+ghost use Rattle.tree.specs.Courses.{goal-way, defaulting, visit-as, Inside};
 ghost use Rattle.emitter.specs.Pen.{pen, emits, Room};
-ghost use Rattle.acts.specs.Index.{Ready};
+ghost use Rattle.acts.specs.Index.{Prepared};
 ghost use Rattle.blocks.specs.Parts.{goal-code, move-code};
 
 // "for each state of the span, falling": those below s.
 fn put_exits(chart: &[i32], index: &[usize; INDEX], s: usize, plan: &mut [i32], at: usize) -> usize
-    requires { ⌜ Ready (now chart) (now index) × (s < length (chart-of (now chart) .states))
+    requires { ⌜ Prepared (now chart) (now index) × (s < length (chart-of (now chart) .states))
         × Room (exits-code (chart-of (now chart)) (descendants (chart-of (now chart)) s)) at ⌝ }
     ensures { λ r. ⌜ pen (now (plan .exit)) r ≡ emits (exits-code (chart-of (now (chart .entry)))
         (descendants (chart-of (now (chart .entry))) s)) (pen (now (plan .entry)) at) ⌝ }
@@ -63,7 +63,7 @@ fn put_arrival(
     plan: &mut [i32],
     at: usize,
 ) -> usize
-    requires { ⌜ Ready (now chart) (now index) × (p < length (chart-of (now chart) .states))
+    requires { ⌜ Prepared (now chart) (now index) × (p < length (chart-of (now chart) .states))
         × (s < length (chart-of (now chart) .states)) × Room (goal-code (chart-of (now chart))
         goal (visit-as (defaulting (kind-in (chart-of (now chart)) p) (goal-way (chart-of (now chart)) goal p)) p s)) at ⌝ }
     ensures { λ r. ⌜ pen (now (plan .exit)) r ≡ emits (goal-code (chart-of (now (chart .entry))) goal
@@ -91,7 +91,7 @@ fn put_towards(
     plan: &mut [i32],
     at: usize,
 ) -> usize
-    requires { ⌜ Ready (now chart) (now index) × Inside (chart-of (now chart)) goal
+    requires { ⌜ Prepared (now chart) (now index) × Inside (chart-of (now chart)) goal
         × (s < length (chart-of (now chart) .states)) × Room (concat-map (goal-code (chart-of (now chart)) goal)
         (below (chart-of (now chart)) (goal-way (chart-of (now chart)) goal) left s)) at ⌝ }
     ensures { λ r. ⌜ pen (now (plan .exit)) r ≡ emits (concat-map (goal-code (chart-of (now (chart .entry))) goal) (below
@@ -119,7 +119,7 @@ fn put_move(
     plan: &mut [i32],
     at: usize,
 ) -> usize
-    requires { ⌜ Ready (now chart) (now index) × (t < length (chart-of (now chart) .transitions)) × Inside (chart-of (now chart))
+    requires { ⌜ Prepared (now chart) (now index) × (t < length (chart-of (now chart) .transitions)) × Inside (chart-of (now chart))
         goal × (top < length (chart-of (now chart) .states)) × Room (move-code (chart-of (now chart)) t goal top) at ⌝ }
     ensures { λ r. ⌜ pen (now (plan .exit)) r
         ≡ emits (move-code (chart-of (now (chart .entry))) t goal top) (pen (now (plan .entry)) at) ⌝ }
@@ -138,7 +138,7 @@ pub fn put_block(
     plan: &mut [i32],
     at: usize,
 ) -> usize
-    requires { ⌜ Ready (now chart) (now index)
+    requires { ⌜ Prepared (now chart) (now index)
         × (t < length (chart-of (now chart) .transitions)) × Room (block (chart-of (now chart)) t) at ⌝ }
     ensures { λ r. ⌜ pen (now (plan .exit)) r ≡ emits (block (chart-of (now (chart .entry))) t) (pen (now (plan .entry)) at) ⌝ }
 {
@@ -154,7 +154,7 @@ pub fn put_block(
 
 // How many instructions the block of a transition has.
 pub fn block_length(chart: &[i32], index: &[usize; INDEX], t: usize) -> usize
-    requires { ⌜ Ready (now chart) (now index)
+    requires { ⌜ Prepared (now chart) (now index)
         × (t < length (chart-of (now chart) .transitions)) × Room (block (chart-of (now chart)) t) 0 ⌝ }
     ensures { λ r. ⌜ r ≡ length (block (chart-of (now (chart .entry))) t) ⌝ }
 {
@@ -165,7 +165,7 @@ pub fn block_length(chart: &[i32], index: &[usize; INDEX], t: usize) -> usize
 
 // The root and its defaults.
 pub fn put_start(chart: &[i32], index: &[usize; INDEX], plan: &mut [i32], at: usize) -> usize
-    requires { ⌜ Ready (now chart) (now index) × Room (start-block (chart-of (now chart))) at ⌝ }
+    requires { ⌜ Prepared (now chart) (now index) × Room (start-block (chart-of (now chart))) at ⌝ }
     ensures { λ r. ⌜ pen (now (plan .exit)) r ≡ emits (start-block (chart-of (now (chart .entry)))) (pen (now (plan .entry)) at) ⌝ }
 {
     let left = state_count(chart);

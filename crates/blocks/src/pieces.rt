@@ -3,24 +3,24 @@
 use acts::index::INDEX;
 use chart_rows::kind_of;
 use chart_rows::parent_of;
-use chart_rows::tree::is_o;
-use chart_rows::tree::o_parent;
 use emitter::actions::act_count;
 use emitter::actions::put_acts;
 use emitter::put_instr;
 use meaning::chart::Owner;
 use meaning::plan::Instr;
-use ways::Next;
-use ways::by_default;
+use tree::kin::is_o;
+use tree::kin::o_parent;
+use tree::ways::Next;
+use tree::ways::by_default;
 ghost use mathlib.Core.Path.{_≡_};
 ghost use Prim.Native.Nat.{_<_};
 ghost use lib.ListN.{length};
 ghost use Rattle.meaning.specs.Compile.{exit-code, enter-code, visit-code, stored-code};
 ghost use Rattle.meaning.specs.Tree.{kind-of as kind-in};
 ghost use Rattle.meaning.specs.Value.{chart-of};
-ghost use Rattle.ways.specs.Ways.{way-by, defaulting, visit-as};
+ghost use Rattle.tree.specs.Courses.{way-by, defaulting, visit-as};
 ghost use Rattle.emitter.specs.Pen.{pen, emits, Room};
-ghost use Rattle.acts.specs.Index.{Ready};
+ghost use Rattle.acts.specs.Index.{Prepared};
 
 // "SKIPOUT s k+1, OUT s, the actions"
 pub fn put_exit(
@@ -30,7 +30,7 @@ pub fn put_exit(
     plan: &mut [i32],
     at: usize,
 ) -> usize
-    requires { ⌜ Ready (now chart) (now index)
+    requires { ⌜ Prepared (now chart) (now index)
         × (s < length (chart-of (now chart) .states)) × Room (exit-code (chart-of (now chart)) s) at ⌝ }
     ensures { λ r. ⌜ pen (now (plan .exit)) r ≡ emits (exit-code (chart-of (now (chart .entry))) s) (pen (now (plan .entry)) at) ⌝ }
 {
@@ -49,7 +49,7 @@ pub fn put_enter(
     plan: &mut [i32],
     at: usize,
 ) -> usize
-    requires { ⌜ Ready (now chart) (now index)
+    requires { ⌜ Prepared (now chart) (now index)
         × (s < length (chart-of (now chart) .states)) × Room (enter-code (chart-of (now chart)) s) at ⌝ }
     ensures { λ r. ⌜ pen (now (plan .exit)) r ≡ emits (enter-code (chart-of (now (chart .entry))) s) (pen (now (plan .entry)) at) ⌝ }
 {
@@ -67,7 +67,7 @@ pub fn put_visit(
     plan: &mut [i32],
     at: usize,
 ) -> usize
-    requires { ⌜ Ready (now chart) (now index)
+    requires { ⌜ Prepared (now chart) (now index)
         × (p < length (chart-of (now chart) .states)) × (s < length (chart-of (now chart) .states)) ×
         Room (visit-code (chart-of (now chart)) (visit-as (defaulting (kind-in (chart-of (now chart)) p) (way-by next)) p s)) at ⌝ }
     ensures { λ r. ⌜ pen (now (plan .exit)) r ≡ emits (visit-code (chart-of (now (chart .entry)))
@@ -88,7 +88,7 @@ pub fn put_stored(
     plan: &mut [i32],
     at: usize,
 ) -> usize
-    requires { ⌜ Ready (now chart) (now index)
+    requires { ⌜ Prepared (now chart) (now index)
         × (0 < d) × (d < length (chart-of (now chart) .states)) × Room (stored-code (chart-of (now chart)) d) at ⌝ }
     ensures { λ r. ⌜ pen (now (plan .exit)) r ≡ emits (stored-code (chart-of (now (chart .entry))) d) (pen (now (plan .entry)) at) ⌝ }
 {

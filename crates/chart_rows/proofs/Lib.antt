@@ -1,4 +1,3 @@
 pub mod Said
 pub mod Rows
-pub mod Climb
 pub mod Letters

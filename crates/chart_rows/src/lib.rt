@@ -3,7 +3,6 @@
 // has to show that what it asks for is there.
 pub mod decode;
 pub mod layout;
-pub mod tree;
 
 use layout::ACT_ROW;
 use layout::ACTION_COUNT;

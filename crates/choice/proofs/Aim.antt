@@ -12,12 +12,12 @@ use Rattle.meaning.specs.Tree.{kind-of, scope, span-of, descendants}
 use Rattle.meaning.specs.Value.{chart-of}
 use Rattle.laws.proofs.Scope.{Scope-facts, scope-facts}
 use Rattle.meaning.specs.Rules.{Ruled}
-use Rattle.tree_walks.proofs.Passing.{sound}
-use Rattle.ways.specs.declared.Aim.{Aim}
-use Rattle.ways.specs.declared.Aim.the-variants.{Goes, Stays}
-use Rattle.ways.specs.declared.Goal.{Goal}
-use Rattle.ways.specs.Aims.{aim-by, aimed-at, top-of}
-use Rattle.ways.proofs.Aiming.{goes-by, stays-by, goal-facts}
+use Rattle.tree.proofs.Passing.{sound}
+use Rattle.tree.specs.declared.ways.Aim.{Aim}
+use Rattle.tree.specs.declared.ways.Aim.the-variants.{Goes, Stays}
+use Rattle.tree.specs.declared.ways.Goal.{Goal}
+use Rattle.tree.specs.Aims.{aim-by, aimed-at, top-of}
+use Rattle.tree.proofs.Aiming.{goes-by, stays-by, goal-facts}
 use Rattle.choice.specs.declared.Span.{Span}
 use Rattle.choice.specs.Span.{Spans, Spanned, Aims}
 use Rattle.choice.proofs.Walk.{scope-spans, place-spans}

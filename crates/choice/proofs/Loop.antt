@@ -23,10 +23,10 @@ use Rattle.laws.proofs.Lists.{le-or-lt}
 use Rattle.laws.proofs.Rules.{Guard-facts, Transition-facts}
 use Rattle.laws.proofs.Value.{sized-chart}
 use Rattle.meaning.specs.Rules.{Ruled}
-use Rattle.tree_walks.proofs.Passing.{sound, rules-passed}
+use Rattle.tree.proofs.Passing.{sound, rules-passed}
 use Rattle.choice.specs.declared.Span.{Span}
 use Rattle.choice.specs.Span.{Spans, Spanned, Aims, Goes}
-use Rattle.ways.specs.Aims.{aim-by, top-of, Found}
+use Rattle.tree.specs.Aims.{aim-by, top-of, Found}
 use Rattle.choice.specs.Choice.{Reads, PICKS, TOPS-AT, ENDS-AT, noted, Carried}
 use Rattle.choice.proofs.Meets.{Gone, gone-none, gone-more, clash-hit, clash-none}
 use Rattle.choice.proofs.Thin.{gone-after, gone-snoc}

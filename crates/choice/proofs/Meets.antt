@@ -1,50 +1,19 @@
 -- Laws of spans that meet: a range meets a list where a number of the range is in it; the states already gone, as marks. Assumes nothing.
-use mathlib.Core.Path.{_≡_, refl, sym, ap, _∙_, subst}
-use mathlib.Core.Logic.{_⊎_, inl, inr, ⊎-elim}
-use Prim.Native.Nat.{ℕ, zero, suc, _+_, _-_, _≤_, _<_}
+use mathlib.Core.Path.{_≡_, refl, sym, _∙_, subst}
+use mathlib.Core.Logic.{inl, inr, ⊎-elim}
+use Prim.Native.Nat.{ℕ, _+_, _-_, _≤_, _<_}
 use native.Mathlib.Omega.{arith}
-use mathlib.Core.Bool.{Bool, true, false, _||_}
-use mathlib.Core.List.{List, [], _∷_, _++_}
+use mathlib.Core.Bool.{Bool, true, false}
+use mathlib.Core.List.{List, [], _++_}
 use lib.ListN.{length, getD, set, replicate, getD-replicate, length-set}
 use lib.Seq.{getD-set-same, getD-set-other}
-use lib.Dec.{eqb}
-use borrow.Author.Tests.{eq-eqb, ne-eqb}
 use Rattle.sizes.specs.Sizes.{STATES}
-use Rattle.meaning.specs.Lists.{has, exists, from}
+use Rattle.meaning.specs.Lists.{has}
 use Rattle.meaning.specs.Reaction.{meets}
-use Rattle.laws.proofs.Lists.{le-or-lt, or-left, or-right}
+use Rattle.laws.proofs.Lists.{le-or-lt}
+use Rattle.laws.proofs.Ranges.{has-joined, has-in, has-out, exists-in, exists-none}
 use Rattle.choice.specs.declared.Span.{Span}
 use Rattle.choice.specs.Span.{Spans, Goes}
-
-or-none : (a b : Bool) → a ≡ false → b ≡ false → (a || b) ≡ false
-or-none a b p q = rw (p, q)
-
--- ---- ranges
-
-has-in : (x b m : ℕ) → b ≤ x → x < b + m → has x (from b m) ≡ true
-unfolding has from
-has-in x b zero l h = absurd (omega arith)
-has-in x b (suc m) l h = ⊎-elim (λ q. or-left (eqb x b) _ (eq-eqb x b (omega arith)))
-    (λ q. or-right (eqb x b) _ (has-in x (suc b) m q (omega arith))) (le-or-lt x b)
-
-has-out : (x b m : ℕ) → (x < b) ⊎ (b + m ≤ x) → has x (from b m) ≡ false
-unfolding has from
-has-out x b zero o = refl
-has-out x b (suc m) o = or-none (eqb x b) _ (ne-eqb x b (λ e. ⊎-elim (λ q. omega arith) (λ q. omega arith) o))
-    (has-out x (suc b) m (⊎-elim (λ q. inl (omega arith)) (λ q. inr (omega arith)) o))
-
-exists-in : (p : ℕ → Bool) (x a n : ℕ) → a ≤ x → x < a + n → p x ≡ true → exists p (from a n) ≡ true
-unfolding exists from
-exists-in p x a zero l h e = absurd (omega arith)
-exists-in p x a (suc n) l h e =
-    ⊎-elim (λ q. let z : x ≡ a = omega arith in or-left (p a) _ (ap p (sym z) ∙ e))
-    (λ q. or-right (p a) _ (exists-in p x (suc a) n q (omega arith) e)) (le-or-lt x a)
-
-exists-none : (p : ℕ → Bool) (a n : ℕ) → ((x : ℕ) → a ≤ x → x < a + n → p x ≡ false) → exists p (from a n) ≡ false
-unfolding exists from
-exists-none p a zero h = refl
-exists-none p a (suc n) h = or-none (p a) _ (h a (omega arith) (omega arith))
-    (exists-none p (suc a) n (λ x l g. h x (omega arith) (omega arith)))
 
 -- a list meets a range where a number of the range is in it
 module _ (xs g : List ℕ) (r : Span) (f : Spans xs r) where
@@ -59,15 +28,6 @@ module _ (xs g : List ℕ) (r : Span) (f : Spans xs r) where
       rw (f .is) (exists-none (λ y. has y g) (r .first) (r .end - r .first) (λ x l m. h x l (omega arith)))
 
 -- ---- the states already gone, as marks
-
-has-joined : (x : ℕ) (ys zs : List ℕ) → has x (ys ++ zs) ≡ (has x ys || has x zs)
-unfolding has
-has-joined x [] zs = refl
-has-joined x (y ∷ ys) zs = go (eqb x y) (has-joined x ys zs)
-  where
-    go : (b : Bool) → has x (ys ++ zs) ≡ (has x ys || has x zs) → (b || has x (ys ++ zs)) ≡ ((b || has x ys) || has x zs)
-    go true e = refl
-    go false e = e
 
 abbrev pub Gone : List ℕ → List Bool → Type 0
 Gone l marks = (x : ℕ) → x < STATES → getD marks x false ≡ has x l

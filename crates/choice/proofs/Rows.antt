@@ -1,32 +1,19 @@
--- Source and trigger of a transition, where they stand among the numbers of the chart; and the marks of the sources. Assumes nothing.
-use mathlib.Core.Path.{_≡_, refl, sym, ap, _∙_, subst}
+-- Whether a transition has a source and a trigger; and the marks of the sources. Assumes nothing.
+use mathlib.Core.Path.{_≡_, sym, ap, _∙_}
 use mathlib.Core.Logic.{⊎-elim}
-use Prim.Native.Nat.{ℕ, _+_, _*_, _≤_, _<_}
+use Prim.Native.Nat.{ℕ, _+_, _<_}
 use native.Mathlib.Omega.{arith}
-use mathlib.Core.Bool.{Bool, true, false, _&&_}
+use mathlib.Core.Bool.{Bool, false}
 use mathlib.Core.List.{List}
 use lib.ListN.{length, getD, set}
 use lib.Seq.{getD-set-same, getD-set-other}
-use lib.IntN.{ℤ, pos}
 use lib.Dec.{eqb}
 use borrow.Author.Tests.{eq-eqb, ne-eqb}
-use Rattle.numbers.specs.Reference.{ref}
 use Rattle.meaning.specs.declared.chart.TransRow.{TransRow}
 use Rattle.meaning.specs.Chart.{Chart}
 use Rattle.meaning.specs.Tree.{trans-row}
-use Rattle.meaning.specs.Value.{chart-of, trans-by, TRANSITIONS-AT, TRANS-ROW}
-use Rattle.chart_rows.proofs.Rows.{trans-at, num-first, num-at}
 use Rattle.laws.proofs.Lists.{le-or-lt, same-or}
 use Rattle.choice.specs.Choice.{meant}
-
-module _ (v : List ℤ) (t : ℕ) (l : t < length (chart-of v .transitions)) where
-  pub source-said : ref (getD v (TRANSITIONS-AT + t * TRANS-ROW) (pos 0)) ≡ trans-row (chart-of v) t .source
-  unfolding trans-by
-  source-said = sym (ap (λ r. r .source) (trans-at v t l) ∙ ap ref (num-first TRANS-ROW (TRANSITIONS-AT + t * TRANS-ROW) v (omega arith)))
-
-  pub trigger-said : ref (getD v (TRANSITIONS-AT + t * TRANS-ROW + 1) (pos 0)) ≡ trans-row (chart-of v) t .trigger
-  unfolding trans-by
-  trigger-said = sym (ap (λ r. r .trigger) (trans-at v t l) ∙ ap ref (num-at TRANS-ROW (TRANSITIONS-AT + t * TRANS-ROW) v 1 (omega arith)))
 
 pub other-source : (r : TransRow) (s e n : ℕ) → n ≡ r .source → (n ≡ s → ⊥) → false ≡ meant r s e
 unfolding meant

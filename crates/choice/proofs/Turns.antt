@@ -19,8 +19,8 @@ use Rattle.meaning.specs.Reaction.{enabled-by, enabled, meets, chosen}
 use Rattle.laws.proofs.Lists.{and-left}
 use Rattle.laws.proofs.Value.{sized-chart}
 use Rattle.meaning.specs.Rules.{Ruled}
-use Rattle.tree_walks.proofs.Passing.{rules-passed}
-use Rattle.ways.specs.Aims.{Found}
+use Rattle.tree.proofs.Passing.{rules-passed}
+use Rattle.tree.specs.Aims.{Found}
 use Rattle.choice.specs.declared.Span.{Span}
 use Rattle.choice.specs.Span.{Spans, Spanned, Aims, Goes}
 use Rattle.choice.specs.Choice.{meant, noted}

@@ -15,7 +15,7 @@ use Rattle.meaning.specs.declared.State.{State}
 use Rattle.meaning.specs.Chart.{Chart}
 use Rattle.meaning.specs.Tree.{trans-row}
 use Rattle.meaning.specs.Reaction.{chosen}
-use Rattle.ways.specs.Aims.{Found}
+use Rattle.tree.specs.Aims.{Found}
 use Rattle.choice.specs.declared.Span.{Span}
 
 -- a state of which only the active marks and the values matter

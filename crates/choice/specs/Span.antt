@@ -9,7 +9,7 @@ use Rattle.meaning.specs.Chart.{Chart}
 use Rattle.meaning.specs.declared.chart.Target.{Target}
 use Rattle.meaning.specs.Tree.{descendants, span-of}
 use Rattle.laws.specs.Facts.{Target-facts}
-use Rattle.ways.specs.Aims.{aim-by, top-of}
+use Rattle.tree.specs.Aims.{aim-by, top-of}
 use Rattle.choice.specs.declared.Span.{Span}
 
 -- the states of a list are the numbers of a range, and there is at least one

@@ -14,8 +14,8 @@ use Rattle.plan_laws.proofs.Lines.{acts-long}
 use Rattle.plan_laws.proofs.Order.{order-each as each-named}
 use Rattle.chart_rows.proofs.Rows.{transitions-most}
 use Rattle.meaning.specs.Rules.{Ruled}
-use Rattle.tree_walks.proofs.Passing.{rules-passed, sound}
-use Rattle.tree_walks.proofs.On.{length-from}
+use Rattle.tree.proofs.Passing.{rules-passed, sound}
+use Rattle.tree.proofs.On.{length-from}
 use Rattle.choice.proofs.All.{all-of, of-source, all-few}
 use Rattle.meaning.specs.declared.chart.Owner.the-variants.{TransitionOf as transition-of}
 use Rattle.meaning.specs.Lists.{concat-map, from}

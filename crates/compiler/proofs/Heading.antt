@@ -15,7 +15,7 @@ use Rattle.laws.specs.Facts.{Each, none-left, one-more}
 use Rattle.laws.proofs.Rules.{Guard-facts, Transition-facts}
 use Rattle.chart_rows.proofs.Rows.{states-most, vars-most}
 use Rattle.meaning.specs.Rules.{Ruled}
-use Rattle.tree_walks.proofs.Passing.{sound}
+use Rattle.tree.proofs.Passing.{sound}
 use Rattle.acts.proofs.Acting.{events-most}
 use Rattle.choice.specs.Choice.{Reads}
 use Rattle.choice.specs.Span.{Spans, Aims}

@@ -20,7 +20,7 @@ ghost use Rattle.meaning.specs.Value.{chart-of};
 ghost use Rattle.meaning.specs.Rules.{Ruled};
 ghost use Rattle.choice.specs.Choice.{Reads};
 ghost use Rattle.emitter.specs.Pen.{pen, puts};
-ghost use Rattle.acts.specs.Index.{Ready};
+ghost use Rattle.acts.specs.Index.{Prepared};
 ghost use Rattle.compiler.specs.Plans.{In-order};
 
 // "sign (0 none, 1 =, 2 <, 3 >)"
@@ -86,7 +86,7 @@ pub fn put_heads(
     plan: &mut [i32],
     at: usize,
 ) -> usize
-    requires { ⌜ Ready (now chart) (now index) × In-order (chart-of (now chart)) (now order) count
+    requires { ⌜ Prepared (now chart) (now index) × In-order (chart-of (now chart)) (now order) count
         × (start ≡ count-of (start-block (chart-of (now chart)))) × (at + 10 * count < NOWHERE) ⌝ }
     ensures { λ r. ⌜ pen (now (plan .exit)) r ≡ puts (concat-map head-numbers (heads-from (chart-of (now (chart .entry)))
         start (head-order (chart-of (now (chart .entry)))))) (pen (now (plan .entry)) at) ⌝ }

@@ -32,7 +32,7 @@ ghost use Rattle.meaning.specs.Plan.{var-numbers, six};
 ghost use Rattle.meaning.specs.Value.{chart-of};
 ghost use Rattle.meaning.specs.Rules.{Ruled};
 ghost use Rattle.emitter.specs.Pen.{pen, puts, emits, Room};
-ghost use Rattle.acts.specs.Index.{Ready};
+ghost use Rattle.acts.specs.Index.{Prepared};
 ghost use Rattle.compiler.specs.Plans.{In-order, Compiles};
 
 // "the blocks in head order"
@@ -44,7 +44,7 @@ fn put_blocks(
     plan: &mut [i32],
     at: usize,
 ) -> usize
-    requires { ⌜ Ready (now chart) (now index) × In-order (chart-of (now chart)) (now order) count
+    requires { ⌜ Prepared (now chart) (now index) × In-order (chart-of (now chart)) (now order) count
         × Room (concat-map (block (chart-of (now chart))) (head-order (chart-of (now chart)))) at ⌝ }
     ensures { λ r. ⌜ pen (now (plan .exit)) r ≡ emits (concat-map (block (chart-of (now (chart .entry))))
         (head-order (chart-of (now (chart .entry))))) (pen (now (plan .entry)) at) ⌝ }
@@ -66,7 +66,7 @@ fn put_code(
     plan: &mut [i32],
     at: usize,
 ) -> usize
-    requires { ⌜ Ready (now chart) (now index)
+    requires { ⌜ Prepared (now chart) (now index)
         × In-order (chart-of (now chart)) (now order) count × Room (code-of (chart-of (now chart))) at ⌝ }
     ensures { λ r. ⌜ pen (now (plan .exit)) r ≡ emits (code-of (chart-of (now (chart .entry)))) (pen (now (plan .entry)) at) ⌝ }
 {
@@ -76,7 +76,7 @@ fn put_code(
 
 // How many instructions the start block has.
 fn start_length(chart: &[i32], index: &[usize; INDEX]) -> usize
-    requires { ⌜ Ready (now chart) (now index) ⌝ }
+    requires { ⌜ Prepared (now chart) (now index) ⌝ }
     ensures { λ r. ⌜ r ≡ count-of (start-block (chart-of (now (chart .entry)))) ⌝ }
 {
     let mut none = [0i32; 1];
@@ -91,7 +91,7 @@ fn code_length(
     order: &[usize; TRANSITIONS],
     count: usize,
 ) -> usize
-    requires { ⌜ Ready (now chart) (now index) × In-order (chart-of (now chart)) (now order) count ⌝ }
+    requires { ⌜ Prepared (now chart) (now index) × In-order (chart-of (now chart)) (now order) count ⌝ }
     ensures { λ r. ⌜ r ≡ count-of (code-of (chart-of (now (chart .entry)))) ⌝ }
 {
     let mut none = [0i32; 1];

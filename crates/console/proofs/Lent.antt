@@ -11,7 +11,7 @@ use Rattle.meaning.specs.Lists.{padded}
 use Rattle.meaning.specs.Widget.{ENTRY}
 use Rattle.meaning.specs.Calls.{lent}
 use Rattle.meaning.specs.Program.{entry-lines, report}
-use Rattle.console.specs.Shown.{held, shown}
+use Rattle.console.specs.Shown.{entries-held, shown}
 
 -- the numbers of whole entries
 abbrev whole : List ℤ → List ℤ
@@ -38,5 +38,5 @@ pub report-lent : (number n : ℕ) (t l : List ℤ)
 unfolding shown padded
 report-lent number n t l e k =
     let long : length t ≤ n = omega (arith, simp length-append at (ap length e)) in
-    let h : held (length t / ENTRY) l ≡ length t / ENTRY = omega arith in
+    let h : entries-held (length t / ENTRY) l ≡ length t / ENTRY = omega arith in
     rw (h, e, take-append-le (ENTRY * (length t / ENTRY)) t (replicate (n - length t) (pos 0)) (omega arith)) (report-whole number t)

@@ -12,7 +12,7 @@ use Rattle.meaning.specs.Number.{digits, numeral}
 use Rattle.meaning.specs.Split.{LF}
 use Rattle.meaning.specs.Widget.{ENTRY}
 use Rattle.meaning.specs.Program.{SPACE, entry-lines, report}
-use Rattle.console.specs.Shown.{held, shown, entry-line}
+use Rattle.console.specs.Shown.{entries-held, shown, entry-line}
 
 -- an entry's line, and the lines after it
 pub lines-cons : (x y z : ℤ) (more : List ℤ) → entry-lines (x ∷ y ∷ z ∷ more) ≡ entry-line x y z ++ entry-lines more
@@ -79,23 +79,23 @@ module _ (s : List ℤ) (n k : ℕ) where
 
 -- ---- the entries that are shown: of a trace that is long enough, all of them
 module _ (entries : ℕ) (trace : List ℤ) where
-  pub held-fits : ENTRY * held entries trace ≤ length trace
+  pub held-fits : ENTRY * entries-held entries trace ≤ length trace
   held-fits = omega arith
 
-  pub shown-count : (n : ℕ) → n ≡ held entries trace → n ≡ length (shown entries trace) / ENTRY
+  pub shown-count : (n : ℕ) → n ≡ entries-held entries trace → n ≡ length (shown entries trace) / ENTRY
   unfolding shown
   shown-count n e = rw length-take (omega arith)
 
   pub shown-all : ENTRY * entries ≤ length trace → shown entries trace ≡ take (ENTRY * entries) trace
   unfolding shown
-  shown-all h = let e : held entries trace ≡ entries = omega arith in rw e
+  shown-all h = let e : entries-held entries trace ≡ entries = omega arith in rw e
 
-  is-shown : take (ENTRY * held entries trace) trace ≡ shown entries trace
+  is-shown : take (ENTRY * entries-held entries trace) trace ≡ shown entries trace
   unfolding shown
   is-shown = refl
 
   -- a report of them, written part by part
-  pub shown-steps : (number n : ℕ) (p a b c d e f r : Pen) → n ≡ held entries trace → a ≡ put-byte 82 p → b ≡ put-byte SPACE a
+  pub shown-steps : (number n : ℕ) (p a b c d e f r : Pen) → n ≡ entries-held entries trace → a ≡ put-byte 82 p → b ≡ put-byte SPACE a
       → c ≡ put-all (digits number) b → d ≡ put-byte SPACE c → e ≡ put-all (digits n) d → f ≡ put-byte LF e
       → r ≡ put-all (entry-lines (take (ENTRY * n) trace)) f → r ≡ put-all (report number (shown entries trace)) p
   shown-steps number n p a b c d e f r hn ha hb hc hd he hf hr =

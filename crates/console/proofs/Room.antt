@@ -14,7 +14,7 @@ use Rattle.meaning.specs.Number.{digits}
 use Rattle.meaning.specs.Split.{LF}
 use Rattle.meaning.specs.Widget.{ENTRY}
 use Rattle.meaning.specs.Program.{SPACE}
-use Rattle.console.specs.Shown.{entry-line, held, HEAD, LINE, largest}
+use Rattle.console.specs.Shown.{entry-line, entries-held, HEAD, LINE, largest}
 
 -- bytes that fit
 pub place-after : (bs l : List ℕ) (at m : ℕ) (q : Pen) → q ≡ put-all bs (pen l at) → length bs ≤ m → at + m ≤ length l → q .at ≤ at + m
@@ -35,7 +35,7 @@ head-room : (number n : ℕ) → number < 2 ^ 64 → n < 2 ^ 64 → length (head
 head-room number n f g = simp length-append (omega (arith, digits-length 19 number (omega arith), digits-length 19 n (omega arith)))
 
 module _ (trace : List ℤ) (entries number n : ℕ) (l k : List ℕ) (at to r : ℕ) (a b c d e : Pen) where
-  pub report-place : n ≡ held entries trace
+  pub report-place : n ≡ entries-held entries trace
       → a ≡ put-byte 82 (pen l at) → b ≡ put-byte SPACE a → c ≡ put-all (digits number) b → d ≡ put-byte SPACE c
       → e ≡ put-all (digits n) d → pen k to ≡ put-byte LF e → (to + LINE * n ≤ length k → r ≤ to + LINE * n)
       → number < 2 ^ 64 → n < 2 ^ 64 → at + largest trace ≤ length l → r ≤ at + largest trace

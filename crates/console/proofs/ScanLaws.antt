@@ -18,61 +18,62 @@ use Rattle.meaning.specs.declared.Input.the-variants.{Posts, Wrong}
 use Rattle.meaning.specs.Number.{BEYOND, capped, with-no-sign, minus}
 use Rattle.meaning.specs.Split.{TAB}
 use Rattle.meaning.specs.Program.{input-by}
-use Rattle.console.specs.declared.scan.Part.{Part}
-use Rattle.console.specs.declared.scan.Part.the-variants.{Start, Minus, Zero, Plain, Negative, Broken}
+use Rattle.console.specs.declared.scan.Digits.{Digits}
+use Rattle.console.specs.declared.scan.Digits.the-variants.{Start, Minus, Zero, Plain, Negative, Broken}
 use Rattle.console.specs.declared.scan.Scan.{Scan}
 use Rattle.console.specs.declared.scan.Scan.the-variants.{Event, Argument, More}
-use Rattle.console.specs.Scan.{ZERO, NINE, MINUS, grown, if-digit, part-fed, part-number, fed, line-at}
+use Rattle.numerals.specs.Small.{grown}
+use Rattle.console.specs.Scan.{ZERO, NINE, MINUS, if-digit, digits-fed, digits-number, fed, line-at}
 
 -- ---- a byte after digits: below 0, above 9, or one digit more
-module _ (b : ℕ) (p : Part) where
+module _ (b : ℕ) (p : Digits) where
   pub byte-low : b < ZERO → Broken ≡ if-digit b p
   byte-low h = rw (lt-ltb b ZERO h)
 
   pub byte-high : ZERO ≤ b → NINE < b → Broken ≡ if-digit b p
   byte-high h k = rw (le-ltb b ZERO h, lt-ltb NINE b k)
 
-  pub byte-digit : (q : Part) → ZERO ≤ b → b ≤ NINE → q ≡ p → q ≡ if-digit b p
+  pub byte-digit : (q : Digits) → ZERO ≤ b → b ≤ NINE → q ≡ p → q ≡ if-digit b p
   byte-digit q h k e = rw (le-ltb b ZERO h, le-ltb NINE b k) e
 
 -- ---- a field after one byte more
-module _ (p : Part) (b : ℕ) where
+module _ (p : Digits) (b : ℕ) where
   module _ (s : p ≡ Start) where
-    pub start-minus : b ≡ MINUS → Minus ≡ part-fed p b
-    unfolding part-fed
+    pub start-minus : b ≡ MINUS → Minus ≡ digits-fed p b
+    unfolding digits-fed
     start-minus h = rw (s, eq-eqb b MINUS h)
 
-    pub start-zero : (b ≡ MINUS → ⊥) → b ≡ ZERO → Zero ≡ part-fed p b
-    unfolding part-fed
+    pub start-zero : (b ≡ MINUS → ⊥) → b ≡ ZERO → Zero ≡ digits-fed p b
+    unfolding digits-fed
     start-zero k h = rw (s, ne-eqb b MINUS k, eq-eqb b ZERO h)
 
-    pub start-digit : (q : Part) → (b ≡ MINUS → ⊥) → (b ≡ ZERO → ⊥) → q ≡ if-digit b (Plain (grown 0 b)) → q ≡ part-fed p b
-    unfolding part-fed
+    pub start-digit : (q : Digits) → (b ≡ MINUS → ⊥) → (b ≡ ZERO → ⊥) → q ≡ if-digit b (Plain (grown 0 b)) → q ≡ digits-fed p b
+    unfolding digits-fed
     start-digit q k h e = rw (s, ne-eqb b MINUS k, ne-eqb b ZERO h) e
 
   module _ (s : p ≡ Minus) where
-    pub minus-zero : b ≡ ZERO → Broken ≡ part-fed p b
-    unfolding part-fed
+    pub minus-zero : b ≡ ZERO → Broken ≡ digits-fed p b
+    unfolding digits-fed
     minus-zero h = rw (s, eq-eqb b ZERO h)
 
-    pub minus-digit : (q : Part) → (b ≡ ZERO → ⊥) → q ≡ if-digit b (Negative (grown 0 b)) → q ≡ part-fed p b
-    unfolding part-fed
+    pub minus-digit : (q : Digits) → (b ≡ ZERO → ⊥) → q ≡ if-digit b (Negative (grown 0 b)) → q ≡ digits-fed p b
+    unfolding digits-fed
     minus-digit q h e = rw (s, ne-eqb b ZERO h) e
 
-  pub plain-digit : (v : ℕ) (q : Part) → p ≡ Plain v → q ≡ if-digit b (Plain (grown v b)) → q ≡ part-fed p b
-  unfolding part-fed
+  pub plain-digit : (v : ℕ) (q : Digits) → p ≡ Plain v → q ≡ if-digit b (Plain (grown v b)) → q ≡ digits-fed p b
+  unfolding digits-fed
   plain-digit v q s e = rw s e
 
-  pub negative-digit : (v : ℕ) (q : Part) → p ≡ Negative v → q ≡ if-digit b (Negative (grown v b)) → q ≡ part-fed p b
-  unfolding part-fed
+  pub negative-digit : (v : ℕ) (q : Digits) → p ≡ Negative v → q ≡ if-digit b (Negative (grown v b)) → q ≡ digits-fed p b
+  unfolding digits-fed
   negative-digit v q s e = rw s e
 
-  pub zero-more : p ≡ Zero → Broken ≡ part-fed p b
-  unfolding part-fed
+  pub zero-more : p ≡ Zero → Broken ≡ digits-fed p b
+  unfolding digits-fed
   zero-more s = rw s
 
-  pub broken-more : p ≡ Broken → Broken ≡ part-fed p b
-  unfolding part-fed
+  pub broken-more : p ≡ Broken → Broken ≡ digits-fed p b
+  unfolding digits-fed
   broken-more s = rw s
 
 -- ---- the number of a field
@@ -112,30 +113,30 @@ module _ (v : ℕ) where
       pub in-minus : num.Is (toZ w32 (ofZ w32 (pos 0 -ℤ toZ w32 v))) ≡ minus (capped (some v))
       in-minus = rw (toZ-pos w32 {n = v} (omega arith), back32 (pos 0 -ℤ pos v) (gone v h k .0)) (gone v h k .1)
 
-module _ (p : Part) (n : Num) where
-  pub number-plain : (v : ℕ) → p ≡ Plain v → n ≡ with-no-sign (capped (some v)) → n ≡ part-number p
-  unfolding part-number
+module _ (p : Digits) (n : Num) where
+  pub number-plain : (v : ℕ) → p ≡ Plain v → n ≡ with-no-sign (capped (some v)) → n ≡ digits-number p
+  unfolding digits-number
   number-plain v s e = rw s e
 
-  pub number-negative : (v : ℕ) → p ≡ Negative v → n ≡ minus (capped (some v)) → n ≡ part-number p
-  unfolding part-number
+  pub number-negative : (v : ℕ) → p ≡ Negative v → n ≡ minus (capped (some v)) → n ≡ digits-number p
+  unfolding digits-number
   number-negative v s e = rw s e
 
 -- ---- a line after one byte more
 module _ (s : Scan) (b : ℕ) where
-  pub event-tab : (p : Part) → s ≡ Event p → b ≡ TAB → Argument p Start ≡ fed s b
+  pub event-tab : (p : Digits) → s ≡ Event p → b ≡ TAB → Argument p Start ≡ fed s b
   unfolding fed
   event-tab p e h = rw (e, eq-eqb b TAB h)
 
-  pub event-byte : (p q : Part) → s ≡ Event p → (b ≡ TAB → ⊥) → q ≡ part-fed p b → Event q ≡ fed s b
+  pub event-byte : (p q : Digits) → s ≡ Event p → (b ≡ TAB → ⊥) → q ≡ digits-fed p b → Event q ≡ fed s b
   unfolding fed
   event-byte p q e h k = rw (e, ne-eqb b TAB h, k)
 
-  pub argument-tab : (a p : Part) → s ≡ Argument a p → b ≡ TAB → More ≡ fed s b
+  pub argument-tab : (a p : Digits) → s ≡ Argument a p → b ≡ TAB → More ≡ fed s b
   unfolding fed
   argument-tab a p e h = rw (e, eq-eqb b TAB h)
 
-  pub argument-byte : (a p q : Part) → s ≡ Argument a p → (b ≡ TAB → ⊥) → q ≡ part-fed p b → Argument a q ≡ fed s b
+  pub argument-byte : (a p q : Digits) → s ≡ Argument a p → (b ≡ TAB → ⊥) → q ≡ digits-fed p b → Argument a q ≡ fed s b
   unfolding fed
   argument-byte a p q e h k = rw (e, ne-eqb b TAB h, k)
 
@@ -145,8 +146,8 @@ module _ (s : Scan) (b : ℕ) where
 
 -- ---- the line at the end
 module _ (s : Scan) where
-  pub line-whole : (e a : Part) (m n : Num) (l : Input)
-      → s ≡ Argument e a → m ≡ part-number e → n ≡ part-number a → l ≡ input-by m n → l ≡ line-at s
+  pub line-whole : (e a : Digits) (m n : Num) (l : Input)
+      → s ≡ Argument e a → m ≡ digits-number e → n ≡ digits-number a → l ≡ input-by m n → l ≡ line-at s
   unfolding line-at
   line-whole e a m n l h p q r = rw (h, ← p, ← q) r
 
@@ -182,6 +183,6 @@ module _ (e : ℤ) (n : Num) where
   unfolding input-by
   posts-beyond h = rw h
 
-pub number-zero : (p : Part) → p ≡ Zero → num.Is (pos 0) ≡ part-number p
-unfolding part-number capped
+pub number-zero : (p : Digits) → p ≡ Zero → num.Is (pos 0) ≡ digits-number p
+unfolding digits-number capped
 number-zero p s = rw s

@@ -1,19 +1,20 @@
 -- The input line under way (01, the end of "Checked by example"): what it is after each byte, and what line it is at the end.
 -- That this is `line-of (fields bs)` for every list of bytes is proved in proofs/Lines. Assumes nothing.
-use Prim.Native.Nat.{ℕ, _+_, _-_, _*_, min}
+use Prim.Native.Nat.{ℕ}
 use mathlib.Core.Bool.{Bool, true, false, cond}
 use mathlib.Core.List.{List, [], _∷_}
 use mathlib.Core.Option.{some}
 use lib.Dec.{ltb, eqb}
 use Rattle.meaning.specs.declared.Num.{Num}
 use Rattle.meaning.specs.declared.Num.the-variants as num
-use Rattle.meaning.specs.Number.{BEYOND, capped, with-no-sign, minus}
+use Rattle.meaning.specs.Number.{capped, with-no-sign, minus}
 use Rattle.meaning.specs.Split.{TAB}
 use Rattle.meaning.specs.declared.Input.{Input}
 use Rattle.meaning.specs.declared.Input.the-variants.{Wrong}
 use Rattle.meaning.specs.Program.{input-by}
-use Rattle.console.specs.declared.scan.Part.{Part}
-use Rattle.console.specs.declared.scan.Part.the-variants.{Start, Minus, Zero, Plain, Negative, Broken}
+use Rattle.numerals.specs.Small.{grown}
+use Rattle.console.specs.declared.scan.Digits.{Digits}
+use Rattle.console.specs.declared.scan.Digits.the-variants.{Start, Minus, Zero, Plain, Negative, Broken}
 use Rattle.console.specs.declared.scan.Scan.{Scan}
 use Rattle.console.specs.declared.scan.Scan.the-variants.{Event, Argument, More}
 
@@ -29,31 +30,27 @@ MINUS = 45
 
 -- ---- a field under way
 
--- the value v with one digit more, held at one past the range
-abbrev pub grown : ℕ → ℕ → ℕ
-grown v b = min BEYOND (v * 10 + (b - ZERO))
-
 -- a digit gives p, any other byte breaks the field
-abbrev pub if-digit : ℕ → Part → Part
+abbrev pub if-digit : ℕ → Digits → Digits
 if-digit b p = cond (ltb b ZERO) Broken (cond (ltb NINE b) Broken p)
 
 -- a field after one byte more: "no leading zero, plus or minus zero"
-unfoldable pub part-fed : Part → ℕ → Part
-part-fed Start b = cond (eqb b MINUS) Minus (cond (eqb b ZERO) Zero (if-digit b (Plain (grown 0 b))))
-part-fed Minus b = cond (eqb b ZERO) Broken (if-digit b (Negative (grown 0 b)))
-part-fed Zero b = Broken
-part-fed (Plain v) b = if-digit b (Plain (grown v b))
-part-fed (Negative v) b = if-digit b (Negative (grown v b))
-part-fed Broken b = Broken
+unfoldable pub digits-fed : Digits → ℕ → Digits
+digits-fed Start b = cond (eqb b MINUS) Minus (cond (eqb b ZERO) Zero (if-digit b (Plain (grown 0 b))))
+digits-fed Minus b = cond (eqb b ZERO) Broken (if-digit b (Negative (grown 0 b)))
+digits-fed Zero b = Broken
+digits-fed (Plain v) b = if-digit b (Plain (grown v b))
+digits-fed (Negative v) b = if-digit b (Negative (grown v b))
+digits-fed Broken b = Broken
 
 -- the number that the field is, if it ends here
-unfoldable pub part-number : Part → Num
-part-number Start = num.Not
-part-number Minus = num.Not
-part-number Zero = with-no-sign (capped (some 0))
-part-number (Plain v) = with-no-sign (capped (some v))
-part-number (Negative v) = minus (capped (some v))
-part-number Broken = num.Not
+unfoldable pub digits-number : Digits → Num
+digits-number Start = num.Not
+digits-number Minus = num.Not
+digits-number Zero = with-no-sign (capped (some 0))
+digits-number (Plain v) = with-no-sign (capped (some v))
+digits-number (Negative v) = minus (capped (some v))
+digits-number Broken = num.Not
 
 -- ---- a line under way
 
@@ -74,14 +71,14 @@ began More = true
 
 -- after one byte more: a tab ends a field
 unfoldable pub fed : Scan → ℕ → Scan
-fed (Event p) b = cond (eqb b TAB) (Argument p Start) (Event (part-fed p b))
-fed (Argument e p) b = cond (eqb b TAB) More (Argument e (part-fed p b))
+fed (Event p) b = cond (eqb b TAB) (Argument p Start) (Event (digits-fed p b))
+fed (Argument e p) b = cond (eqb b TAB) More (Argument e (digits-fed p b))
 fed More b = More
 
 -- the line, if it ends here
 unfoldable pub line-at : Scan → Input
 line-at (Event p) = Wrong
-line-at (Argument e a) = input-by (part-number e) (part-number a)
+line-at (Argument e a) = input-by (digits-number e) (digits-number a)
 line-at More = Wrong
 
 -- ---- a list of bytes, fed one after the other

@@ -11,12 +11,12 @@ use Rattle.meaning.specs.Widget.{ENTRY}
 use Rattle.meaning.specs.Program.{SPACE}
 
 -- how many of so many entries the trace holds: all of them, where it is long enough
-abbrev pub held : ℕ → List ℤ → ℕ
-held entries trace = min entries (length trace / ENTRY)
+abbrev pub entries-held : ℕ → List ℤ → ℕ
+entries-held entries trace = min entries (length trace / ENTRY)
 
 -- their numbers
 unfoldable pub shown : ℕ → List ℤ → List ℤ
-shown entries trace = take (ENTRY * held entries trace) trace
+shown entries trace = take (ENTRY * entries-held entries trace) trace
 
 -- one entry: "one a line, single spaces"
 unfoldable pub entry-line : ℤ → ℤ → ℤ → List ℕ

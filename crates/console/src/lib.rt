@@ -12,6 +12,6 @@ pub use printed::HEAD;
 pub use printed::LINE;
 pub use printed::report;
 pub use scan::Collected;
-pub use scan::Part;
+pub use scan::Digits;
 pub use scan::Scan;
 pub use scan::collect;

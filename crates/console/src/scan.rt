@@ -4,6 +4,8 @@ use fields::LF;
 use fields::TAB;
 use meaning::Input;
 use meaning::Num;
+use numerals::BEYOND;
+use numerals::grown;
 use sizes::MOST;
 ghost use mathlib.Core.Path.{_≡_};
 ghost use mathlib.Core.Option.{some};
@@ -12,19 +14,16 @@ ghost use lib.ListN.{length};
 ghost use Rattle.meaning.specs.declared.Num.the-variants.{Is};
 ghost use Rattle.meaning.specs.Number.{capped, with-no-sign, minus};
 ghost use Rattle.meaning.specs.Program.{input-by};
-ghost use Rattle.console.specs.declared.scan.Part.the-variants.{Plain, Negative};
-ghost use Rattle.console.specs.Scan.{grown, if-digit, part-fed, part-number, empty, began, fed, line-at};
+ghost use Rattle.numerals.specs.Small.{grown as grown-by};
+ghost use Rattle.console.specs.declared.scan.Digits.the-variants.{Plain, Negative};
+ghost use Rattle.console.specs.Scan.{if-digit, digits-fed, digits-number, empty, began, fed, line-at};
 ghost use Rattle.console.specs.Stretch.{Collects};
 
-// One past the range: it stands for every number beyond.
-const BEYOND: u64 = (MOST as u64) + 1;
-// Digits of a larger value, and one digit more, are beyond.
-const TENTH: u64 = (MOST as u64) / 10;
 // "a number past ±1,000,000,000 is posted as 1,000,000,001"
 const POSTED: i32 = MOST + 1;
 
 // A field under way: nothing yet, a minus alone, 0 alone, digits of a value, digits behind a minus, or what can be no number.
-pub enum Part {
+pub enum Digits {
     Start,
     Minus,
     Zero,
@@ -35,8 +34,8 @@ pub enum Part {
 
 // A line under way: in its event, in its argument, or past two fields.
 pub enum Scan {
-    Event(Part),
-    Argument(Part, Part),
+    Event(Digits),
+    Argument(Digits, Digits),
     More,
 }
 
@@ -46,41 +45,29 @@ pub struct Collected {
     pub scan: Scan,
 }
 
-// The value with one digit more.
-fn with_digit(v: u64, b: u8) -> u64
-    requires { ⌜ (48 ≤ b) × (b ≤ 57) ⌝ }
-    ensures { λ r. ⌜ r ≡ grown v b ⌝ }
-{
-    if TENTH < v {
-        return BEYOND;
-    }
-    let m = v * 10 + ((b - 48) as u64);
-    if m < BEYOND { m } else { BEYOND }
-}
-
 // A digit after others, with no sign and behind a minus; any other byte breaks the field.
-fn plain_fed(v: u64, b: u8) -> Part
-    ensures { λ r. ⌜ r ≡ if-digit b (Plain (grown v b)) ⌝ }
+fn plain_fed(v: u64, b: u8) -> Digits
+    ensures { λ r. ⌜ r ≡ if-digit b (Plain (grown-by v b)) ⌝ }
 {
     if b < 48 {
-        return Part::Broken;
+        return Digits::Broken;
     }
     if 57 < b {
-        return Part::Broken;
+        return Digits::Broken;
     }
-    Part::Plain(with_digit(v, b))
+    Digits::Plain(grown(v, b))
 }
 
-fn negative_fed(v: u64, b: u8) -> Part
-    ensures { λ r. ⌜ r ≡ if-digit b (Negative (grown v b)) ⌝ }
+fn negative_fed(v: u64, b: u8) -> Digits
+    ensures { λ r. ⌜ r ≡ if-digit b (Negative (grown-by v b)) ⌝ }
 {
     if b < 48 {
-        return Part::Broken;
+        return Digits::Broken;
     }
     if 57 < b {
-        return Part::Broken;
+        return Digits::Broken;
     }
-    Part::Negative(with_digit(v, b))
+    Digits::Negative(grown(v, b))
 }
 
 // A number with no sign, and behind a minus: there is no minus zero.
@@ -107,45 +94,45 @@ fn minus_number(v: u64) -> Num
     }
 }
 
-impl Part {
+impl Digits {
     // The field after one byte more: "no leading zero, plus or minus zero".
-    fn feed(self, b: u8) -> Part
-        ensures { λ r. ⌜ r ≡ part-fed self b ⌝ }
+    fn feed(self, b: u8) -> Digits
+        ensures { λ r. ⌜ r ≡ digits-fed self b ⌝ }
     {
         match self {
-            Part::Start => {
+            Digits::Start => {
                 if b == 45 {
-                    return Part::Minus;
+                    return Digits::Minus;
                 }
                 if b == 48 {
-                    return Part::Zero;
+                    return Digits::Zero;
                 }
                 plain_fed(0, b)
             }
-            Part::Minus => {
+            Digits::Minus => {
                 if b == 48 {
-                    return Part::Broken;
+                    return Digits::Broken;
                 }
                 negative_fed(0, b)
             }
-            Part::Plain(v) => plain_fed(v, b),
-            Part::Negative(v) => negative_fed(v, b),
-            Part::Zero => Part::Broken,
-            Part::Broken => Part::Broken,
+            Digits::Plain(v) => plain_fed(v, b),
+            Digits::Negative(v) => negative_fed(v, b),
+            Digits::Zero => Digits::Broken,
+            Digits::Broken => Digits::Broken,
         }
     }
 
     // The number that the field is, if it ends here.
     fn number(self) -> Num
-        ensures { λ r. ⌜ r ≡ part-number self ⌝ }
+        ensures { λ r. ⌜ r ≡ digits-number self ⌝ }
     {
         match self {
-            Part::Zero => Num::Is(0),
-            Part::Plain(v) => plain_number(v),
-            Part::Negative(v) => minus_number(v),
-            Part::Start => Num::Not,
-            Part::Minus => Num::Not,
-            Part::Broken => Num::Not,
+            Digits::Zero => Num::Is(0),
+            Digits::Plain(v) => plain_number(v),
+            Digits::Negative(v) => minus_number(v),
+            Digits::Start => Num::Not,
+            Digits::Minus => Num::Not,
+            Digits::Broken => Num::Not,
         }
     }
 }
@@ -155,7 +142,7 @@ impl Scan {
     pub fn empty() -> Scan
         ensures { λ r. ⌜ r ≡ empty ⌝ }
     {
-        Scan::Event(Part::Start)
+        Scan::Event(Digits::Start)
     }
 
     // Whether any byte was fed: after the last LF there is no further line.
@@ -164,12 +151,12 @@ impl Scan {
     {
         match self {
             Scan::Event(p) => match p {
-                Part::Start => false,
-                Part::Minus => true,
-                Part::Zero => true,
-                Part::Plain(_) => true,
-                Part::Negative(_) => true,
-                Part::Broken => true,
+                Digits::Start => false,
+                Digits::Minus => true,
+                Digits::Zero => true,
+                Digits::Plain(_) => true,
+                Digits::Negative(_) => true,
+                Digits::Broken => true,
             },
             Scan::Argument(_, _) => true,
             Scan::More => true,
@@ -183,7 +170,7 @@ impl Scan {
         match self {
             Scan::Event(p) => {
                 if b == TAB {
-                    return Scan::Argument(p, Part::Start);
+                    return Scan::Argument(p, Digits::Start);
                 }
                 Scan::Event(p.feed(b))
             }

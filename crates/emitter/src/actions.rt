@@ -12,7 +12,7 @@ ghost use mathlib.Core.Path.{_≡_};
 ghost use lib.ListN.{length};
 ghost use Rattle.meaning.specs.Compile.{code-acts};
 ghost use Rattle.meaning.specs.Value.{chart-of};
-ghost use Rattle.acts.specs.Index.{Fits, Ready};
+ghost use Rattle.acts.specs.Index.{Fits, Prepared};
 ghost use Rattle.emitter.specs.Pen.{pen, emits, Room};
 
 // The actions of an owner.
@@ -23,7 +23,7 @@ pub fn put_acts(
     plan: &mut [i32],
     at: usize,
 ) -> usize
-    requires { ⌜ Ready (now chart) (now index) × Fits owner × Room (code-acts (chart-of (now chart)) owner) at ⌝ }
+    requires { ⌜ Prepared (now chart) (now index) × Fits owner × Room (code-acts (chart-of (now chart)) owner) at ⌝ }
     ensures { λ r. ⌜ pen (now (plan .exit)) r ≡ emits (code-acts (chart-of (now (chart .entry))) owner) (pen (now (plan .entry)) at) ⌝ }
 {
     let n = action_count(chart);
@@ -40,7 +40,7 @@ pub fn put_acts(
 
 // How many actions an owner has: what they come to in a slice without room.
 pub fn act_count(chart: &[i32], index: &[usize; INDEX], owner: Owner) -> usize
-    requires { ⌜ Ready (now chart) (now index) × Fits owner ⌝ }
+    requires { ⌜ Prepared (now chart) (now index) × Fits owner ⌝ }
     ensures { λ r. ⌜ r ≡ length (code-acts (chart-of (now (chart .entry))) owner) ⌝ }
 {
     let mut none = [0i32; 1];

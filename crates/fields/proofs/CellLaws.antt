@@ -14,7 +14,7 @@ use mir.Syntax.{w32, w64}
 use mir.Val.{Fits, toZ, ofZ}
 use borrow.Author.Tests.{eq-eqb, ne-eqb, ltb-true, le-leb, lt-leb}
 use Rattle.sizes.specs.Sizes.{EVENTS}
-use Rattle.meaning.specs.Grammar.{Field, turn, number, count, letter, dash, state, history, in-place, bytes}
+use Rattle.meaning.specs.Grammar.{Field, turn, number, count, letter, dash, target-state, target-history, target-none, bytes}
 use Rattle.meaning.specs.Value.{ABSENT}
 use Rattle.forms.specs.Table.{field-of}
 use Rattle.meaning.specs.Lists.{has}
@@ -145,17 +145,17 @@ module _ (x : ℕ) (ls : List ℕ) (t : Bool) (e : t ≡ has x ls) where
 
 -- ---- h and a number
 module _ (s : List ℕ) (a e : ℕ) where
-  pub history-empty : a ≡ e → wrong ≡ read-field history 0 (slice a e s)
+  pub history-empty : a ≡ e → wrong ≡ read-field target-history 0 (slice a e s)
   unfolding read-field number-of
   history-empty z = rw (z, slice-empty)
 
   module _ (k : a < e) (t : e ≤ length s) where
     pub history-is : getD s a 0 ≡ 104 → (v : Num) (l : Line) → v ≡ number-of (slice (a + 1) e s) → l ≡ number-line (pos 104 ∷ []) v
-        → l ≡ read-field history 0 (slice a e s)
+        → l ≡ read-field target-history 0 (slice a e s)
     unfolding read-field
     history-is b v l n g = rw (slice-cons a e s 0 k t, b, g, n, add-one)
 
-    pub history-not : (getD s a 0 ≡ 104 → ⊥) → wrong ≡ read-field history 0 (slice a e s)
+    pub history-not : (getD s a 0 ≡ 104 → ⊥) → wrong ≡ read-field target-history 0 (slice a e s)
     unfolding read-field number-of
     history-not b = rw (slice-cons a e s 0 k t, ne-eqb (getD s a 0) 104 b)
 
@@ -179,7 +179,7 @@ module _ (k n : ℕ) (x : List ℕ) (l : Line) where
     unfolding read-field field-of
     said-count e el = rw (e, el, ev)
 
-  pub said-history : k ≡ 104 → l ≡ read-field history 0 x → l ≡ read-field (field-of k) n x
+  pub said-history : k ≡ 104 → l ≡ read-field target-history 0 x → l ≡ read-field (field-of k) n x
   unfolding read-field field-of
   said-history e el = rw (e, el)
 

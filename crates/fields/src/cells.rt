@@ -25,7 +25,7 @@ ghost use Prim.Native.Nat.{_≤_};
 ghost use lib.ListN.{length};
 ghost use lib.Seq.{slice};
 ghost use lib.IntN.{pos};
-ghost use Rattle.meaning.specs.Grammar.{history};
+ghost use Rattle.meaning.specs.Grammar.{target-history};
 ghost use Rattle.meaning.specs.Lists.{has};
 ghost use Rattle.meaning.specs.Value.{ABSENT as Absent};
 ghost use Rattle.meaning.specs.Line.{is-turn, number-line, count-line, right-if, read-field};
@@ -184,7 +184,7 @@ fn letter_said(letter: u8, letters: &[u8]) -> Said
 // h and a number.
 fn history_said(s: &[u8], from: usize, to: usize) -> Said
     requires { ⌜ (from ≤ to) × (to ≤ length (now s)) ⌝ }
-    ensures { λ r. ⌜ said r ≡ read-field history 0 (slice from to (now (s .entry))) ⌝ }
+    ensures { λ r. ⌜ said r ≡ read-field target-history 0 (slice from to (now (s .entry))) ⌝ }
 {
     if from == to {
         return WRONG;

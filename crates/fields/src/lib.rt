@@ -29,22 +29,22 @@ pub fn stop(s: &[u8], from: usize, to: usize, sep: u8) -> usize
 }
 
 // Where a field stands.
-pub struct Part {
+pub struct Extent {
     pub from: usize,
     pub to: usize,
 }
 
 // Field k of a line; an empty part where there is none.
-pub fn field(s: &[u8], from: usize, to: usize, k: usize) -> Part
+pub fn field(s: &[u8], from: usize, to: usize, k: usize) -> Extent
     requires { ⌜ (from ≤ to) × (to ≤ length (now s)) ⌝ }
     ensures { λ r. ⌜ Field (now (s .entry)) from to k (r .from) (r .to) ⌝ }
 {
     let e = stop(s, from, to, TAB);
     if k == 0 {
-        return Part { from: from, to: e };
+        return Extent { from: from, to: e };
     }
     if e == to {
-        return Part { from: to, to: to };
+        return Extent { from: to, to: to };
     }
     field(s, e + 1, to, k - 1)
 }

@@ -31,7 +31,7 @@ use Rattle.meaning.specs.Tree.{descendants, is-child, is-o, kind-of, parent-of}
 use Rattle.meaning.specs.Widget.{Ctx, is-active, set-active, set-queue, set-slot, set-value}
 use Rattle.widget.specs.declared.Went.{Went}
 use Rattle.widget.specs.View.{Lent, Whole, ctx, tracing, said, went, Did}
-use Rattle.ways.specs.Ways.{slot-of, Led}
+use Rattle.tree.specs.Courses.{slot-of, Led}
 
 -- the slots of a state of the chart's own (answer 6) are such
 pub led-of : (c : Chart) (slots : List ℤ) → Slots-ok c slots → length slots ≡ STATES → Led c slots

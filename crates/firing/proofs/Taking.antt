@@ -21,16 +21,16 @@ use Rattle.meaning.specs.Tree.{descendants, scope, trans-row}
 use Rattle.meaning.specs.Value.{chart-of}
 use Rattle.meaning.specs.Widget.{Ctx, emit, taken}
 use Rattle.meaning.specs.Rules.{Ruled}
-use Rattle.tree_walks.proofs.Passing.{sound}
+use Rattle.tree.proofs.Passing.{sound}
 use Rattle.widget.specs.declared.Went.{Went}
 use Rattle.widget.specs.View.{Lent, all-lent, with-vars, with-queue, with-trace, Whole, Within, Did}
 use Rattle.widget.proofs.Going.{then-on, then-stop}
-use Rattle.ways.specs.Aims.{aim-by, aimed-at, top-of, Found}
-use Rattle.ways.specs.Ways.{goal-way, goal-visit, Inside, Owned, Led}
-use Rattle.ways.specs.declared.Aim.{Aim}
-use Rattle.ways.specs.declared.Aim.the-variants.{Goes, Stays}
-use Rattle.ways.specs.declared.Goal.{Goal}
-use Rattle.ways.proofs.Aiming.{goes-by, stays-by, goal-facts, goal-bound}
+use Rattle.tree.specs.Aims.{aim-by, aimed-at, top-of, Found}
+use Rattle.tree.specs.Courses.{goal-way, goal-visit, Inside, Owned, Led}
+use Rattle.tree.specs.declared.ways.Aim.{Aim}
+use Rattle.tree.specs.declared.ways.Aim.the-variants.{Goes, Stays}
+use Rattle.tree.specs.declared.ways.Goal.{Goal}
+use Rattle.tree.proofs.Aiming.{goes-by, stays-by, goal-facts, goal-bound}
 use Rattle.firing.specs.Moving.{moving}
 use Rattle.firing.proofs.Leading.{leave-all-led, led-after}
 

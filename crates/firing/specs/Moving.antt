@@ -9,8 +9,8 @@ use Rattle.meaning.specs.Reaction.{leave-all}
 use Rattle.meaning.specs.Steps.{Step, _then_, each}
 use Rattle.meaning.specs.Tree.{descendants}
 use Rattle.meaning.specs.Widget.{Ctx}
-use Rattle.ways.specs.Ways.{goal-way, goal-visit}
-use Rattle.ways.specs.declared.Goal.{Goal}
+use Rattle.tree.specs.Courses.{goal-way, goal-visit}
+use Rattle.tree.specs.declared.ways.Goal.{Goal}
 
 -- "the active states of the span are left .. Then the transition's actions. Then states are entered": from the scope to the goal
 unfoldable pub moving : Chart → ℤ → ℕ → Goal → ℕ → Step Ctx

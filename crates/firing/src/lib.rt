@@ -9,10 +9,10 @@ use meaning::chart::Owner;
 use queue::lent::QUEUE_NUMBERS;
 use sizes::STATES;
 use sizes::VARIABLES;
-use ways::Aim;
-use ways::Course;
-use ways::Goal;
-use ways::aim_of;
+use tree::ways::Aim;
+use tree::ways::Course;
+use tree::ways::Goal;
+use tree::ways::aim_of;
 use widget::Went;
 use widget::mark_taken;
 ghost use mathlib.Core.Path.{_≡_};
@@ -23,10 +23,10 @@ ghost use Rattle.queue.specs.Numbers.{QUEUE-NUMBERS as all};
 ghost use Rattle.meaning.specs.Reaction.{fire as fires};
 ghost use Rattle.meaning.specs.Tree.{descendants};
 ghost use Rattle.meaning.specs.Value.{chart-of};
-ghost use Rattle.acts.specs.Index.{Ready};
+ghost use Rattle.acts.specs.Index.{Prepared};
 ghost use Rattle.widget.specs.View.{all-lent, Did};
-ghost use Rattle.ways.specs.Aims.{Found};
-ghost use Rattle.ways.specs.Ways.{Inside, Owned, Led};
+ghost use Rattle.tree.specs.Aims.{Found};
+ghost use Rattle.tree.specs.Courses.{Inside, Owned, Led};
 ghost use Rattle.firing.specs.Moving.{moving};
 
 // The states below the scope are left, then the transition's actions, then the way down to the goal.
@@ -45,7 +45,7 @@ fn move_to(
     trace: &mut [i32],
     at: usize,
 ) -> Went
-    requires { ⌜ Ready (now chart) (now index) × (Inside (chart-of (now chart)) goal × Owned (chart-of (now chart)) goal)
+    requires { ⌜ Prepared (now chart) (now index) × (Inside (chart-of (now chart)) goal × Owned (chart-of (now chart)) goal)
         × (top < length (chart-of (now chart) .states)) × (end ≡ suc top + length (descendants (chart-of (now chart)) top))
         × Led (chart-of (now chart)) (now slots) × (length (now queue) ≡ all) × (at ≤ length (now trace)) × (t < transitions) ⌝ }
     ensures { λ r. ⌜ Did (moving (chart-of (now (chart .entry))) arg t goal top)
@@ -104,7 +104,7 @@ pub fn fire(
     trace: &mut [i32],
     at: usize,
 ) -> Went
-    requires { ⌜ Ready (now chart) (now index) × (t < length (chart-of (now chart) .transitions)) × Found (chart-of (now chart)) t
+    requires { ⌜ Prepared (now chart) (now index) × (t < length (chart-of (now chart) .transitions)) × Found (chart-of (now chart)) t
         top end × Led (chart-of (now chart)) (now slots) × (length (now queue) ≡ all) × (at ≤ length (now trace)) ⌝ }
     ensures { λ r. ⌜ Did (fires (chart-of (now (chart .entry))) arg t)
         (all-lent (now (active .entry)) (now (slots .entry)) (now (vars .entry)) (now (queue .entry)) (now (trace .entry))) at r

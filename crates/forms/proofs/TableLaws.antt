@@ -8,7 +8,7 @@ use lib.ListN.{length, getD, List·getD-eq-default}
 use lib.Dec.{eqb, leb, ltb}
 use borrow.Author.Tests.{ne-eqb, eqb-true, eq-eqb, leb-true, ltb-true}
 use Rattle.meaning.specs.Lists.{has}
-use Rattle.meaning.specs.Grammar.{bytes, Field, letter, width, Form, last, _then_, _or_, s-record, v-record, e-record, t-record}
+use Rattle.meaning.specs.Grammar.{bytes, Field, letter, width, Form, last, _tab_, _or_, s-record, v-record, e-record, t-record}
 use Rattle.meaning.specs.Grammar.{a-record, form, most, record-by}
 use Rattle.forms.specs.Table.{ENTRIES, steps, fields, skips, codes, field-in, field-of, no-form, at-entry, entry-form, forms, form-at}
 
@@ -41,9 +41,9 @@ module _ (i : ℕ) (h : i < ENTRIES) where
       let b : suc i + (getD skips i 0 - 48) ≡ i + 1 + (getD skips i 0 - 48) = omega arith in
       w .is ∙ rw (e, w .later 0, w .later (getD skips i 0 - 48), a, b)
 
-  pub form-then : getD steps i 0 ≡ 62 → form-at i ≡ field-of (getD fields i 0) then form-at (i + 1)
+  pub form-tab : getD steps i 0 ≡ 62 → form-at i ≡ field-of (getD fields i 0) tab form-at (i + 1)
   unfolding form-at
-  form-then e = let w = here in let a : suc i + 0 ≡ i + 1 = omega arith in w .is ∙ rw (e, w .later 0, a)
+  form-tab e = let w = here in let a : suc i + 0 ≡ i + 1 = omega arith in w .is ∙ rw (e, w .later 0, a)
 
   pub form-last : (getD steps i 0 ≡ 124 → ⊥) → (getD steps i 0 ≡ 62 → ⊥) → form-at i ≡ last (field-of (getD fields i 0))
   unfolding form-at

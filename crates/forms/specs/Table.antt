@@ -6,7 +6,8 @@ use mathlib.Core.List.{List, [], _∷_}
 use lib.Dec.{eqb}
 use lib.ListN.{getD}
 use Rattle.sizes.specs.Sizes.{EVENTS}
-use Rattle.meaning.specs.Grammar.{Field, turn, number, count, letter, dash, state, history, in-place, Form, last, _then_, _or_, bytes}
+use Rattle.meaning.specs.Grammar.{Field, turn, number, count, letter, dash, target-state, target-history, target-none, Form, last, _tab_}
+use Rattle.meaning.specs.Grammar.{_or_, bytes}
 
 -- how many entries the table has
 abbrev pub ENTRIES : ℕ
@@ -25,8 +26,8 @@ skips = bytes "002000000200000000000080001010000010100003000000"
 -- the field of a code
 abbrev pub codes : List (ℕ × Field)
 codes =
-    (code "n", turn) ∷ (code "#", number) ∷ (code "-", dash) ∷ (code "s", state) ∷ (code "h", history) ∷ (code "_", in-place)
-    ∷ (code "c", count 0 EVENTS)
+    (code "n", turn) ∷ (code "#", number) ∷ (code "-", dash)
+    ∷ (code "s", target-state) ∷ (code "h", target-history) ∷ (code "_", target-none) ∷ (code "c", count 0 EVENTS)
     ∷ (code "o", letter (bytes "o")) ∷ (code "b", letter (bytes "ab")) ∷ (code "=", letter (bytes "=<>"))
     ∷ (code "w", letter (bytes "exdt"))
     ∷ (code "q", letter (bytes "saq")) ∷ (code "k", letter (bytes "ko")) ∷ []
@@ -49,7 +50,7 @@ at-entry fs i = getD fs i no-form
 abbrev pub entry-form : ℕ → ℕ → ℕ → List Form → Form
 entry-form s f k behind =
     cond (eqb s (code "|")) (at-entry behind 0 or at-entry behind (k - 48))
-    (cond (eqb s (code ">")) (field-of f then at-entry behind 0) (last (field-of f)))
+    (cond (eqb s (code ">")) (field-of f tab at-entry behind 0) (last (field-of f)))
 
 unfoldable pub forms : List ℕ → List ℕ → List ℕ → List Form
 forms [] fs ks = []

@@ -9,7 +9,7 @@ ghost use Rattle.forms.specs.Table.{ENTRIES as entries, steps, fields, s
 // What an entry is.
 pub const OR: u8 = b'|';
 
-pub const THEN: u8 = b'>';
+pub const MORE: u8 = b'>';
 
 // Its field.
 pub const TURN: u8 = b'n';

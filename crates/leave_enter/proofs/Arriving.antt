@@ -22,10 +22,10 @@ use Rattle.widget.specs.declared.Went.{Went}
 use Rattle.widget.specs.View.{Lent, all-lent, ctx, tracing, widget, Did, Owes}
 use Rattle.widget.proofs.Going.{owes-as, owes-on, then-stop}
 use Rattle.widget.proofs.Loops.{owes-regroup, owes-when, owes-pass}
-use Rattle.ways.specs.Ways.{slot-of, stored-way, course-way, course-visit, arrival, restored, onward-from, Bound}
-use Rattle.ways.specs.declared.Goal.the-variants.{Target, Owner}
-use Rattle.ways.specs.declared.Course.{Course}
-use Rattle.ways.specs.declared.Course.the-variants.{Defaults as default-course, Slots as slot-course, Towards}
+use Rattle.tree.specs.Courses.{slot-of, stored-way, course-way, course-visit, arrival, restored, onward-from, Bound}
+use Rattle.tree.specs.declared.ways.Goal.the-variants.{Target, Owner}
+use Rattle.tree.specs.declared.ways.Course.{Course}
+use Rattle.tree.specs.declared.ways.Course.the-variants.{Defaults as default-course, Slots as slot-course, Towards}
 
 by-slots-is : (u : State) → by-slots u ≡ stored-way (u .slots)
 unfolding by-slots slot stored-way

@@ -18,8 +18,8 @@ use Rattle.widget.specs.declared.Went.{Went}
 use Rattle.widget.specs.View.{Lent, all-lent, ctx, Did, Owes}
 use Rattle.widget.proofs.Going.{owes-all, owes-as, owes-on, owes-stop}
 use Rattle.widget.proofs.Loops.{each-none}
-use Rattle.ways.specs.Ways.{course-way, course-visit, arrival, onward-from, Bound, Kids}
-use Rattle.ways.specs.declared.Course.{Course}
+use Rattle.tree.specs.Courses.{course-way, course-visit, arrival, onward-from, Bound, Kids}
+use Rattle.tree.specs.declared.ways.Course.{Course}
 use Rattle.leave_enter.proofs.Visiting.{visited, visited-is}
 use Rattle.leave_enter.proofs.Arriving.{descent, refused, arrived}
 

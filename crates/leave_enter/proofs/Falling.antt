@@ -21,8 +21,8 @@ use Rattle.widget.specs.View.{Lent, ctx, tracing, Did, Owes}
 use Rattle.widget.proofs.Going.{owes-all, owes-as}
 use Rattle.widget.proofs.Loops.{each-none, each-next, each-ends, look-at, when-on}
 use Rattle.meaning.specs.Rules.{Ruled}
-use Rattle.tree_walks.proofs.On.{end-within}
-use Rattle.tree_walks.proofs.Passing.{sound}
+use Rattle.tree.proofs.On.{end-within}
+use Rattle.tree.proofs.Passing.{sound}
 
 -- ---- the numbers from a on, falling
 

@@ -19,10 +19,10 @@ use Rattle.widget.specs.declared.Went.{Went}
 use Rattle.widget.specs.View.{Lent, all-lent, with-active, with-vars, with-queue, with-trace, ctx, tracing, Within, Did}
 use Rattle.widget.proofs.Going.{then-on, then-stop, then-none}
 use Rattle.widget.proofs.Loops.{did-refuse}
-use Rattle.ways.specs.Ways.{way-by, slot-of, defaulting, visit-as, arrival, restoring}
-use Rattle.ways.specs.declared.Next.{Next}
-use Rattle.ways.specs.declared.Course.{Course}
-use Rattle.ways.specs.declared.Course.the-variants.{Defaults as default-course, Slots as slot-course, Towards}
+use Rattle.tree.specs.Courses.{way-by, slot-of, defaulting, visit-as, arrival, restoring}
+use Rattle.tree.specs.declared.ways.Next.{Next}
+use Rattle.tree.specs.declared.ways.Course.{Course}
+use Rattle.tree.specs.declared.ways.Course.the-variants.{Defaults as default-course, Slots as slot-course, Towards}
 
 -- ---- by default or not
 

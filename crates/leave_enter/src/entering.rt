@@ -5,22 +5,22 @@ use acts::enter;
 use acts::index::INDEX;
 use acts::perform_all;
 use chart_rows::kind_of;
-use chart_rows::tree::is_child;
-use chart_rows::tree::is_o;
 use meaning::answers::SLOT_EMPTY;
 use meaning::chart::Owner;
 use numbers::Place;
 use queue::lent::QUEUE_NUMBERS;
 use sizes::STATES;
 use sizes::VARIABLES;
-use ways::Course;
-use ways::Next;
-use ways::by_default;
-use ways::goes_on;
-use ways::next_by;
-use ways::onward;
-use ways::restores;
-use ways::slot_of;
+use tree::kin::is_child;
+use tree::kin::is_o;
+use tree::ways::Course;
+use tree::ways::Next;
+use tree::ways::by_default;
+use tree::ways::goes_on;
+use tree::ways::next_by;
+use tree::ways::onward;
+use tree::ways::restores;
+use tree::ways::slot_of;
 use widget::Went;
 ghost use mathlib.Core.Path.{_≡_};
 ghost use Prim.Native.Nat.{_≤_, _<_};
@@ -30,9 +30,9 @@ ghost use Rattle.meaning.specs.Steps.{each};
 ghost use Rattle.meaning.specs.Tree.{kind-of as kind-in};
 ghost use Rattle.meaning.specs.Entry.{all-below, visit as visits};
 ghost use Rattle.meaning.specs.Value.{chart-of};
-ghost use Rattle.acts.specs.Index.{Ready};
+ghost use Rattle.acts.specs.Index.{Prepared};
 ghost use Rattle.widget.specs.View.{Lent, all-lent, with-active, with-vars, with-queue, with-trace, Within, Did};
-ghost use Rattle.ways.specs.Ways.{way-by, course-way, course-visit, arrival, defaulting, visit-as, Bound, Led};
+ghost use Rattle.tree.specs.Courses.{way-by, course-way, course-visit, arrival, defaulting, visit-as, Bound, Led};
 
 // Enters s, a child of p, which goes on so: "a state entered by its parent's default has that default's actions run just
 // before it".
@@ -49,7 +49,7 @@ fn visit(
     trace: &mut [i32],
     at: usize,
 ) -> Went
-    requires { ⌜ Ready (now chart) (now index) × (s < states) × (at ≤ length (now trace)) × (p < states) ⌝ }
+    requires { ⌜ Prepared (now chart) (now index) × (s < states) × (at ≤ length (now trace)) × (p < states) ⌝ }
     ensures { λ r. ⌜ Within (now (trace .entry)) r (now (trace .exit)) × ((k : Lent) → Did (visits (chart-of (now (chart .entry)))
         arg (visit-as (defaulting (kind-in (chart-of (now (chart .entry))) p) (way-by next)) p s)) (with-active (now (active .entry))
         (with-vars (now (vars .entry)) (with-queue (now (queue .entry)) (with-trace (now (trace .entry)) k)))) at r (with-active
@@ -82,7 +82,8 @@ fn arrive(
     trace: &mut [i32],
     at: usize,
 ) -> Went
-    requires { ⌜ Ready (now chart) (now index) × (s < states) × (length (now slots) ≡ states) × (at ≤ length (now trace)) × (p < states) ⌝ }
+    requires { ⌜ Prepared (now chart) (now index) × (s < states) × (length (now slots) ≡ states) × (at ≤ length (now trace))
+        × (p < states) ⌝ }
     ensures { λ r. ⌜ Did (arrival (chart-of (now (chart .entry)))
         arg course (visit-as (defaulting (kind-in (chart-of (now (chart .entry))) p) (way-by next)) p s))
         (all-lent (now (active .entry)) (now (slots .entry)) (now (vars .entry)) (now (queue .entry)) (now (trace .entry))) at r
@@ -133,7 +134,7 @@ pub fn descend(
     trace: &mut [i32],
     at: usize,
 ) -> Went
-    requires { ⌜ Ready (now chart) (now index) × Bound (chart-of (now chart)) course
+    requires { ⌜ Prepared (now chart) (now index) × Bound (chart-of (now chart)) course
         × (s < length (chart-of (now chart) .states)) × Led (chart-of (now chart)) (now slots) × (at ≤ length (now trace)) ⌝ }
     ensures { λ r. ⌜ Did (each (course-visit (chart-of (now (chart .entry))) arg course)
         (all-below (chart-of (now (chart .entry))) (course-way (chart-of (now (chart .entry))) (now (slots .entry)) course) s))

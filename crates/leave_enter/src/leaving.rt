@@ -11,7 +11,7 @@ ghost use lib.ListN.{length};
 ghost use Rattle.meaning.specs.Reaction.{leave-all};
 ghost use Rattle.meaning.specs.Tree.{descendants};
 ghost use Rattle.meaning.specs.Value.{chart-of};
-ghost use Rattle.acts.specs.Index.{Ready};
+ghost use Rattle.acts.specs.Index.{Prepared};
 ghost use Rattle.widget.specs.View.{all-lent, Did};
 
 // "The active states of the span are left, highest number first": those below s, which are the numbers that follow it up to below end.
@@ -28,7 +28,7 @@ pub fn leave_below(
     trace: &mut [i32],
     at: usize,
 ) -> Went
-    requires { ⌜ Ready (now chart) (now index) × (s < length (chart-of (now chart) .states))
+    requires { ⌜ Prepared (now chart) (now index) × (s < length (chart-of (now chart) .states))
         × (end ≡ suc s + length (descendants (chart-of (now chart)) s)) × (at ≤ length (now trace)) ⌝ }
     ensures { λ r. ⌜ Did (leave-all (chart-of (now (chart .entry))) arg (descendants (chart-of (now (chart .entry))) s))
         (all-lent (now (active .entry)) (now (slots .entry)) (now (vars .entry)) (now (queue .entry)) (now (trace .entry))) at r

@@ -9,13 +9,13 @@ use lib.IntN.{ℤ}
 use lib.ListN.{length, getD}
 use lib.Seq.{sets, slice, length-sets}
 use borrow.Author.Tests.{eq-eqb, ne-eqb}
-use Rattle.meaning.specs.Grammar.{Field, Form, last, _then_, _or_, letter}
+use Rattle.meaning.specs.Grammar.{Field, Form, last, _tab_, _or_, letter}
 use Rattle.meaning.specs.Lists.{has}
 use Rattle.meaning.specs.Split.{fields}
 use Rattle.meaning.specs.Line.{Line, worse, room, line, wrong, beside, or-else, rest-of, read-field, read-by}
 use Rattle.fields.specs.Parts.{Stop}
 use Rattle.forms.specs.Table.{ENTRIES, steps, fields as entry-fields, skips, field-of, no-form, form-at}
-use Rattle.forms.proofs.TableLaws.{form-or, form-then, form-last, form-past}
+use Rattle.forms.proofs.TableLaws.{form-or, form-tab, form-last, form-past}
 use Rattle.lines.specs.Took.{Took, Taken}
 use Rattle.lines.proofs.MarkLaws.{worse-zero, worse-one, worse-last, sets-behind}
 
@@ -37,7 +37,7 @@ wrong-taken l at xs e = record { took = record { mark = sym e; row = λ z. absur
 no-fields : (a : Form) (n : ℕ) → read-by a n [] .mark ≡ 1
 unfolding read-by
 no-fields (last x) n = refl
-no-fields (x then a) n = refl
+no-fields (x tab a) n = refl
 no-fields (a or b) n = rw (no-fields a n) (no-fields b n)
 
 -- ---- the walk over the form at entry i
@@ -75,8 +75,8 @@ module _
     (q : Stop 9 s from to e) (xs : List ℤ) (l : Line) (el : l ≡ read-field (field-of f) n (slice from e s))
   where
     module _ (z : k ≡ 62) where
-      more-form : form-at i ≡ field-of f then form-at (i + 1)
-      more-form = rw ef (form-then i h (sym ek ∙ z))
+      more-form : form-at i ≡ field-of f tab form-at (i + 1)
+      more-form = rw ef (form-tab i h (sym ek ∙ z))
 
       pub ends-early : e ≡ to → Taken (read-by (form-at i) n (fields (slice from to s))) at xs 1 xs
       unfolding read-by

@@ -7,8 +7,8 @@ use fields::cells::read_field;
 use fields::cells::stated;
 use fields::stop;
 use forms::ENTRIES;
+use forms::MORE;
 use forms::OR;
-use forms::THEN;
 use forms::field;
 use forms::skip;
 use forms::step;
@@ -53,7 +53,7 @@ pub fn line_by(
     }
     let e = stop(s, from, to, TAB);
     let said = read_field(s, from, e, field(i), n);
-    if what == THEN {
+    if what == MORE {
         if e == to {
             return 1;
         }

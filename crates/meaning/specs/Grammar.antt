@@ -27,7 +27,7 @@ pub data Field : Type 0 where
   -- "-"
   dash : Field
   -- a target: a state's number, h and a state's number, or "-"; the row has the letter, 0 for none, and the number
-  state history in-place : Field
+  target-state target-history target-none : Field
 
 abbrev pub width : Field → ℕ
 width turn = 0
@@ -35,18 +35,18 @@ width number = 1
 width (count low high) = 1
 width (letter ls) = 1
 width dash = 1
-width state = 2
-width history = 2
-width in-place = 2
+width target-state = 2
+width target-history = 2
+width target-none = 2
 
 -- ---- forms: a field alone, a field and what follows it, or one of two forms
 
 pub data Form : Type 0 where
   last : Field → Form
-  _then_ : Field → Form → Form
+  _tab_ : Field → Form → Form
   _or_ : Form → Form → Form
 
-infixr 60 _then_
+infixr 60 _tab_
 infixr 50 _or_
 -- ---- the records
 
@@ -55,28 +55,28 @@ pub data Record : Type 0 where
 
 -- S: number, parent, kind (o, a, b), default. "State 0 alone has parent -. Default is a number for o, else -"
 abbrev pub kind : Form
-kind = (letter (bytes "o") then last number) or (letter (bytes "ab") then last dash)
+kind = (letter (bytes "o") tab last number) or (letter (bytes "ab") tab last dash)
 
 -- T: "the three guard fields are all - or none is"; "target is a state, or h and a state's number for its history, or - for a
 -- reaction in place"
 abbrev pub target : Form
-target = last in-place or last history or last state
+target = last target-none or last target-history or last target-state
 
 abbrev pub guard : Form
-guard = (dash then dash then dash then target) or (number then letter (bytes "=<>") then number then target)
+guard = (dash tab dash tab dash tab target) or (number tab letter (bytes "=<>") tab number tab target)
 
 -- A: act, first, second; the acts k and o have "-" as their second
 abbrev pub act : Form
-act = (letter (bytes "saq") then number then last number) or (letter (bytes "ko") then number then last dash)
+act = (letter (bytes "saq") tab number tab last number) or (letter (bytes "ko") tab number tab last dash)
 
 -- the form of record n of a kind, behind its letter
 abbrev pub form : Record → ℕ → Form
-form s-record zero = turn then dash then kind
-form s-record (suc n) = turn then number then kind
-form v-record n = turn then number then number then last number
+form s-record zero = turn tab dash tab kind
+form s-record (suc n) = turn tab number tab kind
+form v-record n = turn tab number tab number tab last number
 form e-record n = last (count 0 EVENTS)
-form t-record n = turn then number then number then guard
-form a-record n = letter (bytes "exdt") then number then act
+form t-record n = turn tab number tab number tab guard
+form a-record n = letter (bytes "exdt") tab number tab act
 form no-record n = last dash
 
 abbrev pub name : Record → ℕ

@@ -8,7 +8,8 @@ use lib.ListN.{getD}
 use lib.IntN.{ℤ, pos, negsuc}
 use lib.Dec.{eqb, leb, ltb}
 use Rattle.numbers.specs.Reference.{ref}
-use Rattle.meaning.specs.Grammar.{Field, turn, number, count, letter, dash, state, history, in-place, width, Form, last, _then_, _or_}
+use Rattle.meaning.specs.Grammar.{Field, turn, number, count, letter, dash, target-state, target-history, target-none, width, Form}
+use Rattle.meaning.specs.Grammar.{last, _tab_, _or_}
 use Rattle.meaning.specs.Grammar.{Record, s-record, v-record, e-record, t-record, a-record, no-record, form, name, most}
 use Rattle.meaning.specs.Lists.{has}
 use Rattle.meaning.specs.Value.{ABSENT, num, count-fits, fits, fits-field}
@@ -101,9 +102,9 @@ read-field number n f = number-line [] (number-of f)
 read-field (count low high) n f = count-line low high (number-of f)
 read-field (letter ls) n f = right-if (has (letter-of f) ls) (pos (letter-of f) ∷ [])
 read-field dash n f = right-if (is-dash f) (ABSENT ∷ [])
-read-field state n f = number-line (pos 0 ∷ []) (number-of f)
-read-field history n f = number-line (pos (code "h") ∷ []) (number-of (behind (code "h") f))
-read-field in-place n f = right-if (is-dash f) (ABSENT ∷ ABSENT ∷ [])
+read-field target-state n f = number-line (pos 0 ∷ []) (number-of f)
+read-field target-history n f = number-line (pos (code "h") ∷ []) (number-of (behind (code "h") f))
+read-field target-none n f = right-if (is-dash f) (ABSENT ∷ ABSENT ∷ [])
 
 -- ---- a line read
 
@@ -112,8 +113,8 @@ unfoldable pub read-by : Form → ℕ → List (List ℕ) → Line
 read-by (last x) n [] = wrong
 read-by (last x) n (f ∷ []) = read-field x n f
 read-by (last x) n (f ∷ g ∷ fs) = wrong
-read-by (x then xs) n [] = wrong
-read-by (x then xs) n (f ∷ fs) = beside (read-field x n f) (read-by xs n fs)
+read-by (x tab xs) n [] = wrong
+read-by (x tab xs) n (f ∷ fs) = beside (read-field x n f) (read-by xs n fs)
 read-by (a or b) n fs = or-else (eqb (read-by a n fs .mark) 1) (read-by a n fs) (λ _. read-by b n fs)
 
 -- record n of a kind: its form is behind the letter that names it
@@ -168,14 +169,14 @@ write-field number n i row = numeral (num row i)
 write-field (count low high) n i row = numeral (num row i)
 write-field (letter ls) n i row = ref (num row i) ∷ []
 write-field dash n i row = code "-" ∷ []
-write-field state n i row = numeral (num row (i + 1))
-write-field history n i row = code "h" ∷ numeral (num row (i + 1))
-write-field in-place n i row = code "-" ∷ []
+write-field target-state n i row = numeral (num row (i + 1))
+write-field target-history n i row = code "h" ∷ numeral (num row (i + 1))
+write-field target-none n i row = code "-" ∷ []
 
 -- by the form that fits the row
 unfoldable pub write-by : Form → ℕ → ℕ → List ℤ → List (List ℕ)
 write-by (last x) n i row = write-field x n i row ∷ []
-write-by (x then xs) n i row = write-field x n i row ∷ write-by xs n (i + width x) row
+write-by (x tab xs) n i row = write-field x n i row ∷ write-by xs n (i + width x) row
 write-by (a or b) n i row = cond (fits a i row) (write-by a n i row) (write-by b n i row)
 
 -- record n of a kind as a line

@@ -13,11 +13,12 @@ use Rattle.sizes.specs.Sizes.{LEAST-STATES, STATES, VARIABLES, EVENTS, TRANSITI
 use Rattle.numbers.specs.Equal.{eqZ}
 use Rattle.numbers.specs.Range.{inRange}
 use Rattle.numbers.specs.Reference.{ref}
-use Rattle.meaning.specs.Grammar.{Field, turn, number, count, letter, dash, state, history, in-place, width, Form, last, _then_, _or_}
+use Rattle.meaning.specs.Grammar.{Field, turn, number, count, letter, dash, target-state, target-history, target-none, width, Form}
+use Rattle.meaning.specs.Grammar.{last, _tab_, _or_}
 use Rattle.meaning.specs.Grammar.{s-record, v-record, t-record, a-record, form}
 use Rattle.meaning.specs.Lists.{every, every-from, chunks}
 use Rattle.meaning.specs.Chart.{Kind, kind-o, kind-a, kind-b, Sign, equal, less, more, Guard, always, compares, Target, to}
-use Rattle.meaning.specs.Chart.{history as to-history, in-place as no-target}
+use Rattle.meaning.specs.Chart.{history, in-place}
 use Rattle.meaning.specs.Chart.{Act, set-to, add-to, take-to, send, tell, Owner, entry-of, exit-of, default-of, transition-of}
 use Rattle.meaning.specs.Chart.{StateRow, VarRow, TransRow, ActRow, Chart}
 
@@ -96,7 +97,7 @@ guard-by v g x =
 
 -- a target: 0 and a state, h and a state, or "-"
 unfoldable pub target-by : ℤ → ℤ → Target
-target-by h s = cond (is-letter (code "h") h) (to-history (ref s)) (cond (is-absent h) no-target (to (ref s)))
+target-by h s = cond (is-letter (code "h") h) (history (ref s)) (cond (is-absent h) in-place (to (ref s)))
 
 unfoldable pub trans-by : List ℤ → TransRow
 trans-by row = record {
@@ -175,14 +176,14 @@ fits-field number i row = inRange (num row i)
 fits-field (count low high) i row = count-fits low high (num row i)
 fits-field (letter ls) i row = one-of-letters ls (num row i)
 fits-field dash i row = is-absent (num row i)
-fits-field state i row = is-letter 0 (num row i) && inRange (num row (i + 1))
-fits-field history i row = is-letter (code "h") (num row i) && inRange (num row (i + 1))
-fits-field in-place i row = is-absent (num row i) && is-absent (num row (i + 1))
+fits-field target-state i row = is-letter 0 (num row i) && inRange (num row (i + 1))
+fits-field target-history i row = is-letter (code "h") (num row i) && inRange (num row (i + 1))
+fits-field target-none i row = is-absent (num row i) && is-absent (num row (i + 1))
 
 -- and by a form
 abbrev pub fits : Form → ℕ → List ℤ → Bool
 fits (last x) i row = fits-field x i row
-fits (x then xs) i row = fits-field x i row && fits xs (i + width x) row
+fits (x tab xs) i row = fits-field x i row && fits xs (i + width x) row
 fits (a or b) i row = fits a i row || fits b i row
 
 -- record n of a kind is one that a text can state

@@ -4,21 +4,26 @@ use meaning::Nat;
 use meaning::Num;
 use sizes::MOST;
 ghost use mathlib.Core.Path.{_≡_};
-ghost use Prim.Native.Nat.{_+_, _*_, _-_, _<_, _≤_, min};
+ghost use Prim.Native.Nat.{_+_, _*_, _-_, _<_, _≤_};
 ghost use lib.ListN.{length};
 ghost use lib.Seq.{slice};
 ghost use Rattle.sizes.specs.Sizes.{MOST as Most};
-ghost use Rattle.meaning.specs.Number.{BEYOND as Beyond, value, capped, natural-of, with-no-sign, minus, number-of};
-ghost use Rattle.numerals.specs.Small.{Small};
+ghost use Rattle.meaning.specs.Number.{value, capped, natural-of, with-no-sign, minus, number-of};
+ghost use Rattle.numerals.specs.Small.{Small, grown as grown-by};
 
 // One past the range: it stands for every number beyond.
-const BEYOND: u64 = (MOST as u64) + 1;
+pub const BEYOND: u64 = (MOST as u64) + 1;
+// Digits of a larger value, and one digit more, are beyond.
+const TENTH: u64 = (MOST as u64) / 10;
 
-// One digit more.
-fn grown(n: u64, b: u8) -> u64
-    requires { ⌜ (n ≤ Beyond) × (48 ≤ b) × (b ≤ 57) ⌝ }
-    ensures { λ r. ⌜ r ≡ min Beyond (n * 10 + (b - 48)) ⌝ }
+// The value with one digit more.
+pub fn grown(n: u64, b: u8) -> u64
+    requires { ⌜ (48 ≤ b) × (b ≤ 57) ⌝ }
+    ensures { λ r. ⌜ r ≡ grown-by n b ⌝ }
 {
+    if TENTH < n {
+        return BEYOND;
+    }
     let m = n * 10 + ((b - 48) as u64);
     if m < BEYOND { m } else { BEYOND }
 }

@@ -38,8 +38,3 @@ replay-once ns u (x ∷ xs) n = elim (well-formed ns) [
   | true ↦ replay-examined (plan-by ns) u (x ∷ xs) n
   | false ↦ course 0 5 u []
 ]
-
--- everything above, opened: for statements that compute
-unfoldable pub once-open : ℕ
-unfolding post-on run-on replay-examined replay-once
-once-open = 0

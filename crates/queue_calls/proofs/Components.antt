@@ -20,8 +20,8 @@ use Rattle.meaning.specs.Chart.{Chart}
 use Rattle.meaning.specs.Tree.{parent-of, kind-of, is-o, all-states, is-child, children}
 use Rattle.meaning.specs.Widget.{slot, is-filled}
 use Rattle.meaning.specs.Foreign.{leads-on, slot-fits, slots-fit}
-use Rattle.chart_rows.proofs.Climb.{child-below}
-use Rattle.queue_calls.specs.Parts.{leads-if, slot-if, slots-if, is-at, held-as, held, Completes}
+use Rattle.tree.proofs.Climb.{child-below}
+use Rattle.queue_calls.specs.Parts.{leads-if, slot-if, slots-if, is-at, in-slot-as, in-slot, Completes}
 use Rattle.queue_calls.proofs.Kept.{kept-skip, kept-none, pass-skip, pass-more, pass-no, pass-done}
 use Rattle.queue_calls.proofs.Slots.{getD-any}
 
@@ -114,11 +114,11 @@ module _ (c : Chart) (u : State) where
   parent-is s zero e = absurd (false≢true e)
   parent-is s (suc n) e = eqb-true (parent-of c (suc n)) s e
 
-  held-child : (s d : ℕ) → getD (u .slots) s (negsuc 0) ≡ pos d → is-child c s d ≡ true → kind-of c d ≡ kind-a → held c u d ≡ true
-  unfolding held held-as slot is-at
+  held-child : (s d : ℕ) → getD (u .slots) s (negsuc 0) ≡ pos d → is-child c s d ≡ true → kind-of c d ≡ kind-a → in-slot c u d ≡ true
+  unfolding in-slot in-slot-as slot is-at
   held-child s d e m k = rw (k, parent-is s d m, e) (eq-eqb d d refl)
 
-  all-full : ((p : ℕ) → held c u p ≡ true → full p ≡ true) → slots-if true c u ≡ slots-fit c u
+  all-full : ((p : ℕ) → in-slot c u p ≡ true → full p ≡ true) → slots-if true c u ≡ slots-fit c u
   unfolding slots-if slots-fit
   all-full f = every-alike _ _ (λ s. slot-alike s (getD (u .slots) s (negsuc 0)) (λ d e m k. f d (held-child s d e m k))) (from 0 STATES)
 
@@ -146,11 +146,11 @@ module _ (c : Chart) (u : State) where
           let z : negsuc 0 ≡ pos p = sym d ∙ e in
           let w : _≡_ {A = ℕ} 0 1 = cc in absurd (omega arith)
 
-  not-full : length (u .slots) ≡ STATES → (p : ℕ) → held c u p ≡ true → full p ≡ false → false ≡ slots-fit c u
-  unfolding held held-as slot slots-fit slot-fits leads-on
+  not-full : length (u .slots) ≡ STATES → (p : ℕ) → in-slot c u p ≡ true → full p ≡ false → false ≡ slots-fit c u
+  unfolding in-slot in-slot-as slot slots-fit slot-fits leads-on
   not-full l p h f = go (kind-of c p) refl h
     where
-      go : (k : Kind) → kind-of c p ≡ k → held-as c u k p ≡ true → false ≡ slots-fit c u
+      go : (k : Kind) → kind-of c p ≡ k → in-slot-as c u k p ≡ true → false ≡ slots-fit c u
       go kind-o m t = absurd (false≢true t)
       go kind-b m t = absurd (false≢true t)
       go kind-a m t =
@@ -165,7 +165,7 @@ module _ (c : Chart) (u : State) where
   -- ---- the pass: from d on, what is left to test of the components of each a state that a slot holds
 
   abbrev pub Leading : ℕ → ℕ → Type 0
-  Leading n d = (p : ℕ) → held c u p ≡ true → every (λ x. is-filled (slot u x)) (keep (is-child c p) (drop d (from 0 n))) ≡ full p
+  Leading n d = (p : ℕ) → in-slot c u p ≡ true → every (λ x. is-filled (slot u x)) (keep (is-child c p) (drop d (from 0 n))) ≡ full p
 
   pub leading-start : {n : ℕ} → n ≡ length (c .states) → Leading n 1
   unfolding children all-states is-child
@@ -183,14 +183,14 @@ module _ (c : Chart) (u : State) where
         go true t = pass-more (λ x. is-filled (slot u x)) (is-child c p) n d (w p h) l t f
         go false t = pass-skip (λ x. is-filled (slot u x)) (is-child c p) n d (w p h) l t
 
-    pub leading-free : d < n → held c u (parent-of c d) ≡ false → Leading n (d + 1)
+    pub leading-free : d < n → in-slot c u (parent-of c d) ≡ false → Leading n (d + 1)
     leading-free l f p h = go (is-child c p d) refl
       where
         go : (b : Bool) → is-child c p d ≡ b → every (λ x. is-filled (slot u x)) (keep (is-child c p) (drop (d + 1) (from 0 n))) ≡ full p
-        go true t = absurd (false≢true (sym f ∙ ap (held c u) (parent-is p d t) ∙ h))
+        go true t = absurd (false≢true (sym f ∙ ap (in-slot c u) (parent-is p d t) ∙ h))
         go false t = pass-skip (λ x. is-filled (slot u x)) (is-child c p) n d (w p h) l t
 
-    pub leading-empty : length (u .slots) ≡ STATES → d < n → (d ≡ 0 → ⊥) → held c u (parent-of c d) ≡ true → is-filled (slot u d) ≡ false
+    pub leading-empty : length (u .slots) ≡ STATES → d < n → (d ≡ 0 → ⊥) → in-slot c u (parent-of c d) ≡ true → is-filled (slot u d) ≡ false
         → Completes c u false
     leading-empty m l z h f =
         let p = parent-of c d in

@@ -10,7 +10,7 @@ use lib.ListN.{length, getD, drop, set, replicate, length-set, length-replicate,
 use lib.Seq.{getD-set-same, getD-set-other}
 use borrow.Author.Tests.{eq-eqb, ne-eqb, eqb-true, eqb-false}
 use Rattle.sizes.specs.Sizes.{STATES}
-use Rattle.chart_rows.proofs.Climb.{child-root, child-below}
+use Rattle.tree.proofs.Climb.{child-root, child-below}
 use Rattle.meaning.specs.declared.State.{State}
 use Rattle.meaning.specs.declared.chart.Kind.{Kind}
 use Rattle.meaning.specs.declared.chart.Kind.the-variants.{O as kind-o, A as kind-a, B as kind-b}

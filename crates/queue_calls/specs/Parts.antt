@@ -57,14 +57,14 @@ unfoldable pub is-at : ℕ → Place → Bool
 is-at d Empty = false
 is-at d (At e) = eqb e d
 
-unfoldable pub held-as : Chart → State → Kind → ℕ → Bool
-held-as c u kind-o p = false
-held-as c u kind-a p = is-at p (slot u (parent-of c p))
-held-as c u kind-b p = false
+unfoldable pub in-slot-as : Chart → State → Kind → ℕ → Bool
+in-slot-as c u kind-o p = false
+in-slot-as c u kind-a p = is-at p (slot u (parent-of c p))
+in-slot-as c u kind-b p = false
 
 -- an a state in the slot of its parent
-unfoldable pub held : Chart → State → ℕ → Bool
-held c u p = held-as c u (kind-of c p) p
+unfoldable pub in-slot : Chart → State → ℕ → Bool
+in-slot c u p = in-slot-as c u (kind-of c p) p
 
 -- what a look at the components alone adds to the test of the slots without one
 abbrev pub Completes : Chart → State → Bool → Type 0

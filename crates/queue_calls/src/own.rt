@@ -3,8 +3,6 @@
 use chart_rows::kind_of;
 use chart_rows::parent_of;
 use chart_rows::state_count;
-use chart_rows::tree::is_child;
-use chart_rows::tree::is_o;
 use chart_rows::var_count;
 use chart_rows::var_row;
 use meaning::State;
@@ -15,6 +13,8 @@ use numbers::place_of;
 use numbers::same;
 use sizes::STATES;
 use sizes::VARIABLES;
+use tree::kin::is_child;
+use tree::kin::is_o;
 use widget::fits::marks_fit;
 use widget::fits::queue_fits;
 ghost use mathlib.Core.Path.{_≡_};
@@ -31,7 +31,7 @@ ghost use Rattle.meaning.specs.Tree.{kind-of};
 ghost use Rattle.meaning.specs.Value.{chart-of};
 ghost use Rattle.meaning.specs.Widget.{is-filled, slot};
 ghost use Rattle.meaning.specs.Foreign.{legal-at, legal, values-fit, slots-fit, own as owns};
-ghost use Rattle.queue_calls.specs.Parts.{tally-of, Tallied, value-fits, leads-if, slot-if, slots-if, is-at, held, Completes};
+ghost use Rattle.queue_calls.specs.Parts.{tally-of, Tallied, value-fits, leads-if, slot-if, slots-if, is-at, in-slot, Completes};
 
 // How many children a state has, and how many of them are active.
 pub struct Tally {
@@ -163,7 +163,7 @@ fn holds(slots: &[i32; STATES], s: usize, d: usize) -> bool
 // An a state in the slot of its parent.
 fn is_held(chart: &[i32], slots: &[i32; STATES], p: usize) -> bool
     requires { ⌜ length (now slots) ≡ states ⌝ }
-    ensures { λ r. ⌜ ((u : Widget) → u .slots ≡ now (slots .entry) → r ≡ held (chart-of (now (chart .entry))) u p) ⌝ }
+    ensures { λ r. ⌜ ((u : Widget) → u .slots ≡ now (slots .entry) → r ≡ in-slot (chart-of (now (chart .entry))) u p) ⌝ }
 {
     match kind_of(chart, p) {
         Kind::O => false,

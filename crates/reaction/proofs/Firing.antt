@@ -19,9 +19,9 @@ use Rattle.laws.proofs.Scope.{scope-facts}
 use Rattle.laws.proofs.Sound.{Sound-chart}
 use Rattle.sizes.specs.Sizes.{STATES}
 use Rattle.meaning.specs.Rules.{Ruled}
-use Rattle.tree_walks.proofs.On.{end-within}
-use Rattle.ways.specs.Aims.{aim-by, top-of, Found}
-use Rattle.tree_walks.proofs.Passing.{sound}
+use Rattle.tree.proofs.On.{end-within}
+use Rattle.tree.specs.Aims.{aim-by, top-of, Found}
+use Rattle.tree.proofs.Passing.{sound}
 use Rattle.widget.specs.View.{Lent, ctx, Did, Owes}
 use Rattle.widget.specs.declared.Went.{Went}
 use Rattle.widget.proofs.Going as going

@@ -15,14 +15,14 @@ use Rattle.laws.proofs.Steps.{Holds}
 use Rattle.laws.proofs.Value.{Sized-chart, sized-chart}
 use Rattle.laws.proofs.Stays.{Stays}
 use Rattle.meaning.specs.Rules.{Ruled}
-use Rattle.tree_walks.proofs.Passing.{rules-passed}
+use Rattle.tree.proofs.Passing.{rules-passed}
 use Rattle.widget.specs.View.{Lent, Whole, ctx, went, Did}
 use Rattle.widget.specs.declared.Went.{Went}
 use Rattle.widget.proofs.Going.{said-ok}
 use Rattle.invariants.specs.Good.{Good}
 use Rattle.invariants.proofs.Slots.{slot-child}
 use Rattle.reaction.specs.Ready.{Ready}
-use Rattle.ways.specs.Ways.{Led}
+use Rattle.tree.specs.Courses.{Led}
 
 pub sized : (v : List ℤ) → Ruled v → Sized-chart (chart-of v)
 sized v r = sized-chart v (rules-passed v r .0)

@@ -30,7 +30,7 @@ use Rattle.meaning.specs.Foreign.{own, queue-fits}
 use Rattle.meaning.specs.Calls.{as-found, outcome, tests, take-front, react, run, called, lent}
 use Rattle.laws.proofs.Lists.{and-left, le-or-lt}
 use Rattle.meaning.specs.Rules.{Ruled}
-use Rattle.tree_walks.proofs.Passing.{sound}
+use Rattle.tree.proofs.Passing.{sound}
 use Rattle.widget.specs.View.{Lent, all-lent, ctx, tracing, went, Did}
 use Rattle.widget.specs.declared.Went.{Went}
 use Rattle.invariants.proofs.Good.{set-queue-good}

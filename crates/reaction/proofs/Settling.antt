@@ -15,7 +15,7 @@ use Rattle.meaning.specs.Widget.{Ctx}
 use Rattle.laws.proofs.Lists.{each-weaker}
 use Rattle.laws.specs.Facts.{Each}
 use Rattle.laws.proofs.Stays.{each-stays}
-use Rattle.tree_walks.proofs.Passing.{sound}
+use Rattle.tree.proofs.Passing.{sound}
 use Rattle.widget.specs.View.{Lent, ctx, tracing, said, went, Did, Owes}
 use Rattle.widget.specs.declared.Went.{Went}
 use Rattle.widget.proofs.Going as going

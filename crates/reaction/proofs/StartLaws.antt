@@ -29,7 +29,7 @@ use Rattle.laws.proofs.Stays.{Stays, each-stays}
 use Rattle.laws.proofs.Value.{getD-map}
 use Rattle.laws.proofs.Ways.{defaults-sound}
 use Rattle.meaning.specs.Rules.{Ruled}
-use Rattle.tree_walks.proofs.Passing.{sound}
+use Rattle.tree.proofs.Passing.{sound}
 use Rattle.widget.specs.View.{Lent, all-lent, ctx, tracing, went, Did}
 use Rattle.widget.specs.declared.Went.{Went}
 use Rattle.invariants.proofs.Good.{enter-good, visit-good}

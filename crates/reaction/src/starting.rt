@@ -14,7 +14,7 @@ use queue::lent::QUEUE_NUMBERS;
 use queue::lent::lend;
 use sizes::STATES;
 use sizes::VARIABLES;
-use ways::Course;
+use tree::ways::Course;
 use widget::Went;
 ghost use mathlib.Core.Path.{_≡_};
 ghost use mathlib.Core.List.{map};

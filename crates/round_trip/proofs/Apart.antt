@@ -11,7 +11,7 @@ use Rattle.numbers.specs.Range.{inRange}
 use Rattle.numbers.specs.Reference.{ref}
 use Rattle.numbers.proofs.Laws.{eqZ-true}
 use Rattle.meaning.specs.Lists.{has}
-use Rattle.meaning.specs.Grammar.{Field, number, letter, dash, state, history, in-place}
+use Rattle.meaning.specs.Grammar.{Field, number, letter, dash, target-state, target-history, target-none}
 use Rattle.meaning.specs.Value.{num, is-letter, is-absent, fits-field}
 use Rattle.meaning.specs.Number.{number-of, numeral}
 use Rattle.meaning.specs.Line.{is-dash, behind}
@@ -30,9 +30,9 @@ disjoint (l ∷ ls) ms = not (has l ms) && disjoint ls ms
 pub data Apart : Field → Field → Type 0 where
   other-letters : {ls ms : List ℕ} → disjoint ls ms ≡ true → Apart (letter ls) (letter ms)
   dash-number : Apart dash number
-  place-history : Apart in-place history
-  place-state : Apart in-place state
-  history-state : Apart history state
+  place-history : Apart target-none target-history
+  place-state : Apart target-none target-state
+  history-state : Apart target-history target-state
 
 apart-letters : (k : ℕ) (ls ms : List ℕ) → disjoint ls ms ≡ true → has k ms ≡ true → has k ls ≡ false
 unfolding has

@@ -16,7 +16,7 @@ use Rattle.numbers.specs.Range.{inRange}
 use Rattle.numbers.specs.Reference.{ref}
 use Rattle.numbers.proofs.Laws.{eqZ-true, eqZ-refl, eqZ-ne}
 use Rattle.meaning.specs.Lists.{has}
-use Rattle.meaning.specs.Grammar.{Field, turn, number, count, letter, dash, state, history, in-place, width}
+use Rattle.meaning.specs.Grammar.{Field, turn, number, count, letter, dash, target-state, target-history, target-none, width}
 use Rattle.meaning.specs.Value.{ABSENT, num, is-letter, is-absent, one-of-letters, count-fits, fits-field}
 use Rattle.meaning.specs.Number.{number-of, numeral}
 use Rattle.meaning.specs.Line.{Line, worse, room, line, beyond, letter-of, is-dash, is-turn, number-line, count-line}
@@ -111,9 +111,9 @@ Plain number = Unit
 Plain (count low high) = leb high MOST ≡ true
 Plain (letter ls) = above ls ≡ true
 Plain dash = Unit
-Plain state = Unit
-Plain history = Unit
-Plain in-place = Unit
+Plain target-state = Unit
+Plain target-history = Unit
+Plain target-none = Unit
 
 -- ---- numbers at a place of a row
 
@@ -229,21 +229,21 @@ field-kept (letter ls) n f p g = right-kept (λ l. Kept (letter ls) n f (l .row)
     }) g
 field-kept dash n f p g = right-kept (λ l. Kept dash n f (l .row)) (is-dash f) (ABSENT ∷ [])
     (λ e. record { long = refl; ok = λ i row a. rw (a .0) absent-yes; text = λ i row a. dash-inv f e }) g
-field-kept state n f p g = number-kept (λ l. Kept state n f (l .row)) (pos 0 ∷ []) f
+field-kept target-state n f p g = number-kept (λ l. Kept target-state n f (l .row)) (pos 0 ∷ []) f
     (λ z e r. record { long = refl; ok = λ i row a. rw (a .0, a .1 .0) r; text = λ i row a. rw (a .1 .0) e }) g
-field-kept history n [] p g = absurd (g .right refl)
-field-kept history n (b ∷ bs) p g = go (eqb b 104) refl g
+field-kept target-history n [] p g = absurd (g .right refl)
+field-kept target-history n (b ∷ bs) p g = go (eqb b 104) refl g
   where
     go : (t : Bool) → eqb b 104 ≡ t → Good (number-line (pos 104 ∷ []) (number-of (cond t bs [])) .mark)
-        → Kept history n (b ∷ bs) (number-line (pos 104 ∷ []) (number-of (cond t bs [])) .row)
-    go true h g = number-kept (λ l. Kept history n (b ∷ bs) (l .row)) (pos 104 ∷ []) bs
+        → Kept target-history n (b ∷ bs) (number-line (pos 104 ∷ []) (number-of (cond t bs [])) .row)
+    go true h g = number-kept (λ l. Kept target-history n (b ∷ bs) (l .row)) (pos 104 ∷ []) bs
         (λ z e r. record {
           long = refl;
           ok = λ i row a. rw (a .0, a .1 .0) r;
           text = λ i row a. rw (a .1 .0, e) (ap (λ (k : ℕ). k ∷ bs) (sym (eqb-true b 104 h)));
         }) g
     go false h g = absurd (g .right refl)
-field-kept in-place n f p g = right-kept (λ l. Kept in-place n f (l .row)) (is-dash f) (ABSENT ∷ ABSENT ∷ [])
+field-kept target-none n f p g = right-kept (λ l. Kept target-none n f (l .row)) (is-dash f) (ABSENT ∷ ABSENT ∷ [])
     (λ e. record { long = refl; ok = λ i row a. rw (a .0, a .1 .0, absent-yes); text = λ i row a. dash-inv f e }) g
 
 -- ---- what is written reads the same
@@ -256,13 +256,13 @@ field-reads number n i row p m e = rw (number-back (num row i) e)
 field-reads (count low high) n i row p m e = rw (number-numeral (num row i) (count-is low high (num row i) e p), e)
 field-reads (letter ls) n i row p m e = let w = letter-is ls (num row i) e in rw (w .in-list, ← w .is)
 field-reads dash n i row p m e = rw (absent-is (num row i) e)
-field-reads state n i row p m e =
+field-reads target-state n i row p m e =
     let w = both (is-letter 0 (num row i)) (inRange (num row (i + 1))) e in
     rw (number-back (num row (i + 1)) (w .1), eqZ-true (num row i) (pos 0) (w .0))
-field-reads history n i row p m e =
+field-reads target-history n i row p m e =
     let w = both (is-letter 104 (num row i)) (inRange (num row (i + 1))) e in
     rw (number-back (num row (i + 1)) (w .1), eqZ-true (num row i) (pos 104) (w .0))
-field-reads in-place n i row p m e =
+field-reads target-none n i row p m e =
     let w = both (is-absent (num row i)) (is-absent (num row (i + 1))) e in
     rw (absent-is (num row i) (w .0), absent-is (num row (i + 1)) (w .1))
 
@@ -277,10 +277,10 @@ field-free sep s (count low high) n i row p e = free-numeral sep s (num row i)
 field-free sep s (letter ls) n i row p e =
     free-byte sep (ref (num row i)) s (above-has (ref (num row i)) ls p (letter-is ls (num row i) e .in-list))
 field-free sep s dash n i row p e = free-byte sep 45 s (omega arith)
-field-free sep s state n i row p e = free-numeral sep s (num row (i + 1))
-field-free sep s history n i row p e =
+field-free sep s target-state n i row p e = free-numeral sep s (num row (i + 1))
+field-free sep s target-history n i row p e =
     free-append sep (104 ∷ []) (numeral (num row (i + 1))) (free-byte sep 104 s (omega arith)) (free-numeral sep s (num row (i + 1)))
-field-free sep s in-place n i row p e = free-byte sep 45 s (omega arith)
+field-free sep s target-none n i row p e = free-byte sep 45 s (omega arith)
 
 -- the most bytes of a number of the range
 abbrev pub NUMBER : ℕ
@@ -316,9 +316,9 @@ longest t ws number i = getD ws i NUMBER
 longest t ws (count low high) i = NUMBER
 longest t ws (letter ls) i = 1
 longest t ws dash i = 1
-longest t ws state i = getD ws (i + 1) NUMBER
-longest t ws history i = suc (getD ws (i + 1) NUMBER)
-longest t ws in-place i = 1
+longest t ws target-state i = getD ws (i + 1) NUMBER
+longest t ws target-history i = suc (getD ws (i + 1) NUMBER)
+longest t ws target-none i = 1
 
 pub field-short : (x : Field) (t : ℕ) (ws : List ℕ) (n i : ℕ) (row : List ℤ) → Plain x → length (numeral (pos n)) ≤ t → Sized ws 0 row
     → fits-field x i row ≡ true → length (write-field x n i row) ≤ longest t ws x i
@@ -328,8 +328,8 @@ field-short number t ws n i row p m s e = sized-here ws i row s e
 field-short (count low high) t ws n i row p m s e = numeral-length (num row i) (count-is low high (num row i) e p)
 field-short (letter ls) t ws n i row p m s e = omega arith
 field-short dash t ws n i row p m s e = omega arith
-field-short state t ws n i row p m s e =
+field-short target-state t ws n i row p m s e =
     sized-here ws (i + 1) row s (both (is-letter 0 (num row i)) (inRange (num row (i + 1))) e .1)
-field-short history t ws n i row p m s e =
+field-short target-history t ws n i row p m s e =
     let w = sized-here ws (i + 1) row s (both (is-letter 104 (num row i)) (inRange (num row (i + 1))) e .1) in omega arith
-field-short in-place t ws n i row p m s e = omega arith
+field-short target-none t ws n i row p m s e = omega arith

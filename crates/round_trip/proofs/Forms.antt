@@ -11,7 +11,7 @@ use lib.IntN.{ℤ, pos}
 use lib.ListN.{length, length-append}
 use borrow.Author.Tests.{eqb-true, eqb-false, leb-true}
 use Rattle.sizes.specs.Sizes.{MOST}
-use Rattle.meaning.specs.Grammar.{Field, width, Form, last, _then_, _or_}
+use Rattle.meaning.specs.Grammar.{Field, width, Form, last, _tab_, _or_}
 use Rattle.meaning.specs.Value.{num, fits, fits-field}
 use Rattle.meaning.specs.Number.{numeral}
 use Rattle.meaning.specs.Split.{TAB, tails}
@@ -26,19 +26,19 @@ use Rattle.round_trip.specs.Rows.{tells}
 
 abbrev pub size : Form → ℕ
 size (last x) = width x
-size (x then xs) = width x + size xs
+size (x tab xs) = width x + size xs
 size (a or b) = size a
 
 -- of each field that a form may begin with
 abbrev pub First : (Field → Type 0) → Form → Type 0
 First P (last x) = P x
-First P (x then xs) = P x
+First P (x tab xs) = P x
 First P (a or b) = First P a × First P b
 
 -- of two forms to choose from, no field that one begins with can be taken for one that the other begins with
 abbrev pub Clear : Form → Type 0
 Clear (last x) = Plain x
-Clear (x then xs) = Plain x × Clear xs
+Clear (x tab xs) = Plain x × Clear xs
 Clear (a or b) = Clear a × (Clear b × (First (λ x. First (λ y. Apart x y) b) a × (size a ≡ size b)))
 
 -- ---- how a row that fits begins, and its written form
@@ -53,7 +53,7 @@ record Begins (P : Field → Type 0) (a : Form) (n i : ℕ) (row : List ℤ) : T
 begins : (P : Field → Type 0) (a : Form) (n i : ℕ) (row : List ℤ) → First P a → fits a i row ≡ true → Begins P a n i row
 unfolding write-by
 begins P (last x) n i row f e = record { field = x; holds = f; ok = e; more = []; is = refl }
-begins P (x then xs) n i row f e =
+begins P (x tab xs) n i row f e =
     record {
       field = x;
       holds = f;
@@ -75,7 +75,7 @@ wrong-front : (P : Field → Type 0) (a : Form) (n : ℕ) (f : List ℕ) (fs : L
 unfolding read-by worse
 wrong-front P (last x) n f [] p h = h x p
 wrong-front P (last x) n f (g ∷ fs) p h = refl
-wrong-front P (x then xs) n f fs p h = rw (h x p)
+wrong-front P (x tab xs) n f fs p h = rw (h x p)
 wrong-front P (a or b) n f fs p h = rw (wrong-front P a n f fs (p .0) h) (wrong-front P b n f fs (p .1) h)
 
 module _ (a b : Form) (p : First (λ x. First (λ y. Apart x y) b) a) where
@@ -87,17 +87,17 @@ module _ (a b : Form) (p : First (λ x. First (λ y. Apart x y) b) a) where
 
 swap-first : (P : Field → Field → Type 0) (a b : Form) → First (λ x. First (λ y. P x y) b) a → First (λ y. First (λ x. P x y) a) b
 swap-first P a (last y) f = f
-swap-first P a (y then b) f = f
+swap-first P a (y tab b) f = f
 swap-first P a (b or c) f = (swap-first P a b (left a f), swap-first P a c (right a f))
   where
     left : (a : Form) → First (λ x. First (λ y. P x y) b × First (λ y. P x y) c) a → First (λ x. First (λ y. P x y) b) a
     left (last x) f = f .0
-    left (x then a) f = f .0
+    left (x tab a) f = f .0
     left (a or d) f = (left a (f .0), left d (f .1))
 
     right : (a : Form) → First (λ x. First (λ y. P x y) b × First (λ y. P x y) c) a → First (λ x. First (λ y. P x y) c) a
     right (last x) f = f .1
-    right (x then a) f = f .1
+    right (x tab a) f = f .1
     right (a or d) f = (right a (f .0), right d (f .1))
 
 -- the written form of a row of the second reads wrong by the first
@@ -112,23 +112,23 @@ not-first a b p n i row e =
 
 abbrev pub Starts : Form → Field → Type 0
 Starts (last y) x = y ≡ x
-Starts (y then ys) x = y ≡ x
+Starts (y tab ys) x = y ≡ x
 Starts (a or b) x = ⊥
 
 starts-first : (P : Field → Type 0) (a : Form) (x : Field) → Starts a x → First P a → P x
 starts-first P (last y) x s f = subst P s f
-starts-first P (y then ys) x s f = subst P s f
+starts-first P (y tab ys) x s f = subst P s f
 starts-first P (a or b) x s f = absurd s
 
 pub starts-fits : (a : Form) (x : Field) (i : ℕ) (row : List ℤ) → Starts a x → fits a i row ≡ true → fits-field x i row ≡ true
 starts-fits (last y) x i row s e = rw (← s) e
-starts-fits (y then ys) x i row s e = rw (← s) (both (fits-field y i row) (fits ys (i + width y) row) e .0)
+starts-fits (y tab ys) x i row s e = rw (← s) (both (fits-field y i row) (fits ys (i + width y) row) e .0)
 starts-fits (a or b) x i row s e = absurd s
 
 some-first : (x : Field) (b : Form) (i : ℕ) (row : List ℤ) → First (λ y. Apart x y) b → fits-field x i row ≡ true
     → tells x (num row i) ≡ true
 some-first x (last y) i row f e = tells-own f i row e
-some-first x (y then ys) i row f e = tells-own f i row e
+some-first x (y tab ys) i row f e = tells-own f i row e
 some-first x (b or c) i row f e = some-first x b i row (f .0) e
 
 module _ (a b : Form) (x : Field) (s : Starts a x) (c : Clear (a or b)) (i : ℕ) (row : List ℤ) (e : fits (a or b) i row ≡ true) where
@@ -163,15 +163,15 @@ form-kept (last x) n (f ∷ []) c g =
     let k = field-kept x n f c g in
     record { long = k .long; ok = k .ok; text = λ i row p. ap (λ (t : List ℕ). t ∷ []) (k .text i row p) }
 form-kept (last x) n (f ∷ h ∷ fs) c g = absurd (g .right refl)
-form-kept (x then xs) n [] c g = absurd (g .right refl)
-form-kept (x then xs) n (f ∷ fs) c g =
+form-kept (x tab xs) n [] c g = absurd (g .right refl)
+form-kept (x tab xs) n (f ∷ fs) c g =
     let w = worse-good (read-field x n f .mark) (read-by xs n fs .mark) g in
     let k = field-kept x n f (c .0) (w .0) in
     let m = form-kept xs n fs (c .1) (w .1) in
     joined k m
   where
     joined : Kept x n f (read-field x n f .row) → LineKept xs n fs (read-by xs n fs .row)
-        → LineKept (x then xs) n (f ∷ fs) (read-field x n f .row ++ read-by xs n fs .row)
+        → LineKept (x tab xs) n (f ∷ fs) (read-field x n f .row ++ read-by xs n fs .row)
     joined k m = record {
       long = length-append (read-field x n f .row) (read-by xs n fs .row) ∙ rw (k .long, m .long);
       ok = λ i row p.
@@ -211,7 +211,7 @@ pub form-reads : (a : Form) (n i : ℕ) (row : List ℤ) → Clear a → n ≤ M
     → read-by a n (write-by a n i row) ≡ line 0 (numbers i (size a) row)
 unfolding read-by write-by worse
 form-reads (last x) n i row c m e = field-reads x n i row c m e
-form-reads (x then xs) n i row c m e =
+form-reads (x tab xs) n i row c m e =
     let w = both (fits-field x i row) (fits xs (i + width x) row) e in
     rw (field-reads x n i row (c .0) m (w .0), form-reads xs n (i + width x) row (c .1) m (w .1), numbers-more i (width x) (size xs) row)
 form-reads (a or b) n i row c m e =
@@ -240,7 +240,7 @@ pub form-free : (sep : ℕ) → sep < 45 → (a : Form) (n i : ℕ) (row : List 
     → AllFree sep (write-by a n i row)
 unfolding write-by AllFree
 form-free sep s (last x) n i row c e = (field-free sep s x n i row c e, tt)
-form-free sep s (x then xs) n i row c e =
+form-free sep s (x tab xs) n i row c e =
     let w = both (fits-field x i row) (fits xs (i + width x) row) e in
     (field-free sep s x n i row (c .0) (w .0), form-free sep s xs n (i + width x) row (c .1) (w .1))
 form-free sep s (a or b) n i row c e =
@@ -255,7 +255,7 @@ form-free sep s (a or b) n i row c e =
 -- how many bytes are enough for the fields, each with a tab in front
 abbrev pub most-bytes : ℕ → List ℕ → Form → ℕ → ℕ
 most-bytes t ws (last x) i = suc (longest t ws x i)
-most-bytes t ws (x then xs) i = suc (longest t ws x i) + most-bytes t ws xs (i + width x)
+most-bytes t ws (x tab xs) i = suc (longest t ws x i) + most-bytes t ws xs (i + width x)
 most-bytes t ws (a or b) i = max (most-bytes t ws a i) (most-bytes t ws b i)
 
 module _ (t : ℕ) (ws : List ℕ) (n : ℕ) (row : List ℤ) (m : length (numeral (pos n)) ≤ t) (s : Sized ws 0 row) where
@@ -264,7 +264,7 @@ module _ (t : ℕ) (ws : List ℕ) (n : ℕ) (row : List ℤ) (m : length (numer
   form-short (last x) i c e =
       let l = field-short x t ws n i row c m s e in
       rw (length-append (write-field x n i row) []) (omega arith)
-  form-short (x then xs) i c e =
+  form-short (x tab xs) i c e =
       let w = both (fits-field x i row) (fits xs (i + width x) row) e in
       let l = field-short x t ws n i row (c .0) m s (w .0) in
       let r = form-short xs (i + width x) (c .1) (w .1) in

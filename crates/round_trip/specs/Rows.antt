@@ -4,7 +4,7 @@ use Prim.Native.Char.{code}
 use mathlib.Core.Bool.{Bool, false}
 use lib.IntN.{ℤ}
 use Rattle.meaning.specs.Grammar.{Record, s-record, v-record, e-record, t-record, a-record, no-record}
-use Rattle.meaning.specs.Grammar.{Field, turn, number, count, letter, dash, state, history, in-place}
+use Rattle.meaning.specs.Grammar.{Field, turn, number, count, letter, dash, target-state, target-history, target-none}
 use Rattle.meaning.specs.Value.{STATE-ROW, VAR-ROW, TRANS-ROW, ACT-ROW, is-letter, is-absent, one-of-letters}
 
 abbrev pub row-size : Record → ℕ
@@ -22,6 +22,6 @@ tells number z = false
 tells (count low high) z = false
 tells (letter ls) z = one-of-letters ls z
 tells dash z = is-absent z
-tells state z = false
-tells history z = is-letter (code "h") z
-tells in-place z = is-absent z
+tells target-state z = false
+tells target-history z = is-letter (code "h") z
+tells target-none z = is-absent z

@@ -16,7 +16,7 @@ use Rattle.meaning.specs.Lists.{has, keep, every, from}
 use Rattle.meaning.specs.Chart.{Chart}
 use Rattle.meaning.specs.Tree.{parent-of, kind-of, default-child, is-o, is-child, ancestors, children, all-states}
 use Rattle.meaning.specs.Rules.{is-state, parent-fits, children-fit, default-fits}
-use Rattle.chart_rows.proofs.Climb.{child-root, child-below}
+use Rattle.tree.proofs.Climb.{child-root, child-below}
 use Rattle.rules.specs.Family.{young, Family, count-fits-kind}
 
 -- ---- R2 and R4 of one state

@@ -23,7 +23,7 @@ use Rattle.console.specs.Session.{Turns, Passed, passed-all, finished, all-prin
 use Rattle.console.specs.Session.{Under as Seen}
 use Rattle.console.proofs.Session.{fresh, session-printed, all-by-parts, under-append, printed-append, printed-none}
 use Rattle.session.specs.declared.Opened.{Opened}
-use Rattle.session.specs.Turned.{Went, Opens, quiet, turned, LARGEST}
+use Rattle.session.specs.Turned.{Takes, Opens, quiet, turned, LARGEST}
 
 -- a read is never refused with 0
 never-zero : (text : List ℕ) (n p : ℕ) → read text n ≡ refused 0 p → ⊥
@@ -52,13 +52,13 @@ read-is text v l e m k =
 
 module _ (text : List ℕ) (a : Answer) (l : List ℤ) (before after : List ℕ) (at : ℕ) (r : Opened) where
   pub open-refused : a ≡ answer-of (read text VALUE) → (a .number ≡ 0 → ⊥) → r .going ≡ false
-      → Went (quiet (a .number) unstarted) before at after (turned r) → Opens (read text VALUE) l before at after r
+      → Takes (quiet (a .number) unstarted) before at after (turned r) → Opens (read text VALUE) l before at after r
   unfolding Opens
   open-refused e h g w = go (read text VALUE) e
     where
       go : (o : Result (List ℤ)) → a ≡ answer-of o → Opens o l before at after r
       go (done v) e = absurd (h (ap (λ x. x .number) e))
-      go (refused n p) e = record { going = g; went = rw (ap (λ x. x .number) e) at w }
+      go (refused n p) e = record { going = g; takes = rw (ap (λ x. x .number) e) at w }
 
 module _ (text : List ℕ) (a : Answer) (l : List ℤ) (e : a ≡ answer-of (read text VALUE)) (m : l ≡ lent-numbers VALUE (read text VALUE))
     (k : length l ≡ VALUE) (z : a .number ≡ 0) where
@@ -83,18 +83,18 @@ module _ (text : List ℕ) (a : Answer) (l : List ℤ) (e : a ≡ answer-of (rea
   read-ruled = rw (read-done .here) (read-done .ruled)
 
   pub open-started : (before after : List ℕ) (at : ℕ) (r : Opened) → r .going ≡ true
-      → Went (reported (start (chart-of l) unstarted ROOM)) before at after (turned r) → Opens (read text VALUE) l before at after r
+      → Takes (reported (start (chart-of l) unstarted ROOM)) before at after (turned r) → Opens (read text VALUE) l before at after r
   unfolding Opens
   open-started before after at r g w =
-      rw (read-done .is) (record { going = g; value = read-done .here; ruled = read-done .ruled; went = rw (read-done .here) at w })
+      rw (read-done .is) (record { going = g; value = read-done .here; ruled = read-done .ruled; takes = rw (read-done .here) at w })
 
 -- ---- what a caller learns
 
 module _ (l : List ℤ) (before after : List ℕ) (at : ℕ) (r : Opened) where
   pub opens-whole : (o : Result (List ℤ)) → Opens o l before at after r → at + LARGEST ≤ length before → r .at ≤ at + LARGEST
   unfolding Opens
-  opens-whole (refused n p) w = w .went .whole
-  opens-whole (done v) w = w .went .whole
+  opens-whole (refused n p) w = w .takes .whole
+  opens-whole (done v) w = w .takes .whole
 
   pub opens-ruled : (o : Result (List ℤ)) → Opens o l before at after r → r .going ≡ true → Ruled l
   unfolding Opens

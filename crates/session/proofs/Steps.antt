@@ -26,11 +26,11 @@ use Rattle.console.specs.declared.scan.Scan.{Scan}
 use Rattle.console.specs.Scan.{empty, line-at, began}
 use Rattle.console.specs.Session.{Turns, ended, by-began, passed, finished}
 use Rattle.console.specs.Session.{Under as Seen}
-use Rattle.console.specs.Shown.{held, shown, largest}
+use Rattle.console.specs.Shown.{entries-held, shown, largest}
 use Rattle.console.proofs.Lent.{report-lent}
 use Rattle.session.specs.declared.Turned.{Turned}
 use Rattle.session.specs.declared.Under.{Under}
-use Rattle.session.specs.Turned.{Went, Passes, quiet, LARGEST}
+use Rattle.session.specs.Turned.{Takes, Passes, quiet, LARGEST}
 
 -- what `report` gives
 abbrev pub Reported : ℕ → ℕ → List ℤ → List ℕ → ℕ → List ℕ → ℕ → Type 0
@@ -40,11 +40,11 @@ Reported number entries trace before at after to =
 
 module _ (before after : List ℕ) (at to : ℕ) where
   -- a call of the engine, reported
-  pub call-went : (o : Outcome) (r : Called) (l : List ℤ) → r ≡ called o → l ≡ lent ROOM o → length l ≡ ROOM
+  pub call-takes : (o : Outcome) (r : Called) (l : List ℤ) → r ≡ called o → l ≡ lent ROOM o → length l ≡ ROOM
       → Reported (r .answer .number) (r .entries) l before at after to
-      → Went (reported o) before at after (record { state = r .state; at = to })
+      → Takes (reported o) before at after (record { state = r .state; at = to })
   unfolding called lent
-  call-went o r l e m k w = record {
+  call-takes o r l e m k w = record {
     widget = ap (λ x. x .state) e;
     bytes = w .0 ∙ ap (λ b. put-all b (pen before at)) (rw e (report-lent (o .number) ROOM (o .trace) l m k));
     whole = λ h. let z : largest l ≡ LARGEST = rw k in let p = w .1 (omega arith) in omega arith;
@@ -53,23 +53,24 @@ module _ (before after : List ℕ) (at to : ℕ) where
   -- a start and a run on a chart that was accepted
   module _ (v : List ℤ) (u : State) (h : Ruled v) (t l : List ℤ) (j : length t ≡ ROOM) (k : length l ≡ ROOM) (r : Called)
       (w : Reported (r .answer .number) (r .entries) l before at after to) where
-    pub start-went : Started v u t r l → Went (reported (start (chart-of v) u ROOM)) before at after (record { state = r .state; at = to })
-    start-went p =
+    pub start-takes : Started v u t r l
+        → Takes (reported (start (chart-of v) u ROOM)) before at after (record { state = r .state; at = to })
+    start-takes p =
         let e : start-of v u ROOM ≡ start (chart-of v) u ROOM = start-on v u h ROOM in
-        call-went (start (chart-of v) u ROOM) r l (rw (j, e) at (p .result)) (rw (j, e) at (p .lent)) k w
+        call-takes (start (chart-of v) u ROOM) r l (rw (j, e) at (p .result)) (rw (j, e) at (p .lent)) k w
 
-    pub run-went : Ran v u t r l → Went (reported (run (chart-of v) u ROOM)) before at after (record { state = r .state; at = to })
-    run-went p =
+    pub run-takes : Ran v u t r l → Takes (reported (run (chart-of v) u ROOM)) before at after (record { state = r .state; at = to })
+    run-takes p =
         let e : run-of v u ROOM ≡ run (chart-of v) u ROOM = run-on v u h ROOM in
-        call-went (run (chart-of v) u ROOM) r l (rw (j, e) at (p .result)) (rw (j, e) at (p .lent)) k w
+        call-takes (run (chart-of v) u ROOM) r l (rw (j, e) at (p .result)) (rw (j, e) at (p .lent)) k w
 
   -- an answer with no entry, reported from a trace that holds none
-  pub none-went : (number : ℕ) (u : State) (l : List ℤ) → length l ≡ 1 → Reported number 0 l before at after to
-      → Went (quiet number u) before at after (record { state = u; at = to })
+  pub none-takes : (number : ℕ) (u : State) (l : List ℤ) → length l ≡ 1 → Reported number 0 l before at after to
+      → Takes (quiet number u) before at after (record { state = u; at = to })
   unfolding shown
-  none-went number u l k w = record {
+  none-takes number u l k w = record {
     widget = refl;
-    bytes = w .0 ∙ (let z : ENTRY * held 0 l ≡ 0 = omega arith in rw z);
+    bytes = w .0 ∙ (let z : ENTRY * entries-held 0 l ≡ 0 = omega arith in rw z);
     whole = λ h. let z : largest l ≡ 48 = rw k in let p = w .1 (omega arith) in omega arith;
   }
 
@@ -95,20 +96,20 @@ unfolding after-post
 after-done c o h = rw (eq-eqb (o .number) 0 h, after-post)
 
 module _ (c : Chart) (u : State) (l : Input) (before after : List ℕ) (at : ℕ) (r : Turned) where
-  pub turn-wrong : l ≡ Wrong → Went (quiet 1 u) before at after r → Went (do-line c u l) before at after r
+  pub turn-wrong : l ≡ Wrong → Takes (quiet 1 u) before at after r → Takes (do-line c u l) before at after r
   unfolding do-line
   turn-wrong e w = rw e w
 
   module _ (e a : ℤ) (is : l ≡ Posts e a) (p : Called) (posted : p ≡ called (post c u e a)) where
-    pub turn-refused : (p .answer .number ≡ 0 → ⊥) → Went (quiet (p .answer .number) (p .state)) before at after r
-        → Went (do-line c u l) before at after r
+    pub turn-refused : (p .answer .number ≡ 0 → ⊥) → Takes (quiet (p .answer .number) (p .state)) before at after r
+        → Takes (do-line c u l) before at after r
     unfolding do-line called
     turn-refused h w =
         let k : post c u e a .number ≡ 0 → ⊥ = λ z. h (ap (λ x. x .answer .number) posted ∙ z) in
         rw (is, after-refused c (post c u e a) k, post-quiet c u e a k) (rw posted at w)
 
-    pub turn-ran : p .answer .number ≡ 0 → Went (reported (run c (p .state) ROOM)) before at after r
-        → Went (do-line c u l) before at after r
+    pub turn-ran : p .answer .number ≡ 0 → Takes (reported (run c (p .state) ROOM)) before at after r
+        → Takes (do-line c u l) before at after r
     unfolding do-line called
     turn-ran h w = rw (is, after-done c (post c u e a) (sym (ap (λ x. x .answer .number) posted) ∙ h)) (rw posted at w)
 
@@ -117,12 +118,12 @@ module _ (f : Turns) (s : Scan) (u : State) (before : List ℕ) (at : ℕ) where
   abbrev under : Seen
   under = record { state = u; scan = s }
 
-  pub line-went : (after : List ℕ) (l : Input) (k : Scan) (r : Turned) → l ≡ line-at s → k ≡ empty
-      → Went (f u l) before at after r
+  pub line-takes : (after : List ℕ) (l : Input) (k : Scan) (r : Turned) → l ≡ line-at s → k ≡ empty
+      → Takes (f u l) before at after r
       → Passes (ended (f u (line-at s))) before at after (record { state = r .state; scan = k; at = r .at })
-  line-went after l k r e g w = go (rw e at w)
+  line-takes after l k r e g w = go (rw e at w)
     where
-      go : Went (f u (line-at s)) before at after r
+      go : Takes (f u (line-at s)) before at after r
           → Passes (ended (f u (line-at s))) before at after (record { state = r .state; scan = k; at = r .at })
       go w = record { widget = w .widget; line = g; bytes = w .bytes; whole = w .whole }
 

@@ -25,7 +25,7 @@ abbrev pub LARGEST : ℕ
 LARGEST = HEAD + LINE * ENTRIES
 
 -- t is what the definition says of it
-pub record Went (t : Turn) (before : List ℕ) (at : ℕ) (after : List ℕ) (r : Turned) : Type 0 where
+pub record Takes (t : Turn) (before : List ℕ) (at : ℕ) (after : List ℕ) (r : Turned) : Type 0 where
   pub widget : r .state ≡ t .state
   pub bytes : pen after (r .at) ≡ put-all (t .printed) (pen before at)
   pub whole : at + LARGEST ≤ length before → r .at ≤ at + LARGEST
@@ -41,13 +41,13 @@ turned r = record { state = r .state; at = r .at }
 
 pub record Ends (n : ℕ) (before : List ℕ) (at : ℕ) (after : List ℕ) (r : Opened) : Type 0 where
   pub going : r .going ≡ false
-  pub went : Went (quiet n unstarted) before at after (turned r)
+  pub takes : Takes (quiet n unstarted) before at after (turned r)
 
 pub record Starts (v chart : List ℤ) (before : List ℕ) (at : ℕ) (after : List ℕ) (r : Opened) : Type 0 where
   pub going : r .going ≡ true
   pub value : chart ≡ v
   pub ruled : Ruled v
-  pub went : Went (reported (start (chart-of v) unstarted ROOM)) before at after (turned r)
+  pub takes : Takes (reported (start (chart-of v) unstarted ROOM)) before at after (turned r)
 
 unfoldable pub Opens : Result (List ℤ) → List ℤ → List ℕ → ℕ → List ℕ → Opened → Type 0
 Opens (refused n p) chart before at after r = Ends n before at after r

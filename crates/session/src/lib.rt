@@ -20,7 +20,7 @@ ghost use Rattle.meaning.specs.Program.{ROOM as Room, reported, do-line as turn
 ghost use Rattle.console.specs.Scan.{line-at};
 ghost use Rattle.console.specs.Session.{ended, finished};
 ghost use Rattle.pen.specs.Pen.{pen};
-ghost use Rattle.session.specs.Turned.{Went, Passes, Opens, quiet, seen};
+ghost use Rattle.session.specs.Turned.{Takes, Passes, Opens, quiet, seen};
 ghost use Rattle.session.specs.Walked.{Walks, roomy};
 
 // "With room for 1,000 entries", three numbers each.
@@ -59,7 +59,7 @@ pub struct Opened {
 
 // What prints an answer and no entry: R, number, 0.
 pub fn refusal(number: usize, state: State, out: &mut [u8], at: usize) -> Turned
-    ensures { λ r. ⌜ Went (quiet number state) (now (out .entry)) at (now (out .exit)) r ⌝ }
+    ensures { λ r. ⌜ Takes (quiet number state) (now (out .entry)) at (now (out .exit)) r ⌝ }
 {
     let nothing = [0; 1];
     let place = console::report(out, at, number, &nothing, 0);
@@ -72,7 +72,7 @@ pub fn refusal(number: usize, state: State, out: &mut [u8], at: usize) -> Turned
 // "it starts"
 pub fn started(chart: &[i32], out: &mut [u8], at: usize, trace: &mut [i32]) -> Turned
     requires { ⌜ Ruled (now chart) × (length (now trace) ≡ Room) ⌝ }
-    ensures { λ r. ⌜ Went (reported (starts (chart-of (now (chart .entry))) none Room)) (now (out .entry)) at (now (out .exit)) r ⌝ }
+    ensures { λ r. ⌜ Takes (reported (starts (chart-of (now (chart .entry))) none Room)) (now (out .entry)) at (now (out .exit)) r ⌝ }
 {
     let called = engine::checked::start_checked(chart, engine::unstarted(), trace);
     let answer = called.answer;
@@ -117,7 +117,7 @@ pub fn begin(
 // "runs each line": the run of the front event.
 fn ran(chart: &[i32], state: State, out: &mut [u8], at: usize, trace: &mut [i32]) -> Turned
     requires { ⌜ Ruled (now chart) × (length (now trace) ≡ Room) ⌝ }
-    ensures { λ r. ⌜ Went (reported (runs (chart-of (now (chart .entry))) state Room)) (now (out .entry)) at (now (out .exit)) r ⌝ }
+    ensures { λ r. ⌜ Takes (reported (runs (chart-of (now (chart .entry))) state Room)) (now (out .entry)) at (now (out .exit)) r ⌝ }
 {
     let called = engine::checked::run_checked(chart, state, trace);
     let answer = called.answer;
@@ -139,7 +139,7 @@ pub fn turn(
     trace: &mut [i32],
 ) -> Turned
     requires { ⌜ Ruled (now chart) × (length (now trace) ≡ Room) ⌝ }
-    ensures { λ r. ⌜ Went (turn-of (chart-of (now (chart .entry))) state line) (now (out .entry)) at (now (out .exit)) r ⌝ }
+    ensures { λ r. ⌜ Takes (turn-of (chart-of (now (chart .entry))) state line) (now (out .entry)) at (now (out .exit)) r ⌝ }
 {
     match line {
         Input::Posts(event, argument) => {

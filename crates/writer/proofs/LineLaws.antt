@@ -8,12 +8,12 @@ use lib.Dec.{eqb, ltb}
 use lib.IntN.{ℤ}
 use lib.ListN.{getD}
 use borrow.Author.Tests.{eqb-true, eqb-false, ltb-true, ltb-false}
-use Rattle.meaning.specs.Grammar.{Field, width, Form, last, _then_, _or_, form, record-by}
+use Rattle.meaning.specs.Grammar.{Field, width, Form, last, _tab_, _or_, form, record-by}
 use Rattle.meaning.specs.Value.{num, fits, fits-field}
 use Rattle.meaning.specs.Split.{TAB, LF, tails, joined}
 use Rattle.meaning.specs.Line.{write-field, write-by}
 use Rattle.forms.specs.Table.{ENTRIES, steps, fields, skips, field-of, no-form, form-at}
-use Rattle.forms.proofs.TableLaws.{form-or, form-then, form-last, form-past, or-inside}
+use Rattle.forms.proofs.TableLaws.{form-or, form-tab, form-last, form-past, or-inside}
 use Rattle.round_trip.specs.Rows.{tells}
 use Rattle.round_trip.proofs.Fields.{both}
 use Rattle.round_trip.proofs.Forms.{Clear, Starts, starts-fits, choice-first, choice-second}
@@ -37,7 +37,7 @@ starts-at : (i : ℕ) → i < ENTRIES → (getD steps i 0 ≡ 124 → ⊥) → S
 starts-at i h o = go (eqb (getD steps i 0) 62) refl
   where
     go : (t : Bool) → eqb (getD steps i 0) 62 ≡ t → Starts (form-at i) (field-of (getD fields i 0))
-    go true e = rw (form-then i h (eqb-true (getD steps i 0) 62 e)) refl
+    go true e = rw (form-tab i h (eqb-true (getD steps i 0) 62 e)) refl
     go false e = rw (form-last i h o (eqb-false (getD steps i 0) 62 e)) refl
 
 module _ (v : List ℤ) (n : ℕ) (whole : Pen) (i at : ℕ) (p : Pen) (l : Left v n whole i at p) where
@@ -106,10 +106,10 @@ module _ (v : List ℤ) (n : ℕ) (whole : Pen) (i at : ℕ) (p : Pen) (l : Left
         left-then z w ew =
             let x : Field = field-of f in
             let rest : Form = form-at (i + 1) in
-            let g : form-at i ≡ x then rest = rw ef (form-then i left-inside (sym ek ∙ z)) in
-            let c : Clear (x then rest) = subst Clear g (l .clear) in
-            let o : fits (x then rest) at v ≡ true = subst (λ (a : Form). fits a at v ≡ true) g (l .ok) in
-            let u : put-all (tails TAB (write-by (x then rest) n at v)) p ≡ whole =
+            let g : form-at i ≡ x tab rest = rw ef (form-tab i left-inside (sym ek ∙ z)) in
+            let c : Clear (x tab rest) = subst Clear g (l .clear) in
+            let o : fits (x tab rest) at v ≡ true = subst (λ (a : Form). fits a at v ≡ true) g (l .ok) in
+            let u : put-all (tails TAB (write-by (x tab rest) n at v)) p ≡ whole =
             subst (λ (a : Form). put-all (tails TAB (write-by a n at v)) p ≡ whole) g (l .put) in
             rw ew (record {
               clear = c .1;

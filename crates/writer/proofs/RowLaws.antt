@@ -13,8 +13,8 @@ use lib.Seq.{drop-cons, drop-drop}
 use Rattle.numbers.specs.Reference.{NOWHERE}
 use Rattle.sizes.specs.Sizes.{STATES, VARIABLES, TRANSITIONS, ACTIONS}
 use Rattle.meaning.specs.Lists.{every, every-from, chunks, map-from}
-use Rattle.meaning.specs.Grammar.{Field, turn, number, count, letter, dash, state, history, in-place, width}
-use Rattle.meaning.specs.Grammar.{Form, last, _then_, _or_, form, name, most, record-by, s-record, v-record, e-record, t-record, a-record}
+use Rattle.meaning.specs.Grammar.{Field, turn, number, count, letter, dash, target-state, target-history, target-none, width}
+use Rattle.meaning.specs.Grammar.{Form, last, _tab_, _or_, form, name, most, record-by, s-record, v-record, e-record, t-record, a-record}
 use Rattle.meaning.specs.Value.{num, fits, fits-field, STATE-ROW, VAR-ROW, TRANS-ROW, ACT-ROW, STATES-AT, VARS-AT, TRANSITIONS-AT}
 use Rattle.meaning.specs.Value.{ACTIONS-AT}
 use Rattle.meaning.specs.Value.{state-statable, var-statable, trans-statable, action-statable, size-by, rows-of, rule-0}
@@ -50,9 +50,9 @@ module _ (v : List ℤ) (b k : ℕ) where
   field-fits (count low high) i h = rw (here i h)
   field-fits (letter ls) i h = rw (here i h)
   field-fits dash i h = rw (here i h)
-  field-fits state i h = rw (next i h, here i (omega arith))
-  field-fits history i h = rw (next i h, here i (omega arith))
-  field-fits in-place i h = rw (next i h, here i (omega arith))
+  field-fits target-state i h = rw (next i h, here i (omega arith))
+  field-fits target-history i h = rw (next i h, here i (omega arith))
+  field-fits target-none i h = rw (next i h, here i (omega arith))
 
   field-text : (x : Field) (n i : ℕ) → i + width x ≤ k → write-field x n (b + i) v ≡ write-field x n i row
   unfolding write-field
@@ -61,13 +61,13 @@ module _ (v : List ℤ) (b k : ℕ) where
   field-text (count low high) n i h = rw (here i h)
   field-text (letter ls) n i h = rw (here i h)
   field-text dash n i h = refl
-  field-text state n i h = rw (next i h)
-  field-text history n i h = rw (next i h)
-  field-text in-place n i h = refl
+  field-text target-state n i h = rw (next i h)
+  field-text target-history n i h = rw (next i h)
+  field-text target-none n i h = refl
 
   row-fits : (a : Form) → Clear a → (i : ℕ) → i + size a ≤ k → fits a (b + i) v ≡ fits a i row
   row-fits (last x) c i h = field-fits x i h
-  row-fits (x then xs) c i h =
+  row-fits (x tab xs) c i h =
       let e : b + i + width x ≡ b + (i + width x) = omega arith in
       rw (field-fits x i (omega arith), e, row-fits xs (c .1) (i + width x) (omega arith))
   row-fits (a or b) c i h = let s = c .1 .1 .1 in rw (row-fits a (c .0) i h, row-fits b (c .1 .0) i (omega arith))
@@ -75,7 +75,7 @@ module _ (v : List ℤ) (b k : ℕ) where
   row-text : (a : Form) → Clear a → (n i : ℕ) → i + size a ≤ k → write-by a n (b + i) v ≡ write-by a n i row
   unfolding write-by
   row-text (last x) c n i h = rw (field-text x n i h)
-  row-text (x then xs) c n i h =
+  row-text (x tab xs) c n i h =
       let e : b + i + width x ≡ b + (i + width x) = omega arith in
       rw (field-text x n i (omega arith), e, row-text xs (c .1) n (i + width x) (omega arith))
   row-text (a or b) c n i h =

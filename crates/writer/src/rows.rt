@@ -17,8 +17,8 @@ use chart_rows::layout::VAR_COUNT;
 use chart_rows::layout::VAR_ROW;
 use chart_rows::layout::VARS_AT;
 use chart_rows::number_at;
+use forms::MORE;
 use forms::OR;
-use forms::THEN;
 use forms::entry;
 use forms::field;
 use forms::skip;
@@ -63,7 +63,7 @@ fn put_fields(chart: &[i32], from: usize, kind: u8, n: usize, text: &mut [u8], p
         }
         let f = field(i);
         q = put_field(chart, at, f, n, text, q);
-        if what != THEN {
+        if what != MORE {
             return q;
         }
         at += width(f);

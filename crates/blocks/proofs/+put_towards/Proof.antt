@@ -5,8 +5,8 @@ use mathlib.Core.Path.{_∙_, refl, sym}
 use Prim.Native.Nat.{_-_}
 use borrow.Author.Tests.{not-true, not-false}
 use Rattle.meaning.specs.Value.{chart-of}
-use Rattle.ways.specs.Ways.{goal-way}
-use Rattle.ways.proofs.Among.{goal-child}
+use Rattle.tree.specs.Courses.{goal-way}
+use Rattle.tree.proofs.Among.{goal-child}
 use Rattle.blocks.proofs.KidsLeft.{goal-kids-left}
 use Rattle.blocks.specs.Parts.{goal-code}
 use Rattle.blocks.proofs.Descent.{Going, going-begin, going-skip, going-room, going-room-below, going-on, going-size, going-end}
@@ -19,9 +19,9 @@ use Rattle.blocks.proofs.put_towards.Reads as put-towards
 use Rattle.blocks.proofs.put_towards.Kinds as put-towards-kinds
 use Rattle.blocks.proofs.+put_towards.Lts-put_towards as put-towards-lts
 use Rattle.blocks.proofs.put_arrival.Reads as put-arrival-reads
-use Rattle.chart_rows.proofs.tree.is_child.Reads as is-child-reads
+use Rattle.tree.proofs.kin.is_child.Reads as is-child-reads
 use Rattle.blocks.proofs.kids.kids_within.Reads as kids-within-reads
-use Rattle.ways.proofs.next_of.Reads as next-of-reads
+use Rattle.tree.proofs.ways.next_of.Reads as next-of-reads
 use Rattle.blocks.proofs.+put_towards.{statement}
 use Rattle.blocks.proofs.+put_towards.Tie.{close}
 

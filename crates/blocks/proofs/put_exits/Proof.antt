@@ -5,7 +5,7 @@ use mathlib.Core.Path.{_≡_, refl}
 use Rattle.meaning.specs.Value.{chart-of}
 use Rattle.meaning.specs.Compile.{exit-code, exits-code}
 use Rattle.meaning.specs.Tree.{descendants}
-use Rattle.tree_walks.proofs.Passing.{sound}
+use Rattle.tree.proofs.Passing.{sound}
 use Rattle.emitter.proofs.Laws.{same-size}
 use Rattle.blocks.proofs.Descent.{Falling, falling-begin, falling-room, falling-on, falling-end, end-inside}
 use borrow.Author.Needs.{needs}

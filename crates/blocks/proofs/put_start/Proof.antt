@@ -5,7 +5,7 @@ use Rattle.meaning.specs.Value.{chart-of}
 use Rattle.meaning.specs.Compile.{enter-code, visit-code}
 use Rattle.meaning.specs.Entry.{below, by-defaults}
 use Rattle.meaning.specs.Lists.{concat-map}
-use Rattle.tree_walks.proofs.Passing.{sound}
+use Rattle.tree.proofs.Passing.{sound}
 use Rattle.emitter.proofs.Laws.{put-both, emits-at}
 use Rattle.blocks.proofs.Putting.{put-as}
 use Rattle.blocks.proofs.Joining.{start-as}

@@ -4,8 +4,7 @@ use native.Mathlib.Omega.{arith}
 use borrow.Author.Needs.{needs}
 use Rattle.numbers.specs.Reference.{ref}
 use Rattle.chart_rows.proofs.Said.{said-of}
-use Rattle.chart_rows.proofs.Rows.{transitions-most}
-use Rattle.choice.proofs.Rows.{trigger-said}
+use Rattle.chart_rows.proofs.Rows.{transitions-most, trigger-said}
 use Rattle.choice.proofs.trigger_at.Statement.{statement}
 use Rattle.choice.proofs.trigger_at.Tie as tie
 

@@ -175,8 +175,8 @@ module _ {M : Type 1} (𝓤 : URA M) (H : Heap 𝓤) (A : Atoms 𝓤) (W : Given
         (S.passed 𝓤 H A W mem run κ κ′ q q′ s b o γ ys t ν δ) tt r)))) (id⊢ 𝓤 _) $ await ! tt $ pick ! (λ r.
         split ! $ move ! (1 ∷ []) $ use1 W (some (λ (zs : Unit {0} × (Unit {0} × (Unit {0} × (List ℤ × Unit {0})))). ‵ (lasts line.ended
         (κ, (ν ∷ [], tt)) (S.passed 𝓤 H A W mem run κ κ′ q q′ s b o γ ys t ν δ) zs) ⊛ raw (fact 𝓤
-        (S.Went 𝓤 H A W mem run κ κ′ q q′ s b o γ ys t ν δ r (zs .1 .1 .1 .0))))) (id⊢ 𝓤 _) $ pick ! (λ zs.
-        split ! $ move ! (1 ∷ []) $ heard ! (S.Went 𝓤 H A W mem run κ κ′ q q′ s b o γ ys t ν δ r (zs .1 .1 .1 .0)) (λ e.
+        (S.Line-says 𝓤 H A W mem run κ κ′ q q′ s b o γ ys t ν δ r (zs .1 .1 .1 .0))))) (id⊢ 𝓤 _) $ pick ! (λ zs.
+        split ! $ move ! (1 ∷ []) $ heard ! (S.Line-says 𝓤 H A W mem run κ κ′ q q′ s b o γ ys t ν δ r (zs .1 .1 .1 .0)) (λ e.
         -- [what is said of the last values; the tokens and the result; what text owns; what is kept of the chart; the locals]
         fsplit ! $ drop ! $ fsplit ! $ drop ! $ fsplit ! $ drop ! $ fsplit ! $ fsplit ! $ move ! (1 ∷ []) $ feqL ! (λ l.
         move ! (2 ∷ []) $ split ! $ move ! (1 ∷ []) $ peeks ! P.the-row (Is P.the-row) (shows 𝓤 H A P.the-row) r (u ∷ []) (λ is.

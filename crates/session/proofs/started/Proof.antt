@@ -1,7 +1,7 @@
 -- `started` starts a widget and prints what the start gives. Assumes nothing.
 use mathlib.Core.Path.{_≡_, _∙_}
 use lib.ListN.{length}
-use Rattle.session.proofs.Steps.{start-went}
+use Rattle.session.proofs.Steps.{start-takes}
 use borrow.Author.Needs.{needs}
 use Rattle.session.proofs.started.Statement.{statement}
 use Rattle.session.proofs.started.Tie as tie
@@ -13,7 +13,7 @@ returns c =
     let top = none .before .before in
     let k : length (call .start-checked .last .1 .1 .0) ≡ length (top .args .trace .now) = search needs in
     rw (none .unstarted .ensures .result) at
-    (start-went _ _ _ _ _ _ (top .pre .0) _ _ (top .pre .1) (k ∙ top .pre .1) _
+    (start-takes _ _ _ _ _ _ (top .pre .0) _ _ (top .pre .1) (k ∙ top .pre .1) _
     (c .before .before .before .report .ensures) (call .start-checked .ensures))
 
 pub started-spec : {M : Type 1} → statement M

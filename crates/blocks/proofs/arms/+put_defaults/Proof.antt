@@ -6,7 +6,7 @@ use borrow.Author.Tests.{not-true, not-false}
 use Rattle.meaning.specs.Value.{chart-of}
 use Rattle.meaning.specs.Compile.{visit-code}
 use Rattle.meaning.specs.Entry.{by-defaults, defaults}
-use Rattle.ways.proofs.Among.{defaults-way, defaults-on}
+use Rattle.tree.proofs.Among.{defaults-way, defaults-on}
 use Rattle.blocks.proofs.Descent.{Going, going-begin, going-skip, going-room, going-room-below, going-on, going-size, going-end}
 use borrow.Author.Needs.{needs}
 use native.Mathlib.Omega.{arith}
@@ -17,7 +17,7 @@ use Rattle.blocks.proofs.arms.put_defaults.Reads as put-defaults
 use Rattle.blocks.proofs.arms.put_defaults.Kinds as put-defaults-kinds
 use Rattle.blocks.proofs.arms.+put_defaults.Lts-put_defaults as put-defaults-lts
 use Rattle.blocks.proofs.pieces.put_visit.Reads as put-visit-reads
-use Rattle.chart_rows.proofs.tree.is_child.Reads as is-child-reads
+use Rattle.tree.proofs.kin.is_child.Reads as is-child-reads
 use Rattle.blocks.proofs.kids.kids_within.Reads as kids-within-reads
 use Rattle.blocks.proofs.arms.+put_defaults.{statement}
 use Rattle.blocks.proofs.arms.+put_defaults.Tie.{close}

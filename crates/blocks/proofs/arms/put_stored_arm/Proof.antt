@@ -4,7 +4,7 @@ use Prim.Native.Nat.{_-_, _≤_, _<_}
 use mathlib.Core.Path.{_≡_, refl}
 use Rattle.meaning.specs.Value.{chart-of}
 use Rattle.meaning.specs.Compile.{stored-code, stored-arm}
-use Rattle.tree_walks.proofs.Passing.{sound}
+use Rattle.tree.proofs.Passing.{sound}
 use Rattle.emitter.proofs.Laws.{same-size}
 use Rattle.blocks.proofs.Descent.{Rising, rising-begin, rising-room, rising-on, rising-end, end-inside}
 use native.Mathlib.Omega.{arith}

@@ -4,7 +4,7 @@ use Rattle.chart_rows.proofs.Rows.{states-most}
 use Rattle.emitter.proofs.Finding.{code-few}
 use mathlib.Core.Path.{sym, ap}
 use lib.ListN.{length}
-use Rattle.tree_walks.proofs.Passing.{up-falls}
+use Rattle.tree.proofs.Passing.{up-falls}
 use Rattle.emitter.proofs.Laws.{put-first, emits-at}
 use Rattle.blocks.proofs.Putting.{stored-other, stored-o, put-as}
 use Rattle.meaning.specs.declared.chart.Owner.the-variants.{EntryOf as entry-of}

@@ -1,7 +1,7 @@
 -- `plain_fed` goes on by a digit, and breaks the field at any other byte. Assumes nothing.
 use Rattle.console.proofs.ScanLaws.{byte-low, byte-high, byte-digit}
 use mathlib.Core.Path.{ap}
-use Rattle.console.specs.declared.scan.Part.the-variants.{Plain}
+use Rattle.console.specs.declared.scan.Digits.the-variants.{Plain}
 use borrow.Author.Needs.{needs}
 use Rattle.console.proofs.scan.plain_fed.Statement.{statement}
 use Rattle.console.proofs.scan.plain_fed.Tie as tie
@@ -13,7 +13,7 @@ returns-2 : tie.Need-returns-2
 returns-2 c = byte-high _ _ (c .before .if1 .left) (c .if2 .taken)
 
 returns-3 : tie.Need-returns-3
-returns-3 c = byte-digit _ _ _ (c .before .before .if1 .left) (c .before .if2 .left) (ap Plain (c .with-digit .ensures))
+returns-3 c = byte-digit _ _ _ (c .before .before .if1 .left) (c .before .if2 .left) (ap Plain (c .grown .ensures))
 
 pub plain-fed-spec : {M : Type 1} → statement M
 plain-fed-spec = tie.close (tie.spec returns returns-2 (λ c κs. search needs) returns-3)

@@ -12,22 +12,22 @@ use lib.ListN.{length}
 use Rattle.chart_rows.proofs.Rows.{states-most}
 use Rattle.meaning.specs.Tree.{descendants, is-child}
 use Rattle.meaning.specs.Value.{chart-of}
-use Rattle.tree_walks.proofs.Passing.{sound}
-use Rattle.ways.specs.Ways.{way-by, Bound}
-use Rattle.ways.proofs.Aiming.{onward-bound}
-use Rattle.ways.proofs.Among.{course-child, course-sound}
-use Rattle.ways.proofs.Levels.{child-fewer}
+use Rattle.tree.proofs.Passing.{sound}
+use Rattle.tree.specs.Courses.{way-by, Bound}
+use Rattle.tree.proofs.Aiming.{onward-bound}
+use Rattle.tree.proofs.Among.{course-child, course-sound}
+use Rattle.tree.proofs.Levels.{child-fewer}
 use Rattle.leave_enter.proofs.Descending.{Going, going-begin, going-skip, going-stop, going-stop-below, going-on, going-end}
 use borrow.Fn.Kinds.{In}
 use borrow.Fn.PlainCycle.{Measures, is, falls, and}
 use Rattle.leave_enter.proofs.entering.descend.Reads as own
 use Rattle.leave_enter.proofs.entering.descend.Kinds as kinds
 use Rattle.leave_enter.proofs.entering.+descend.Lts-descend as lts
-use Rattle.chart_rows.proofs.tree.is_child.Reads as is-child-reads
+use Rattle.tree.proofs.kin.is_child.Reads as is-child-reads
 use Rattle.leave_enter.proofs.entering.arrive.Reads as arrive-reads
-use Rattle.ways.proofs.goes_on.Reads as goes-on-reads
-use Rattle.ways.proofs.next_by.Reads as next-by-reads
-use Rattle.ways.proofs.onward.Reads as onward-reads
+use Rattle.tree.proofs.ways.goes_on.Reads as goes-on-reads
+use Rattle.tree.proofs.ways.next_by.Reads as next-by-reads
+use Rattle.tree.proofs.ways.onward.Reads as onward-reads
 use Rattle.leave_enter.proofs.entering.+descend.{statement}
 use Rattle.leave_enter.proofs.entering.+descend.Tie.{close}
 

@@ -15,7 +15,7 @@ use Rattle.meaning.specs.Value.{chart-of}
 use Rattle.meaning.specs.Widget.{is-filled}
 use Rattle.chart_rows.proofs.Rows.{states-most}
 use Rattle.queue_calls.proofs.Slots.{slot-read}
-use Rattle.queue_calls.specs.Parts.{held}
+use Rattle.queue_calls.specs.Parts.{in-slot}
 use Rattle.queue_calls.proofs.Components.{Leading, leading-start, leading-filled, leading-free, leading-empty, leading-done}
 use Rattle.queue_calls.proofs.own.components_filled.Statement.{statement}
 use Rattle.queue_calls.proofs.own.components_filled.Tie as tie
@@ -70,7 +70,7 @@ returns c u e =
     let k = l .before .before in
     let d = chart-of (k .args .chart .now) in
     leading-empty d u (l .loop .inv .2 u e) (ap length e ∙ k .pre) (i .loop-test .taken) (λ z. omega (arith, z, l .loop .inv .0))
-    (ap (held d u) (sym (c .before .before .parent-of .ensures)) ∙ sym (c .before .is-held .ensures u e) ∙ c .if2 .taken)
+    (ap (in-slot d u) (sym (c .before .before .parent-of .ensures)) ∙ sym (c .before .is-held .ensures u e) ∙ c .if2 .taken)
     (slot-read u e (l .loop .next) (omega (arith, k .pre, in-slots i)) (sym (f .if1 .left) ∙ read (f .before)))
 
 loop-again-2 : tie.Need-loop-again-2 Inv-loop μ-loop
@@ -81,7 +81,7 @@ loop-again-2 c =
       omega arith,
       l .loop .inv .1,
       λ u e. leading-free d u (l .loop .inv .2 u e) (i .loop-test .taken)
-          (ap (held d u) (sym (c .before .before .parent-of .ensures)) ∙ sym (c .before .is-held .ensures u e) ∙ c .if2 .left),
+          (ap (in-slot d u) (sym (c .before .before .parent-of .ensures)) ∙ sym (c .before .is-held .ensures u e) ∙ c .if2 .left),
     )
 
 returns-2 : tie.Need-returns-2 Inv-loop μ-loop

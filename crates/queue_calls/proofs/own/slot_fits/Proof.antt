@@ -14,8 +14,8 @@ use Rattle.queue_calls.proofs.own.slot_fits.Statement.{statement}
 use Rattle.queue_calls.proofs.own.slot_fits.Tie as tie
 
 -- the slot holds the state that was told
-held : (c : tie.After-d) → c .before .before .before .args .x ≡ pos (c .d .given .0 .0)
-held c =
+in-slot : (c : tie.After-d) → c .before .before .before .args .x ≡ pos (c .d .given .0 .0)
+in-slot c =
     let k = c .before .before .before in
     place-at (k .args .x) (c .d .given .0 .0) (rw (toZ-ofZ (k .fits .x)) at (c .before .before .place-of .ensures)) (c .d .given .1)
 
@@ -30,14 +30,14 @@ returns-2 : tie.Need-returns-2
 returns-2 c u e =
     let d = c .before .before .before in
     let k = d .before .before .before .args in
-    slot-nowhere (k .whole) (chart-of (k .chart .now)) u (k .s) (k .x) (held d) (c .before .state-count .ensures) (c .if1 .taken)
+    slot-nowhere (k .whole) (chart-of (k .chart .now)) u (k .s) (k .x) (in-slot d) (c .before .state-count .ensures) (c .if1 .taken)
 
 returns-3 : tie.Need-returns-3
 returns-3 c u e =
     let i = c .before .before .before in
     let d = i .before .before .before in
     let k = d .before .before .before .args in
-    slot-not-o (k .whole) (chart-of (k .chart .now)) u (k .s) (k .x) (held d) (i .before .state-count .ensures) (i .if1 .left)
+    slot-not-o (k .whole) (chart-of (k .chart .now)) u (k .s) (k .x) (in-slot d) (i .before .state-count .ensures) (i .if1 .left)
     (sym (c .before .is-o .ensures ∙ ap is-o (c .before .before .kind-of .ensures)) ∙ not-true _ (c .if2 .taken))
 
 -- past the test of the kind
@@ -56,7 +56,7 @@ returns-4 c u e =
     let i = past-nowhere o in
     let d = i .before .before .before in
     let k = start i .args in
-    slot-no-child (k .whole) (chart-of (k .chart .now)) u (k .s) (k .x) (held d) (i .before .state-count .ensures) (i .if1 .left)
+    slot-no-child (k .whole) (chart-of (k .chart .now)) u (k .s) (k .x) (in-slot d) (i .before .state-count .ensures) (i .if1 .left)
     (kind o) (sym (c .before .is-child .ensures) ∙ not-true _ (c .if3 .taken))
 
 leads-on-requires : tie.Need-leads-on-requires
@@ -77,7 +77,7 @@ returns-5 c u e =
     let i = past-nowhere o in
     let d = i .before .before .before in
     let k = start i .args in
-    slot-child (k .whole) (chart-of (k .chart .now)) u (k .s) (k .x) (held d) (i .before .state-count .ensures) (i .if1 .left)
+    slot-child (k .whole) (chart-of (k .chart .now)) u (k .s) (k .x) (in-slot d) (i .before .state-count .ensures) (i .if1 .left)
     (kind o) (sym (c .before .before .is-child .ensures) ∙ not-false _ (c .before .if3 .left)) (c .leads-on .ensures u e)
 
 pub slot-fits-spec : {M : Type 1} → statement M

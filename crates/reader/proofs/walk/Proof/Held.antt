@@ -244,8 +244,8 @@ module _ {M : Type 1} (𝓤 : URA M) (H : Heap 𝓤) (A : Atoms 𝓤) (W : Given
           owned ! usize (Is usize) (uint-makes 𝓤 H A W w64) (p .at) _ (refl, at-fits) $ fjoin ! $ move ! (1 ∷ 0 ∷ []) $ fjoin ! $ done !
 
       -- what `line_at` promises
-      abbrev pub Went : Progress → List ℤ → Type 0
-      Went r zs = Onward (s .now) (length cs) zs r × (r .going ≡ true → p .at < r .at)
+      abbrev pub Line-says : Progress → List ℤ → Type 0
+      Line-says r zs = Onward (s .now) (length cs) zs r × (r .going ≡ true → p .at < r .at)
 
       -- the chart is lent again for the call, and comes back
       pub lends : ent 𝓤 (sep 𝓤 (sem 𝓤 H A (Chart κ′ γ cs)) (A .lft κ′ q′)) (H .⇛ (ex 𝓤 (λ (ε : GName). sep 𝓤 (sem 𝓤 H A (Chart

@@ -1,3 +1,0 @@
-pub mod Levels
-pub mod Among
-pub mod Aiming
