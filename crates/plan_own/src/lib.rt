@@ -95,7 +95,7 @@ pub fn own(plan: &[i32], k: Counts, state: State) -> bool
     if !slots_fit(k.states, slots) {
         return false;
     }
-    if !rest_empty(k.states, slots) {
+    if !rest_empty(k.states, &slots) {
         return false;
     }
     let queue = state.queue;

@@ -55,6 +55,6 @@ module _ (rs : List VarRow) (xs : List ℤ) (v : ℕ) where
     pub values-no : v < length xs → value-fits rs v (getD xs v (pos 0)) ≡ false → false ≡ g
     values-no h t = sym (values-at h ∙ ap (λ b. b && values-fit (drop (v + 1) rs) (drop (v + 1) xs)) t) ∙ e
 
-    pub values-done : length xs ≤ v → length rs ≤ v → true ≡ g
-    unfolding values-fit every
-    values-done h k = sym (rw (drop-of-length-le xs h, drop-of-length-le rs k)) ∙ e
+    pub values-rest : length rs ≤ v → every (eqZ (pos 0)) (drop v xs) ≡ g
+    unfolding values-fit
+    values-rest k = rw (drop-of-length-le rs k) at e

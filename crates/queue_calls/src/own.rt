@@ -20,9 +20,9 @@ use widget::fits::queue_fits;
 ghost use mathlib.Core.Path.{_≡_};
 ghost use mathlib.Core.Bool.{Bool, true};
 ghost use Prim.Native.Nat.{_≤_, _<_};
-ghost use lib.IntN.{negsuc};
-ghost use lib.ListN.{length, getD, drop};
-ghost use Rattle.sizes.specs.Sizes.{STATES as states};
+ghost use lib.IntN.{pos, negsuc};
+ghost use lib.ListN.{length, getD, drop, replicate};
+ghost use Rattle.sizes.specs.Sizes.{STATES as states, VARIABLES as variables};
 ghost use Rattle.numbers.specs.Equal.{eqZ};
 ghost use Rattle.numbers.specs.Place.{placeOf};
 ghost use Rattle.meaning.specs.declared.State.{State as Widget};
@@ -39,19 +39,17 @@ pub struct Tally {
     pub on: u16,
 }
 
-// The same of every state.
-struct Tallies {
-    all: [u16; STATES],
-    on: [u16; STATES],
-}
-
-// One pass over the states: each is counted at its parent.
-fn count_children(chart: &[i32], active: &[bool; STATES]) -> Tallies
-    ensures { λ r. ⌜ Tallied (chart-of (now (chart .entry))) (now (active .entry)) (r .all) (r .on) ⌝ }
+// The same of every state. One pass over the states: each is counted at its parent.
+fn count_children(
+    chart: &[i32],
+    active: &[bool; STATES],
+    all: &mut [u16; STATES],
+    on: &mut [u16; STATES],
+)
+    requires { ⌜ (now all ≡ replicate states 0) × (now on ≡ replicate states 0) ⌝ }
+    ensures { λ _. ⌜ Tallied (chart-of (now (chart .entry))) (now (active .entry)) (now (all .exit)) (now (on .exit)) ⌝ }
 {
     let n = state_count(chart);
-    let mut all = [0u16; STATES];
-    let mut on = [0u16; STATES];
     let mut next: usize = 0;
     while next < n {
         let d = next;
@@ -69,7 +67,6 @@ fn count_children(chart: &[i32], active: &[bool; STATES]) -> Tallies
         }
         on[p] = on[p] + 1;
     }
-    Tallies { all, on }
 }
 
 // 01: one child of each o state in it and all children of each a state in it; below a state that is not in it nothing is.
@@ -95,9 +92,9 @@ fn legal(chart: &[i32], active: &[bool; STATES]) -> bool
         return false;
     }
     let n = state_count(chart);
-    let counted = count_children(chart, active);
-    let all = counted.all;
-    let on = counted.on;
+    let mut all = [0u16; STATES];
+    let mut on = [0u16; STATES];
+    count_children(chart, active, &mut all, &mut on);
     let mut s: usize = 0;
     while s < n {
         let t = Tally {
@@ -123,17 +120,33 @@ fn value_fits(chart: &[i32], v: usize, x: i32) -> bool
     same(0, x)
 }
 
+// The variables from a place on are 0. Each is looked at, with no way out before the last: so the compiler tests many at once.
+fn rest_zero(end: usize, vars: &[i32; VARIABLES]) -> bool
+    requires { ⌜ length (now vars) ≡ variables ⌝ }
+    ensures { λ r. ⌜ r ≡ every (eqZ (pos 0)) (drop end (now (vars .entry))) ⌝ }
+{
+    let mut fit = true;
+    let mut v = end;
+    while v < VARIABLES {
+        fit = fit & same(0, vars[v]);
+        v += 1;
+    }
+    fit
+}
+
+// Only the chart's variables are tested one by one.
 fn values_fit(chart: &[i32], vars: [i32; VARIABLES]) -> bool
     ensures { λ r. ⌜ r ≡ values-fit (chart-of (now (chart .entry)) .vars) vars ⌝ }
 {
+    let n = var_count(chart);
     let mut v: usize = 0;
-    while v < VARIABLES {
+    while v < n {
         if !value_fits(chart, v, vars[v]) {
             return false;
         }
         v += 1;
     }
-    true
+    rest_zero(n, &vars)
 }
 
 // An empty slot's marker is never taken for a state.
@@ -225,11 +238,12 @@ fn slot_fits(chart: &[i32], slots: &[i32; STATES], s: usize, x: i32, whole: bool
 }
 
 // The slots from a place on are empty. Each is looked at, with no way out before the last: so the compiler tests many at once.
-pub fn rest_empty(states: usize, slots: [i32; STATES]) -> bool
-    ensures { λ r. ⌜ r ≡ every (eqZ (negsuc 0)) (drop states slots) ⌝ }
+pub fn rest_empty(end: usize, slots: &[i32; STATES]) -> bool
+    requires { ⌜ length (now slots) ≡ states ⌝ }
+    ensures { λ r. ⌜ r ≡ every (eqZ (negsuc 0)) (drop end (now (slots .entry))) ⌝ }
 {
     let mut fit = true;
-    let mut s = states;
+    let mut s = end;
     while s < STATES {
         fit = fit & same(-1, slots[s]);
         s += 1;
@@ -267,14 +281,15 @@ fn fit_below(chart: &[i32], slots: &[i32; STATES], end: usize) -> bool
 }
 
 // Where no slot past the chart's states is filled, only theirs are tested one by one.
-fn slots_fit(chart: &[i32], slots: [i32; STATES]) -> bool
-    ensures { λ r. ⌜ ((u : Widget) → u .slots ≡ slots → r ≡ slots-fit (chart-of (now (chart .entry))) u) ⌝ }
+fn slots_fit(chart: &[i32], slots: &[i32; STATES]) -> bool
+    requires { ⌜ length (now slots) ≡ states ⌝ }
+    ensures { λ r. ⌜ ((u : Widget) → u .slots ≡ now (slots .entry) → r ≡ slots-fit (chart-of (now (chart .entry))) u) ⌝ }
 {
     let n = state_count(chart);
     if rest_empty(n, slots) {
-        return fit_below(chart, &slots, n);
+        return fit_below(chart, slots, n);
     }
-    fit_below(chart, &slots, STATES)
+    fit_below(chart, slots, STATES)
 }
 
 // Whether a started state is the chart's own; else answer 6.
@@ -294,7 +309,7 @@ pub fn own(chart: &[i32], state: State) -> bool
         return false;
     }
     let slots = state.slots;
-    if !slots_fit(chart, slots) {
+    if !slots_fit(chart, &slots) {
         return false;
     }
     let queue = state.queue;

@@ -18,7 +18,6 @@ use chart_rows::layout::VALUE;
 use chart_rows::layout::VAR_COUNT;
 use chart_rows::layout::VAR_ROW;
 use chart_rows::layout::VARS_AT;
-use chart_rows::number_at;
 use numbers::between;
 use numbers::in_range;
 use numbers::number;
@@ -31,16 +30,25 @@ ghost use mathlib.Core.Path.{_≡_};
 ghost use mathlib.Core.Bool.{_&&_, _||_};
 ghost use mathlib.Core.List.{_∷_, []};
 ghost use Prim.Native.Nat.{_<_, _≤_, _+_, _*_};
-ghost use lib.ListN.{take, drop};
+ghost use lib.IntN.{pos};
+ghost use lib.ListN.{length, getD, take, drop};
 ghost use Rattle.sizes.specs.Sizes.{STATES, VARIABLES, TRANSITIONS, ACTIONS};
 ghost use Rattle.numbers.specs.Reference.{NOWHERE};
 ghost use Rattle.numbers.specs.Range.{inRange};
 ghost use Rattle.meaning.specs.Lists.{every-from};
-ghost use Rattle.meaning.specs.Value.{STATE-ROW, VAR-ROW, TRANS-ROW, ACT-ROW, STATES-AT, VARS-AT, TRANSITIONS-AT, ACTIONS-AT};
+ghost use Rattle.meaning.specs.Value.{STATE-ROW, VAR-ROW, TRANS-ROW, ACT-ROW, STATES-AT, VARS-AT, TRANSITIONS-AT, ACTIONS-AT, VALUE as whole};
 ghost use Rattle.meaning.specs.Value.{num, is-letter, is-absent, one-of-letters, count-fits, counts-fit, rows-of, rows-statable, rule-0};
 ghost use Rattle.meaning.specs.Value.{state-statable, var-statable, trans-statable, action-statable};
 ghost use Rattle.rules.specs.Clauses.{number-if, guard-statable, target-statable};
 ghost use Rattle.rules.specs.ByKind.{most-by, statable-by, row-in, rows-by};
+
+// The number at a place that the value has: its length is tested once, before all else.
+fn number_at(chart: &[i32], i: usize) -> i32
+    requires { ⌜ i < length (now chart) ⌝ }
+    ensures { λ r. ⌜ r ≡ getD (now (chart .entry)) i (pos 0) ⌝ }
+{
+    chart[i]
+}
 
 // A number where it is wanted, else "-".
 fn number_if(wanted: bool, z: i32) -> bool
@@ -54,7 +62,7 @@ fn number_if(wanted: bool, z: i32) -> bool
 
 // State 0 alone has parent "-"; a default is a number for o, else "-".
 fn state_statable(chart: &[i32], n: usize) -> bool
-    requires { ⌜ n < STATES ⌝ }
+    requires { ⌜ (n < STATES) × (whole ≤ length (now chart)) ⌝ }
     ensures { λ r. ⌜ r ≡ state-statable n (take STATE-ROW (drop (STATES-AT + n * STATE-ROW) (now (chart .entry)))) ⌝ }
 {
     let at = STATES_AT + n * STATE_ROW;
@@ -69,7 +77,7 @@ fn state_statable(chart: &[i32], n: usize) -> bool
 }
 
 fn var_statable(chart: &[i32], i: usize) -> bool
-    requires { ⌜ i < VARIABLES ⌝ }
+    requires { ⌜ (i < VARIABLES) × (whole ≤ length (now chart)) ⌝ }
     ensures { λ r. ⌜ r ≡ var-statable (take VAR-ROW (drop (VARS-AT + i * VAR-ROW) (now (chart .entry)))) ⌝ }
 {
     let at = VARS_AT + i * VAR_ROW;
@@ -152,7 +160,7 @@ fn target_statable(h: i32, s: i32) -> bool
 }
 
 fn trans_statable(chart: &[i32], i: usize) -> bool
-    requires { ⌜ i < TRANSITIONS ⌝ }
+    requires { ⌜ (i < TRANSITIONS) × (whole ≤ length (now chart)) ⌝ }
     ensures { λ r. ⌜ r ≡ trans-statable (take TRANS-ROW (drop (TRANSITIONS-AT + i * TRANS-ROW) (now (chart .entry)))) ⌝ }
 {
     let at = TRANSITIONS_AT + i * TRANS_ROW;
@@ -174,7 +182,7 @@ fn trans_statable(chart: &[i32], i: usize) -> bool
 
 // Acts s, a and q have a number as their second field, k and o "-".
 fn action_statable(chart: &[i32], i: usize) -> bool
-    requires { ⌜ i < ACTIONS ⌝ }
+    requires { ⌜ (i < ACTIONS) × (whole ≤ length (now chart)) ⌝ }
     ensures { λ r. ⌜ r ≡ action-statable (take ACT-ROW (drop (ACTIONS-AT + i * ACT-ROW) (now (chart .entry)))) ⌝ }
 {
     let at = ACTIONS_AT + i * ACT_ROW;
@@ -196,7 +204,7 @@ fn action_statable(chart: &[i32], i: usize) -> bool
 
 // Row i of the kind that a letter names.
 fn row_statable(chart: &[i32], kind: u8, i: usize) -> bool
-    requires { ⌜ i < most-by kind ⌝ }
+    requires { ⌜ (i < most-by kind) × (whole ≤ length (now chart)) ⌝ }
     ensures { λ r. ⌜ r ≡ statable-by kind i (row-in kind i (now (chart .entry))) ⌝ }
 {
     match kind {
@@ -209,7 +217,7 @@ fn row_statable(chart: &[i32], kind: u8, i: usize) -> bool
 
 // So many rows of that kind.
 fn kind_statable(chart: &[i32], kind: u8, count: usize) -> bool
-    requires { ⌜ count ≤ most-by kind ⌝ }
+    requires { ⌜ (count ≤ most-by kind) × (whole ≤ length (now chart)) ⌝ }
     ensures { λ r. ⌜ r ≡ every-from (statable-by kind) 0 (rows-by kind count (now (chart .entry))) ⌝ }
 {
     let mut i = 0;
@@ -224,13 +232,14 @@ fn kind_statable(chart: &[i32], kind: u8, count: usize) -> bool
 
 // Does the count at this place keep its size?
 fn count_fits(chart: &[i32], place: usize, least: usize, most: usize) -> bool
-    requires { ⌜ (least < NOWHERE) × (most < NOWHERE) ⌝ }
+    requires { ⌜ (least < NOWHERE) × (most < NOWHERE) × (place < length (now chart)) ⌝ }
     ensures { λ r. ⌜ r ≡ count-fits least most (num (now (chart .entry)) place) ⌝ }
 {
     between(number(least), number_at(chart, place), number(most))
 }
 
 fn counts_fit(chart: &[i32]) -> bool
+    requires { ⌜ whole ≤ length (now chart) ⌝ }
     ensures { λ r. ⌜ r ≡ counts-fit (now (chart .entry)) ⌝ }
 {
     if !count_fits(chart, STATE_COUNT, 2, STATES) {
@@ -249,6 +258,7 @@ fn counts_fit(chart: &[i32]) -> bool
 }
 
 fn rows_statable(chart: &[i32]) -> bool
+    requires { ⌜ whole ≤ length (now chart) ⌝ }
     ensures { λ r. ⌜ r ≡ rows-statable (rows-of (now (chart .entry))) ⌝ }
 {
     if !kind_statable(chart, b'S', count_at(chart, STATE_COUNT, STATES)) {

@@ -9,7 +9,7 @@ use Rattle.plan_own.proofs.own.Statement.{statement}
 use Rattle.plan_own.proofs.own.Tie as tie
 
 abbrev else4-from-queue-fits : tie.After-queue-fits → tie.Else4
-else4-from-queue-fits c = c .before .before .before .before
+else4-from-queue-fits c = c .before .before .before .before .before
 
 abbrev marks-fit-from-then3 : tie.Then3 → tie.After-marks-fit
 marks-fit-from-then3 c = c .before .before .before .before
@@ -21,7 +21,7 @@ abbrev values-fit-from-then4 : tie.Then4 → tie.After-values-fit
 values-fit-from-then4 c = c .before .before .before .before
 
 abbrev else3-from-then5 : tie.Then5 → tie.Else3
-else3-from-then5 c = c .before .before .before .before .before
+else3-from-then5 c = c .before .before .before .before .before .before
 
 abbrev start-from-then3 : tie.Then3 → tie.Start
 start-from-then3 c = marks-fit-from-then3 c .before .before .before
@@ -73,7 +73,7 @@ returns-5 c =
     (sym (marks-fit-from-then5 c .marks-fit .ensures) ∙ not-false _
     (else3-from-then5 c .before .before .before .if2 .left))
     (sym (else3-from-then5 c .before .values-fit .ensures) ∙ not-false _ (else3-from-then5 c .if3 .left))
-    (sym (c .before .before .before .slots-fit .ensures) ∙ not-false _ (c .before .before .if4 .left))
+    (sym (c .before .before .before .before .slots-fit .ensures) ∙ not-false _ (c .before .before .before .if4 .left))
     (sym (c .before .rest-empty .ensures) ∙ not-true _ (c .if5 .taken))
 
 returns-6 : tie.Need-returns-6

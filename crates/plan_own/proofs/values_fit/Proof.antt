@@ -10,9 +10,11 @@ use mir.Val.{SFits}
 use lib.IntN.{pos}
 use lib.ListN.{length, getD, drop}
 use Rattle.sizes.specs.Sizes.{VARIABLES}
+use Rattle.numbers.specs.Equal.{eqZ}
 use Rattle.meaning.specs.Foreign.{values-fit}
 use Rattle.meaning.specs.WellFormed.{plan-by}
-use Rattle.queue_calls.proofs.Values.{values-more, values-no, values-done}
+use Rattle.widget.proofs.Every.{every-done}
+use Rattle.queue_calls.proofs.Values.{values-more, values-no, values-rest}
 use Rattle.plan_choice.proofs.Facts.{counts-sized}
 use Rattle.plan_own.proofs.Clauses.{vars-many}
 use Rattle.plan_own.proofs.values_fit.Statement.{statement}
@@ -59,8 +61,10 @@ returns-2 : tie.Need-returns-2 Inv-loop μ-loop
 returns-2 c =
     let a = c .before .before .args in
     let long : length (a .t3) ≡ VARIABLES = search needs in
-    values-done (plan-by (a .plan .now) .vars) (a .t3) (c .before .loop .v) (c .before .loop .inv .1) (omega arith)
-    (omega (arith, vars-many (c .before .before .pre), counts-sized (c .before .before .pre) .vars))
+    every-done (eqZ (pos 0)) (a .t3) (c .before .loop .v)
+    (values-rest (plan-by (a .plan .now) .vars) (a .t3) (c .before .loop .v) (c .before .loop .inv .1)
+    (omega (arith, vars-many (c .before .before .pre), counts-sized (c .before .before .pre) .vars)))
+    (omega arith)
 
 pub values-fit-spec : {M : Type 1} → statement M
 values-fit-spec = tie.close (tie.spec Inv-loop μ-loop (λ c. (search needs, refl)) (λ c. search needs)

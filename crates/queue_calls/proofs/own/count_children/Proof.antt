@@ -12,16 +12,16 @@ use Rattle.queue_calls.proofs.own.count_children.Statement.{statement}
 use Rattle.queue_calls.proofs.own.count_children.Tie as tie
 
 abbrev Inv-loop : tie.InvT-loop
-Inv-loop chart active n all₀ on₀ next₀ all on next = Tallying (chart-of chart) active n next all on
+Inv-loop chart active all₀ on₀ n next₀ all on next = Tallying (chart-of chart) active n next all on
 
 abbrev μ-loop : tie.MeasureT-loop
-μ-loop chart active n all₀ on₀ next₀ all on next = n - next
+μ-loop chart active all₀ on₀ n next₀ all on next = n - next
 
 abbrev in-loop-from-else2 : tie.Else2 Inv-loop μ-loop → tie.In-loop Inv-loop μ-loop
 in-loop-from-else2 c = c .before .before .before
 
 abbrev in-loop-from-else3 : tie.Else3 Inv-loop μ-loop → tie.In-loop Inv-loop μ-loop
-in-loop-from-else3 c = in-loop-from-else2 (c .before .before)
+in-loop-from-else3 c = in-loop-from-else2 (c .before .before .before)
 
 abbrev state-count-from-else2 : tie.Else2 Inv-loop μ-loop → tie.After-state-count Inv-loop μ-loop
 state-count-from-else2 c = in-loop-from-else2 c .before .before
@@ -33,7 +33,7 @@ abbrev start-from-else2 : tie.Else2 Inv-loop μ-loop → tie.Start Inv-loop μ-l
 start-from-else2 c = state-count-from-else2 c .before
 
 loop-holds : tie.Need-loop-holds Inv-loop μ-loop
-loop-holds c = tally-none _ _ _
+loop-holds c = rw (c .before .pre .0, c .before .pre .1) (tally-none _ _ _)
 
 loop-again : tie.Need-loop-again Inv-loop μ-loop
 loop-again c = tally-root _ _ (c .before .before .loop .inv) (c .before .loop-test .taken) (c .if1 .taken)
@@ -45,50 +45,51 @@ loop-again-2 c =
 
 add-all : tie.Need-add-all Inv-loop μ-loop
 add-all c =
-    let w = in-loop-from-else2 c .before .loop .inv .counted _ (c .if2 .left) in
+    let b = c .before in
+    let w = in-loop-from-else2 b .before .loop .inv .counted _ (b .if2 .left) in
     omega (
       arith,
       w .most,
-      in-loop-from-else2 c .loop-test .taken,
-      state-count-from-else2 c .state-count .ensures,
-      states-most (start-from-else2 c .args .chart .now),
+      in-loop-from-else2 b .loop-test .taken,
+      state-count-from-else2 b .state-count .ensures,
+      states-most (start-from-else2 b .args .chart .now),
     )
 
 element-copy-out-if3 : tie.Need-element-copy-out-if3 Inv-loop μ-loop
-element-copy-out-if3 c = omega (
-  arith,
-  in-loop-from-else2 c .loop-test .taken,
-  state-count-from-else2 c .state-count .ensures,
-  states-most
-      (start-from-else2 c .args .chart .now),
-)
+element-copy-out-if3 c =
+    let b = c .before in
+    omega (
+      arith,
+      in-loop-from-else2 b .loop-test .taken,
+      state-count-from-else2 b .state-count .ensures,
+      states-most (start-from-else2 b .args .chart .now),
+    )
 
 loop-again-3 : tie.Need-loop-again-3 Inv-loop μ-loop
 loop-again-3 c =
-    tally-off _ _ (in-loop-from-else2 (c .before .before) .before .loop .inv)
-    (in-loop-from-else2 (c .before .before) .loop-test .taken) (c .before .before .before .before .if1 .left)
-    (c .before .before .before .parent-of .ensures)
-    (c .before .before .if2 .left) (not-true _ (c .if3 .taken))
+    let b = c .before .before .before in
+    tally-off _ _ (in-loop-from-else2 b .before .loop .inv) (in-loop-from-else2 b .loop-test .taken) (b .before .before .if1 .left)
+    (b .before .parent-of .ensures) (b .if2 .left) (not-true _ (c .if3 .taken))
 
 add-on : tie.Need-add-on Inv-loop μ-loop
 add-on c =
-    let w = at-loop-from-else3 c .loop .inv .counted _ (c .before .before .if2 .left) in
+    let d = c .before in
+    let w = at-loop-from-else3 d .loop .inv .counted _ (d .before .before .before .if2 .left) in
     omega (
       arith,
       w .most,
       w .fewer,
-      in-loop-from-else3 c .loop-test .taken,
-      at-loop-from-else3 c .before .state-count .ensures,
-      states-most
-          (at-loop-from-else3 c .before .before .args .chart .now),
+      in-loop-from-else3 d .loop-test .taken,
+      at-loop-from-else3 d .before .state-count .ensures,
+      states-most (at-loop-from-else3 d .before .before .args .chart .now),
     )
 
 loop-again-4 : tie.Need-loop-again-4 Inv-loop μ-loop
 loop-again-4 c =
-    tally-on _ _ (at-loop-from-else3 c .loop .inv)
-    (in-loop-from-else3 c .loop-test .taken) (c .before .before .before .before .if1 .left)
-    (c .before .before .before .parent-of .ensures)
-    (c .before .before .if2 .left) (not-false _ (c .if3 .left))
+    let d = c .before in
+    let b = d .before .before .before in
+    tally-on _ _ (at-loop-from-else3 d .loop .inv) (in-loop-from-else3 d .loop-test .taken) (b .before .before .if1 .left)
+    (b .before .parent-of .ensures) (b .if2 .left) (not-false _ (d .if3 .left))
 
 returns : tie.Need-returns Inv-loop μ-loop
 returns c = tally-end _ _ (c .before .before .state-count .ensures) (c .before .loop .inv) (c .loop-test .left)

@@ -43,7 +43,7 @@ within c =
 
 legal-at-requires : tie.Need-legal-at-requires Inv-loop μ-loop
 legal-at-requires c κs =
-    (within c, c .before .before .before .before .count-children .ensures .told _ (within c))
+    (within c, c .before .before .count-children .ensures .told _ (within c))
 
 returns-2 : tie.Need-returns-2 Inv-loop μ-loop
 returns-2 c u e =
@@ -75,6 +75,6 @@ returns-3 c u e =
 
 pub legal-spec : {M : Type 1} → statement M
 legal-spec =
-    tie.close (tie.spec Inv-loop μ-loop (λ c. search needs) returns (λ c κs. search needs) (λ c κs. search needs) loop-holds
+    tie.close (tie.spec Inv-loop μ-loop (λ c. search needs) returns (λ c κs. search needs) (λ c κs. (refl, refl)) loop-holds
     (λ c. omega (arith, within c)) (λ c. omega (arith, within c)) (λ c. omega (arith, within c)) (λ c. omega (arith, within c))
     legal-at-requires returns-2 (λ c. omega arith) (λ c. omega arith) loop-again returns-3)

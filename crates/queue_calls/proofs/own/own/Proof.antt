@@ -21,7 +21,7 @@ abbrev start-from-then1 : tie.Then1 → tie.Start
 start-from-then1 c = c .before .before .before .before
 
 abbrev values-fit-from-then4 : tie.Then4 → tie.After-values-fit
-values-fit-from-then4 c = c .before .before .before .before
+values-fit-from-then4 c = c .before .before .before .before .before
 
 abbrev start-from-then2 : tie.Then2 → tie.Start
 start-from-then2 c = else1-from-then2 c .before .before .before .before
@@ -30,7 +30,7 @@ abbrev state-count-from-then4 : tie.Then4 → tie.After-state-count
 state-count-from-then4 c = values-fit-from-then4 c .before .before .before .before
 
 abbrev else2-from-queue-fits : tie.After-queue-fits → tie.Else2
-else2-from-queue-fits c = slots-fit-from-queue-fits c .before .before .before .before .before
+else2-from-queue-fits c = slots-fit-from-queue-fits c .before .before .before .before .before .before
 
 abbrev start-from-then3 : tie.Then3 → tie.Start
 start-from-then3 c = marks-fit-from-then3 c .before .before .before .before .before .before .before
@@ -67,7 +67,7 @@ returns-4 c = own-astray (chart-of (start-from-then4 c .args .chart .now)) (star
     ∙ not-false _ (state-count-from-then4 c .before .before .if1 .left))
     (state-count-from-then4 c .state-count .ensures) (sym (values-fit-from-then4 c .before .before .before .marks-fit .ensures)
     ∙ not-false _ (values-fit-from-then4 c .before .before .if2 .left))
-    (sym (values-fit-from-then4 c .values-fit .ensures) ∙ not-false _ (c .before .before .before .if3 .left))
+    (sym (values-fit-from-then4 c .values-fit .ensures) ∙ not-false _ (c .before .before .before .before .if3 .left))
     (sym (c .before .slots-fit .ensures (start-from-then4 c .args .state) refl) ∙ not-true _ (c .if4 .taken))
 
 returns-5 : tie.Need-returns-5
@@ -75,8 +75,8 @@ returns-5 c = own-rest (chart-of (start-from-queue-fits c .args .chart .now)) (s
     (sym (else1-from-queue-fits c .before .legal .ensures (start-from-queue-fits c .args .state) refl)
     ∙ not-false _ (else1-from-queue-fits c .if1 .left)) (else2-from-queue-fits c .before .before .state-count .ensures)
     (sym (else2-from-queue-fits c .before .marks-fit .ensures) ∙ not-false _ (else2-from-queue-fits c .if2 .left))
-    (sym (slots-fit-from-queue-fits c .before .before .before .values-fit .ensures)
-    ∙ not-false _ (slots-fit-from-queue-fits c .before .before .if3 .left))
+    (sym (slots-fit-from-queue-fits c .before .before .before .before .values-fit .ensures)
+    ∙ not-false _ (slots-fit-from-queue-fits c .before .before .before .if3 .left))
     (sym (slots-fit-from-queue-fits c .slots-fit .ensures (start-from-queue-fits c .args .state) refl)
     ∙ not-false _ (c .before .before .before .if4 .left)) (c .before .event-count .ensures) (c .queue-fits .ensures)
 

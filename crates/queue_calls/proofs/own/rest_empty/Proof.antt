@@ -1,4 +1,4 @@
--- `rest_empty` looks at every slot from `states` on. Assumes nothing.
+-- `rest_empty` looks at every slot from `end` on. Assumes nothing.
 use mathlib.Core.Path.{_≡_, refl, subst}
 use Prim.Native.Nat.{_-_, _≤_, _<_}
 use native.Mathlib.Omega.{arith}
@@ -17,28 +17,25 @@ use Rattle.queue_calls.proofs.own.rest_empty.Statement.{statement}
 use Rattle.queue_calls.proofs.own.rest_empty.Tie as tie
 
 abbrev Inv-loop : tie.InvT-loop
-Inv-loop states slots fit₀ s₀ fit s =
-    fit && every (eqZ (negsuc 0)) (drop s slots) ≡ every (eqZ (negsuc 0)) (drop states slots)
+Inv-loop end slots fit₀ s₀ fit s =
+    fit && every (eqZ (negsuc 0)) (drop s slots) ≡ every (eqZ (negsuc 0)) (drop end slots)
 
 abbrev μ-loop : tie.MeasureT-loop
-μ-loop states slots fit₀ s₀ fit s = STATES - s
-
-long : (c : tie.Start Inv-loop μ-loop) → length (c .args .t2) ≡ STATES
-long c = search needs
+μ-loop end slots fit₀ s₀ fit s = STATES - s
 
 loop-again : tie.Need-loop-again Inv-loop μ-loop
 loop-again c =
     let l = c .before .before .before in
     let a = l .before .args in
-    let fx : SFits w32 (getD (a .t2) (l .loop .s) (pos 0)) = search needs in
+    let fx : SFits w32 (getD (a .slots .now) (l .loop .s) (pos 0)) = search needs in
     rw (rw (toZ-ofZ fx) at (c .same .ensures))
-    (every-and (eqZ (negsuc 0)) (a .t2) (l .loop .s) (l .loop .fit) (pos 0) (l .loop .inv)
-    (omega (arith, long (l .before), c .before .before .loop-test .taken)))
+    (every-and (eqZ (negsuc 0)) (a .slots .now) (l .loop .s) (l .loop .fit) (pos 0) (l .loop .inv)
+    (omega (arith, l .before .pre, c .before .before .loop-test .taken)))
 
 returns : tie.Need-returns Inv-loop μ-loop
 returns c =
-    every-all (eqZ (negsuc 0)) (c .before .before .args .t2) (c .before .loop .s) (c .before .loop .inv)
-    (omega (arith, long (c .before .before), c .loop-test .left))
+    every-all (eqZ (negsuc 0)) (c .before .before .args .slots .now) (c .before .loop .s) (c .before .loop .inv)
+    (omega (arith, c .before .before .pre, c .loop-test .left))
 
 pub rest-empty-spec : {M : Type 1} → statement M
 rest-empty-spec = tie.close (tie.spec Inv-loop μ-loop (λ c. refl) (λ c. search needs)

@@ -11,19 +11,15 @@ use Rattle.widget.proofs.Every.{every-done}
 use Rattle.queue_calls.proofs.own.slots_fit.Statement.{statement}
 use Rattle.queue_calls.proofs.own.slots_fit.Tie as tie
 
-long : (c : tie.Start) → length (c .args .t2) ≡ STATES
-long c = search needs
-
 below-states : tie.Need-fit-below-requires
 below-states c κs =
-    let i = c .before in
-    let k = i .before .before .before in
-    (long k, omega (arith, states-most (k .args .chart .now)), sym (i .before .rest-empty .ensures) ∙ i .if1 .taken)
+    let k = c .before .before .before in
+    (k .pre, omega (arith, states-most (k .args .chart .now)), sym (c .before .rest-empty .ensures) ∙ c .if1 .taken)
 
 below-all : tie.Need-fit-below-requires-2
 below-all c κs =
-    let k = c .before .before .before .before in
-    (long k, omega arith, sym (every-done (eqZ (negsuc 0)) (k .args .t2) STATES refl (omega (arith, long k))))
+    let k = c .before .before .before in
+    (k .pre, omega arith, sym (every-done (eqZ (negsuc 0)) (k .args .slots .now) STATES refl (omega (arith, k .pre))))
 
 pub slots-fit-spec : {M : Type 1} → statement M
 slots-fit-spec =

@@ -33,7 +33,7 @@ kind-statable-spec =
     Inv-loop
     μ-loop
     (λ c. refl)
-    (λ c κs. omega (arith, c .before .before .pre))
+    (λ c κs. (omega (arith, c .before .before .pre .0), c .before .before .pre .1))
     returns
     (λ c. omega arith)
     (λ c. omega arith)

@@ -43,14 +43,14 @@ rows-statable-spec =
     tie.close
     (tie.spec
     (λ c κs. search needs)
-    (λ c κs. states-few _ _ (c .count-at .ensures))
+    (λ c κs. (states-few _ _ (c .count-at .ensures), search needs))
     returns
     (λ c κs. search needs)
-    (λ c κs. vars-few _ _ (c .count-at2 .ensures))
+    (λ c κs. (vars-few _ _ (c .count-at2 .ensures), search needs))
     returns-2
     (λ c κs. search needs)
-    (λ c κs. transitions-few _ _ (c .count-at3 .ensures))
+    (λ c κs. (transitions-few _ _ (c .count-at3 .ensures), search needs))
     returns-3
     (λ c κs. search needs)
-    (λ c κs. actions-few _ _ (c .count-at4 .ensures))
+    (λ c κs. (actions-few _ _ (c .count-at4 .ensures), search needs))
     returns-4)
