@@ -48,12 +48,11 @@ pub data Form : Type 0 where
 
 infixr 60 _then_
 infixr 50 _or_
-
 -- how many numbers its row has
-abbrev pub numbers : Form → ℕ
-numbers (last x) = width x
-numbers (x then xs) = width x + numbers xs
-numbers (a or b) = numbers a
+abbrev pub size : Form → ℕ
+size (last x) = width x
+size (x then xs) = width x + size xs
+size (a or b) = size a
 
 -- ---- the records
 
@@ -109,7 +108,7 @@ most no-record = 0
 
 -- how many numbers a row of the kind has
 abbrev pub row-size : Record → ℕ
-row-size r = numbers (form r 0)
+row-size r = size (form r 0)
 
 abbrev pub same : Record → Record → Bool
 same r q = eqb (name r) (name q)

@@ -54,7 +54,7 @@ same-part (laid r) (laid q) = same r q
 -- where a part begins
 abbrev pub begins : List Part → Part → ℕ
 begins [] p = 0
-begins (q ∷ qs) p = cond (same-part q p) 0 (room-of q + begins qs p)
+begins (q ∷ qs) p = cond (same-part p q) 0 (room-of q + begins qs p)
 
 abbrev pub place : Part → ℕ
 place p = begins PARTS p
