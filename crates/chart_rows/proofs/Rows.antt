@@ -102,6 +102,10 @@ module _ (v : List ℤ) where
   unfolding chart-of chart-by rows-of
   actions-count = length-rows action-by _ _ _
 
+  pub events-count : chart-of v .events ≡ ref (num v 2)
+  unfolding chart-of chart-by rows-of chunks
+  events-count = ap ref (num-first 1 2 v (omega arith))
+
   -- what a value states is never more than its size
   pub states-most : length (chart-of v .states) ≤ STATES
   states-most = rw states-count (size-most STATES (num v 0))
