@@ -4,14 +4,14 @@ use Prim.Native.Nat.{ℕ, _+_}
 use Prim.Native.Char.{code}
 use mathlib.Core.Bool.{Bool, true, false, cond, _&&_}
 use mathlib.Core.List.{List, [], _∷_, _++_}
-use lib.ListN.{length, getD}
+use lib.ListN.{getD}
 use lib.IntN.{ℤ, pos, negsuc}
 use lib.Dec.{eqb, ltb}
 use Rattle.numbers.specs.Reference.{ref}
 use Rattle.meaning.specs.Grammar.{Field, turn, number, count, letter, dash, state, history, in-place, width, Form, last, _then_, _or_}
 use Rattle.meaning.specs.Grammar.{Record, e-record, ORDER, form, name, most, same}
 use Rattle.meaning.specs.Lists.{has, every, exists}
-use Rattle.meaning.specs.Value.{Rows, ABSENT, num, count-fits, fits}
+use Rattle.meaning.specs.Value.{ABSENT, num, count-fits, fits}
 use Rattle.meaning.specs.Number.{number-of, numeral}
 use Rattle.meaning.specs.Split.{joined}
 use Rattle.meaning.specs.declared.Num.{Num}
@@ -125,29 +125,28 @@ line-by r n fs = beside (line (room n (most r)) []) (read-by (form r n) n (rest-
 
 -- ---- the order S, V, one E, T, A
 
-abbrev pub none-of : {A : Type 0} → List A → Bool
-none-of [] = true
-none-of (x ∷ xs) = false
+-- how many records of each kind stand before a line
+abbrev pub Turns : Type 0
+Turns = Record → ℕ
 
 -- the kinds that stand behind one
 abbrev pub behind-in : List Record → Record → List Record
 behind-in [] r = []
-behind-in (q ∷ qs) r = cond (same q r) qs (behind-in qs r)
+behind-in (q ∷ qs) r = cond (same r q) qs (behind-in qs r)
 
 abbrev pub later : Record → List Record
 later r = behind-in ORDER r
 
--- no record of a later kind was read; the E was, where it stands before this one, else not
-unfoldable pub in-order : Rows → Record → Bool
-in-order rows r = every (λ q. none-of (rows q)) (later r) && eqb (length (rows e-record)) (cond (exists (same r) (later e-record)) 1 0)
+-- none of a later kind was read; one E was, where E stands before the kind, else none
+unfoldable pub in-order : Turns → Record → Bool
+in-order turns r = every (λ q. eqb (turns q) 0) (later r) && eqb (turns e-record) (cond (exists (same r) (later e-record)) 1 0)
 
 abbrev pub line-in-order : Bool → Record → ℕ → List (List ℕ) → Line
 line-in-order true r n fs = line-by r n fs
 line-in-order false r n fs = wrong
 
--- a line behind those of these rows
-unfoldable pub line-of : Record → Rows → List (List ℕ) → Line
-line-of r rows fs = line-in-order (in-order rows r) r (length (rows r)) fs
+unfoldable pub line-of : Record → Turns → List (List ℕ) → Line
+line-of r turns fs = line-in-order (in-order turns r) r (turns r) fs
 
 -- ---- a line written
 

@@ -14,7 +14,7 @@ use Rattle.meaning.specs.Value.{Rows, rows-of, chart-by, Part, counted, 
 use Rattle.meaning.specs.Rules.{failing-rule, failing-rule-of}
 use Rattle.meaning.specs.Split.{fields, lines, ended}
 use Rattle.meaning.specs.Grammar.{Record, e-record, ORDER, same, record-by}
-use Rattle.meaning.specs.Line.{Line, letter-of, field, none-of, line-of, text-of-row}
+use Rattle.meaning.specs.Line.{Line, letter-of, field, Turns, line-of, text-of-row}
 use Rattle.meaning.specs.declared.Answer.{Answer}
 use Rattle.meaning.specs.declared.Written.{Written}
 
@@ -47,9 +47,12 @@ count-of (refused a p) = 0
 abbrev pub no-rows : Rows
 no-rows r = []
 
+abbrev pub turns-of : Rows → Turns
+turns-of rows r = length (rows r)
+
 -- the rows with one more
 unfoldable pub with-row : Record → List ℤ → Rows → Rows
-with-row r x rows q = cond (same q r) (rows q ++ (x ∷ [])) (rows q)
+with-row r x rows q = cond (same r q) (rows q ++ (x ∷ [])) (rows q)
 
 -- a line of mark 0 is taken; any other is the first faulty one
 abbrev pub further : ℕ → ℕ → Rows → (Rows → Result Rows) → Result Rows
@@ -64,11 +67,11 @@ abbrev pub record-of : List (List ℕ) → Record
 record-of fs = record-by (letter-of (field fs 0))
 
 abbrev pub line-taken : List (List ℕ) → ℕ → Rows → (Rows → Result Rows) → Result Rows
-line-taken fs n rows more = after-line (record-of fs) (line-of (record-of fs) rows fs) n rows more
+line-taken fs n rows more = after-line (record-of fs) (line-of (record-of fs) (turns-of rows) fs) n rows more
 
 -- behind the last LF there is nothing, and the E line was met: "a text ending without its E line faults at the line after its last"
 abbrev pub ending : ℕ → Rows → List ℕ → Result Rows
-ending n rows [] = cond (none-of (rows e-record)) (refused WRONG-LINE n) (done rows)
+ending n rows [] = cond (leb 1 (turns-of rows e-record)) (done rows) (refused WRONG-LINE n)
 ending n rows (b ∷ bs) = refused WRONG-LINE n
 
 -- "walks the text line by line and reports its first faulty line, counted from 1"

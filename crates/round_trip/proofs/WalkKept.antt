@@ -5,7 +5,8 @@ use mathlib.Core.Bool.{Bool, true, false, cond, not, _&&_, _||_, false≢true}
 use mathlib.Core.List.{List, [], _∷_, _++_, append-assoc, append-nil}
 use Prim.Native.Nat.{ℕ, zero, suc, _+_, _≤_, _<_}
 use native.Mathlib.Omega.{arith}
-use lib.Dec.{eqb, ltb}
+use lib.Dec.{eqb, leb, ltb}
+use borrow.Author.Tests.{eqb-true, leb-true}
 use lib.IntN.{ℤ}
 use lib.ListN.{length}
 use Rattle.sizes.specs.Sizes.{TEXT}
@@ -15,13 +16,13 @@ use Rattle.meaning.specs.Lists.{every, exists, concat-map, map-from}
 use Rattle.meaning.specs.Value.{Rows}
 use Rattle.meaning.specs.Split.{LF, fields, lines, tails, ended}
 use Rattle.meaning.specs.Grammar.{Record, e-record, ORDER, most, same}
-use Rattle.meaning.specs.Line.{Line, letter-of, field, none-of, behind-in, later, in-order, line-in-order, line-of, text-of-row}
-use Rattle.meaning.specs.Text.{done, refused, with-row, further, record-of, ending, walk, no-rows, lines-of, read-unless, read-text, text-by}
+use Rattle.meaning.specs.Line.{Line, letter-of, field, behind-in, later, in-order, line-in-order, line-of, text-of-row}
+use Rattle.meaning.specs.Text.{done, refused, turns-of, with-row, further, record-of, ending, walk, no-rows, lines-of, read-unless, read-text, text-by}
 use Rattle.round_trip.proofs.Numbers.{no}
 use Rattle.round_trip.proofs.Splits.{glued, glued-lines, ended-append}
 use Rattle.round_trip.proofs.Fields.{Good, zero-good}
 use Rattle.round_trip.proofs.Records.{RowKept, row-kept, row-room}
-use Rattle.round_trip.proofs.Shaped.{Shaped, Fitting, fitting-none, fitting-more, map-from-more}
+use Rattle.round_trip.proofs.Shaped.{Shaped, Fitting, fitting-none, fitting-more, map-from-more, nothing}
 
 -- ---- the lines of some kinds
 
@@ -29,11 +30,10 @@ abbrev lines-in : Rows → List Record → List (List ℕ)
 lines-in rows qs = concat-map (lines-of rows) qs
 
 abbrev none-in : Rows → List Record → Bool
-none-in rows qs = every (λ q. none-of (rows q)) qs
+none-in rows qs = every (λ q. eqb (length (rows q)) 0) qs
 
-none-is : {A : Type 0} (xs : List A) → none-of xs ≡ true → xs ≡ []
-none-is [] e = refl
-none-is (x ∷ xs) e = absurd (false≢true e)
+none-is : {A : Type 0} (xs : List A) → eqb (length xs) 0 ≡ true → xs ≡ []
+none-is xs e = let z : length xs ≡ 0 = eqb-true (length xs) 0 e in sym (nothing xs (omega arith))
 
 not-true : (t : Bool) → not t ≡ true → t ≡ false
 not-true true e = sym e
@@ -42,7 +42,7 @@ not-true false e = refl
 -- a kind stands once
 abbrev once : List Record → Record → Bool
 once [] r = false
-once (q ∷ qs) r = cond (same q r) (not (exists (λ p. same p r) qs)) (once qs r)
+once (q ∷ qs) r = cond (same r q) (not (exists (same r) qs)) (once qs r)
 
 each-once : (r : Record) (n : ℕ) → n < most r → once ORDER r ≡ true
 unfolding every exists
@@ -56,19 +56,19 @@ module _ (rows : Rows) (r : Record) (x : List ℤ) where
   unfolding with-row
   own-row = rw (same-self r)
 
-  other-lines : (q : Record) → same q r ≡ false → lines-of more q ≡ lines-of rows q
+  other-lines : (q : Record) → same r q ≡ false → lines-of more q ≡ lines-of rows q
   unfolding with-row
   other-lines q s = rw s
 
   -- kinds of which nothing was read have no line, also with a row more of another kind
-  no-lines : (qs : List Record) → none-in rows qs ≡ true → exists (λ p. same p r) qs ≡ false → lines-in more qs ≡ []
+  no-lines : (qs : List Record) → none-in rows qs ≡ true → exists (same r) qs ≡ false → lines-in more qs ≡ []
   unfolding concat-map every exists map-from with-row
   no-lines [] e o = refl
   no-lines (q ∷ qs) e o =
       rw (
-        or-off-left (same q r) (exists (λ p. same p r) qs) o,
-        none-is (rows q) (and-left (none-of (rows q)) (none-in rows qs) e),
-        no-lines qs (and-right (none-of (rows q)) (none-in rows qs) e) (or-off-right (same q r) (exists (λ p. same p r) qs) o),
+        or-off-left (same r q) (exists (same r) qs) o,
+        none-is (rows q) (and-left (eqb (length (rows q)) 0) (none-in rows qs) e),
+        no-lines qs (and-right (eqb (length (rows q)) 0) (none-in rows qs) e) (or-off-right (same r q) (exists (same r) qs) o),
       )
 
   empty-lines : (qs : List Record) → none-in rows qs ≡ true → lines-in rows qs ≡ []
@@ -76,8 +76,8 @@ module _ (rows : Rows) (r : Record) (x : List ℤ) where
   empty-lines [] e = refl
   empty-lines (q ∷ qs) e =
       rw (
-        none-is (rows q) (and-left (none-of (rows q)) (none-in rows qs) e),
-        empty-lines qs (and-right (none-of (rows q)) (none-in rows qs) e),
+        none-is (rows q) (and-left (eqb (length (rows q)) 0) (none-in rows qs) e),
+        empty-lines qs (and-right (eqb (length (rows q)) 0) (none-in rows qs) e),
       )
 
   module _ (l : List ℕ) (written : text-of-row r (length (rows r)) x ≡ l) where
@@ -91,15 +91,15 @@ module _ (rows : Rows) (r : Record) (x : List ℤ) where
         → lines-in more qs ≡ lines-in rows qs ++ (l ∷ [])
     unfolding concat-map
     lines-more [] o e = absurd (false≢true o)
-    lines-more (q ∷ qs) o e = go (same q r) refl o e (lines-more qs)
+    lines-more (q ∷ qs) o e = go (same r q) refl o e (lines-more qs)
       where
-        go : (t : Bool) → same q r ≡ t → cond t (not (exists (λ p. same p r) qs)) (once qs r) ≡ true
+        go : (t : Bool) → same r q ≡ t → cond t (not (exists (same r) qs)) (once qs r) ≡ true
             → none-in rows (cond t qs (behind-in qs r)) ≡ true
             → (once qs r ≡ true → none-in rows (behind-in qs r) ≡ true → lines-in more qs ≡ lines-in rows qs ++ (l ∷ []))
             → lines-in more (q ∷ qs) ≡ lines-in rows (q ∷ qs) ++ (l ∷ [])
         go true s o e ih =
-            let k : q ≡ r = same-true q r s in
-            rw (k, own-lines, no-lines qs e (not-true (exists (λ p. same p r) qs) o), empty-lines qs e) (simp append-nil)
+            let k : q ≡ r = sym (same-true r q s) in
+            rw (k, own-lines, no-lines qs e (not-true (exists (same r) qs) o), empty-lines qs e) (simp append-nil)
         go false s o e ih = rw (other-lines q s, ih o e) (sym (append-assoc (lines-of rows q) (lines-in rows qs) (l ∷ [])))
 
 -- ---- one more line
@@ -117,16 +117,16 @@ module _ (rows : Rows) (s : Sound rows) (l : List ℕ) where
   unfolding with-row
   row-step r x e k = record {
     last = lines-more rows r x l (k .same) ORDER (each-once r (length (rows r)) (k .fits)) e;
-    sound = λ q. fits-in q (same q r) refl;
+    sound = λ q. fits-in q (same r q) refl;
   }
     where
-      fits-in : (q : Record) (t : Bool) → same q r ≡ t → Fitting q (with-row r x rows q)
+      fits-in : (q : Record) (t : Bool) → same r q ≡ t → Fitting q (with-row r x rows q)
       fits-in q true h =
-          let e : r ≡ q = sym (same-true q r h) in
+          let e : r ≡ q = same-true r q h in
           rw h (fitting-more q (rows q) x l (s q) (subst (λ p. RowKept p (length (rows p)) l x) e k))
       fits-in q false h = rw h (s q)
 
-  in-order-kept : (r : Record) (b : Bool) → r ≡ record-of (fields l) → in-order rows r ≡ b
+  in-order-kept : (r : Record) (b : Bool) → r ≡ record-of (fields l) → in-order (turns-of rows) r ≡ b
       → Good (line-in-order b r (length (rows r)) (fields l) .mark)
       → Step rows l (with-row r (line-in-order b r (length (rows r)) (fields l) .row) rows)
   unfolding in-order
@@ -136,10 +136,10 @@ module _ (rows : Rows) (s : Sound rows) (l : List ℕ) where
       let n = named-is (letter-of (field (fields l) 0)) (length (rows r)) (subst (λ q. length (rows r) < most q) e h) in
       row-step r _ (and-left (none-in rows (later r)) _ o) (row-kept r (length (rows r)) l (n ∙ ap Rattle.meaning.specs.Grammar.name (sym e)) g)
 
-  line-kept : Good (line-of (record-of (fields l)) rows (fields l) .mark)
-      → Step rows l (with-row (record-of (fields l)) (line-of (record-of (fields l)) rows (fields l) .row) rows)
+  line-kept : Good (line-of (record-of (fields l)) (turns-of rows) (fields l) .mark)
+      → Step rows l (with-row (record-of (fields l)) (line-of (record-of (fields l)) (turns-of rows) (fields l) .row) rows)
   unfolding line-of
-  line-kept g = in-order-kept (record-of (fields l)) (in-order rows (record-of (fields l))) refl refl g
+  line-kept g = in-order-kept (record-of (fields l)) (in-order (turns-of rows) (record-of (fields l))) refl refl g
 
 -- ---- the walk
 
@@ -150,18 +150,18 @@ record Kept (rows : Rows) (ls : List (List ℕ)) (r : Rows) : Type 0 where
 
 ended-kept : (rows : Rows) (n : ℕ) (r : Rows) → Sound rows → ending n rows [] ≡ done r → Kept rows ([] ∷ []) r
 unfolding glued tails text-by
-ended-kept rows n r s e = go (rows e-record) refl e
+ended-kept rows n r s e = go (leb 1 (length (rows e-record))) refl e
   where
-    go : (es : List (List ℤ)) → rows e-record ≡ es → cond (none-of es) (refused 1 n) (done rows) ≡ done r → Kept rows ([] ∷ []) r
-    go [] h e = no cc
-    go (x ∷ es) h e =
+    go : (t : Bool) → leb 1 (length (rows e-record)) ≡ t → cond t (done rows) (refused 1 n) ≡ done r → Kept rows ([] ∷ []) r
+    go true h e =
         let k : rows ≡ r = cc in
         let f = s e-record .few in
-        let m : length (rows e-record) ≡ suc (length es) = ap length h in
+        let m : 1 ≤ length (rows e-record) = leb-true 1 (length (rows e-record)) h in
         rw (← k) (record {
           text = append-nil (ended (lines-in rows ORDER));
           shaped = record { fitting = s; one = omega arith };
         })
+    go false h e = no cc
 
 grow : (a b : List (List ℕ)) (l x : List ℕ) → b ≡ a ++ (l ∷ []) → ended a ++ (l ++ LF ∷ x) ≡ ended b ++ x
 unfolding ended
@@ -178,7 +178,7 @@ walk-kept n rows (line ∷ next ∷ rest) r s e = go (x .mark) refl e (λ more t
     k = record-of (fields line)
 
     x : Line
-    x = line-of k rows (fields line)
+    x = line-of k (turns-of rows) (fields line)
 
     go : (m : ℕ) → x .mark ≡ m → further m n (with-row k (x .row) rows) (λ more. walk (n + 1) more (next ∷ rest)) ≡ done r
         → ((more : Rows) → Sound more → walk (n + 1) more (next ∷ rest) ≡ done r → Kept more (next ∷ rest) r) → Kept rows (line ∷ next ∷ rest) r

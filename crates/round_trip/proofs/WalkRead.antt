@@ -14,8 +14,8 @@ use Rattle.meaning.specs.Lists.{every, every-from, exists, concat-map, map-from
 use Rattle.meaning.specs.Value.{Rows, statable}
 use Rattle.meaning.specs.Split.{LF, fields, lines, ended}
 use Rattle.meaning.specs.Grammar.{Record, s-record, v-record, e-record, t-record, a-record, no-record, ORDER, most, row-size, same}
-use Rattle.meaning.specs.Line.{none-of, in-order, line-of, text-of-row}
-use Rattle.meaning.specs.Text.{Result, done, refused, with-row, no-rows, line-taken, ending, walk, read-text, lines-of, text-by}
+use Rattle.meaning.specs.Line.{in-order, line-of, text-of-row}
+use Rattle.meaning.specs.Text.{Result, done, turns-of, with-row, no-rows, line-taken, ending, walk, read-text, lines-of, text-by}
 use Rattle.round_trip.specs.Rows.{AllLong}
 use Rattle.round_trip.proofs.Splits.{Free, AllFree, all-free-append, lines-ended}
 use Rattle.round_trip.proofs.Fields.{both}
@@ -50,7 +50,7 @@ walk-reads n (one {w = w} {v = v} {l = l} {ls = x ∷ xs} g r) =
 
 -- the rows with these behind those of a kind
 abbrev with-rows : Record → List (List ℤ) → Rows → Rows
-with-rows r xs rows q = cond (same q r) (rows q ++ xs) (rows q)
+with-rows r xs rows q = cond (same r q) (rows q ++ xs) (rows q)
 
 module _ (r : Record) (rows : Rows) (fresh : rows r ≡ []) where
   own-rows : (ys : List (List ℤ)) → with-rows r ys rows r ≡ ys
@@ -58,20 +58,20 @@ module _ (r : Record) (rows : Rows) (fresh : rows r ≡ []) where
 
   one-more : (ys : List (List ℤ)) (x : List ℤ) → with-row r x (with-rows r ys rows) ≡ with-rows r (ys ++ (x ∷ [])) rows
   unfolding with-row
-  one-more ys x = fun-ext (λ q. go (same q r) (rows q))
+  one-more ys x = fun-ext (λ q. go (same r q) (rows q))
     where
       go : (t : Bool) (zs : List (List ℤ)) → cond t (cond t (zs ++ ys) zs ++ (x ∷ [])) (cond t (zs ++ ys) zs) ≡ cond t (zs ++ (ys ++ (x ∷ []))) zs
       go true zs = append-assoc zs ys (x ∷ [])
       go false zs = refl
 
   none-more : rows ≡ with-rows r [] rows
-  none-more = fun-ext (λ q. go (same q r) (rows q))
+  none-more = fun-ext (λ q. go (same r q) (rows q))
     where
       go : (t : Bool) (zs : List (List ℤ)) → zs ≡ cond t (zs ++ []) zs
       go true zs = sym (append-nil zs)
       go false zs = refl
 
-  module _ (whole : List (List ℤ)) (opens : (ys : List (List ℤ)) → length ys < length whole → in-order (with-rows r ys rows) r ≡ true) where
+  module _ (whole : List (List ℤ)) (opens : (ys : List (List ℤ)) → length ys < length whole → in-order (turns-of (with-rows r ys rows)) r ≡ true) where
     row-goes : (ys : List (List ℤ)) (x : List ℤ) → length ys < length whole → statable r (length ys) x ≡ true → length x ≡ row-size r
         → length ys < most r → Goes (with-rows r ys rows) (text-of-row r (length ys) x) (with-rows r (ys ++ (x ∷ [])) rows)
     unfolding line-of statable
@@ -147,11 +147,7 @@ module _ (r : Rows) (s : Shaped r) where
       go no-record = nothing (r no-record) (s .fitting no-record .few)
 
   met : (n : ℕ) → ending n all [] ≡ done r
-  met n = go (r e-record) (s .one)
-    where
-      go : (es : List (List ℤ)) → length es ≡ 1 → cond (none-of es) (refused 1 n) (done all) ≡ done r
-      go [] e = absurd (omega arith)
-      go (x ∷ es) e = ap done all-rows
+  met n = rw (s .one) (ap done all-rows)
 
   -- ---- the text
 
