@@ -4,7 +4,7 @@ use mathlib.Core.Logic.{_⊎_, inl, inr, ⊎-elim}
 use Prim.Native.Nat.{_+_, _<_, _≤_, suc, zero, ℕ}
 use native.Mathlib.Omega.{arith}
 use native.Mathlib.Nat.{eq-or-lt-of-le}
-use mathlib.Core.Bool.{Bool, _&&_, _||_, cond, false, false≢true, true, true≢false}
+use mathlib.Core.Bool.{Bool, _&&_, _||_, cond, false, false≢true, not, true, true≢false}
 use mathlib.Core.List.{List, [], _++_, _∷_, map, reverse, reverseAux}
 use lib.ListN.{getD, length, replicate}
 use lib.Dec.{eqb, leb}
@@ -15,6 +15,10 @@ use Rattle.meaning.specs.Lists.{concat-map, every, every-from, from, keep}
 pub is-false : (b : Bool) → (b ≡ true → ⊥) → b ≡ false
 is-false true n = absurd (n refl)
 is-false false n = refl
+
+pub not-true : (b : Bool) → not b ≡ true → b ≡ false
+not-true true e = sym e
+not-true false e = refl
 
 pub and-left : (a b : Bool) → (a && b) ≡ true → a ≡ true
 and-left true b e = refl

@@ -1,15 +1,17 @@
 -- Rows that a text can state: each row of its kind is statable and has its kind's numbers, and there are not too many of them.
 -- In the order: lists with one more at the end; rows of one kind; all rows. Assumes nothing.
 use mathlib.Core.Path.{_≡_, refl}
-use mathlib.Core.Bool.{Bool, true}
+use mathlib.Core.Bool.{Bool, true, false}
 use mathlib.Core.List.{List, [], _∷_, _++_}
 use Prim.Native.Nat.{ℕ, suc, _+_, _≤_}
 use native.Mathlib.Omega.{arith}
 use lib.IntN.{ℤ}
 use lib.ListN.{length, length-append}
-use Rattle.meaning.specs.Grammar.{Record, e-record, most, row-size}
+use Rattle.laws.proofs.Parts.{same-self}
+use Rattle.meaning.specs.Grammar.{Record, e-record, most, row-size, same}
 use Rattle.meaning.specs.Lists.{every-from, map-from}
 use Rattle.meaning.specs.Value.{Rows, statable}
+use Rattle.meaning.specs.Text.{with-row}
 use Rattle.round_trip.specs.Rows.{AllLong, Fit}
 use Rattle.round_trip.proofs.Fields.{both}
 use Rattle.round_trip.proofs.Records.{RowKept}
@@ -40,6 +42,15 @@ long-more n (x ∷ rs) r a e = (a .0, long-more n rs r (a .1) e)
 pub nothing : {A : Type 0} (xs : List A) → length xs ≤ 0 → [] ≡ xs
 nothing [] h = refl
 nothing (x ∷ xs) h = absurd (omega arith)
+
+module _ (rows : Rows) (r : Record) (x : List ℤ) where
+  pub own-row : with-row r x rows r ≡ rows r ++ (x ∷ [])
+  unfolding with-row
+  own-row = rw (same-self r)
+
+  pub other-row : (q : Record) → same r q ≡ false → with-row r x rows q ≡ rows q
+  unfolding with-row
+  other-row q s = rw s
 
 -- ---- rows of one kind
 

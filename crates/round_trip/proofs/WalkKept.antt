@@ -10,8 +10,8 @@ use borrow.Author.Tests.{eqb-true, leb-true}
 use lib.IntN.{ℤ}
 use lib.ListN.{length}
 use Rattle.sizes.specs.Sizes.{TEXT}
-use Rattle.laws.proofs.Lists.{and-left, and-right, or-off-left, or-off-right}
-use Rattle.laws.proofs.Parts.{same-true, same-self, named-is, every-record}
+use Rattle.laws.proofs.Lists.{and-left, and-right, or-off-left, or-off-right, not-true}
+use Rattle.laws.proofs.Parts.{same-true, named-is, every-record}
 use Rattle.meaning.specs.Lists.{every, exists, concat-map, map-from}
 use Rattle.meaning.specs.Value.{Rows}
 use Rattle.meaning.specs.Split.{LF, fields, lines, tails, ended}
@@ -22,7 +22,7 @@ use Rattle.round_trip.proofs.Numbers.{no}
 use Rattle.round_trip.proofs.Splits.{glued, glued-lines, ended-append}
 use Rattle.round_trip.proofs.Fields.{Good, zero-good}
 use Rattle.round_trip.proofs.Records.{RowKept, row-kept, row-room}
-use Rattle.round_trip.proofs.Shaped.{Shaped, Fitting, fitting-none, fitting-more, map-from-more, nothing}
+use Rattle.round_trip.proofs.Shaped.{Shaped, Fitting, fitting-none, fitting-more, map-from-more, nothing, own-row, other-row}
 
 -- ---- the lines of some kinds
 
@@ -34,10 +34,6 @@ none-in rows qs = every (λ q. eqb (length (rows q)) 0) qs
 
 none-is : {A : Type 0} (xs : List A) → eqb (length xs) 0 ≡ true → xs ≡ []
 none-is xs e = let z : length xs ≡ 0 = eqb-true (length xs) 0 e in sym (nothing xs (omega arith))
-
-not-true : (t : Bool) → not t ≡ true → t ≡ false
-not-true true e = sym e
-not-true false e = refl
 
 -- a kind stands once
 abbrev once : List Record → Record → Bool
@@ -52,13 +48,8 @@ module _ (rows : Rows) (r : Record) (x : List ℤ) where
   abbrev more : Rows
   more = with-row r x rows
 
-  own-row : more r ≡ rows r ++ (x ∷ [])
-  unfolding with-row
-  own-row = rw (same-self r)
-
   other-lines : (q : Record) → same r q ≡ false → lines-of more q ≡ lines-of rows q
-  unfolding with-row
-  other-lines q s = rw s
+  other-lines q s = ap (map-from (text-of-row q) 0) (other-row rows r x q s)
 
   -- kinds of which nothing was read have no line, also with a row more of another kind
   no-lines : (qs : List Record) → none-in rows qs ≡ true → exists (same r) qs ≡ false → lines-in more qs ≡ []
@@ -84,7 +75,7 @@ module _ (rows : Rows) (r : Record) (x : List ℤ) where
     own-lines : lines-of more r ≡ lines-of rows r ++ (l ∷ [])
     own-lines =
         let n : 0 + length (rows r) ≡ length (rows r) = omega arith in
-        rw (own-row, map-from-more (text-of-row r) 0 (rows r) x, n, written)
+        rw (own-row rows r x, map-from-more (text-of-row r) 0 (rows r) x, n, written)
 
     -- its line is the last where nothing of a later kind was read
     lines-more : (qs : List Record) → once qs r ≡ true → none-in rows (behind-in qs r) ≡ true

@@ -6,7 +6,7 @@ use lib.IntN.{ℤ}
 use lib.ListN.{length}
 use mathlib.Core.Path.{_≡_}
 use mathlib.Core.List.{List, [], _∷_}
-use Rattle.meaning.specs.Grammar.{Record, row-size, most}
+use Rattle.meaning.specs.Grammar.{Record, e-record, row-size, most}
 use Rattle.meaning.specs.Grammar.{Field, turn, number, count, letter, dash, state, history, in-place}
 use Rattle.meaning.specs.Value.{Rows, is-letter, is-absent, one-of-letters}
 
@@ -20,6 +20,11 @@ AllLong k (r ∷ rs) = (length r ≡ k) × AllLong k rs
 pub record Fit (rows : Rows) : Type 0 where
   pub long : (r : Record) → AllLong (row-size r) (rows r)
   pub few : (r : Record) → length (rows r) ≤ most r
+
+-- and of which a text can be the whole: it has its E
+pub record Whole (rows : Rows) : Type 0 where
+  pub fit : Fit rows
+  pub one : length (rows e-record) ≡ 1
 
 -- ---- fields
 
