@@ -18,7 +18,8 @@ use Rattle.meaning.specs.Lists.{chunks, every, every-from, exists}
 use Rattle.meaning.specs.Rules.{after-rule-0, failing-rule, failing-rule-of}
 use Rattle.meaning.specs.Tree.{trans-row, var-row}
 use Rattle.meaning.specs.Value.{STATES-AT, STATE-ROW, VARS-AT, VAR-ROW, TRANSITIONS-AT, TRANS-ROW, ACTIONS-AT, ACT-ROW, VALUE}
-use Rattle.meaning.specs.Value.{Part, laid, PARTS, same-part, num, is-letter, is-absent, one-of-letters, state-by, var-by, guard-by, trans-by}
+use Rattle.meaning.specs.Value.{Part, laid, PARTS, same-part, num, is-letter, is-absent, one-of-letters, state-by, var-by, guard-by}
+use Rattle.meaning.specs.Value.{trans-by}
 use Rattle.meaning.specs.Value.{act-by, action-by, chart-by, chart-of, size-by, rows-of, count-fits, fits, statable, part-fits, rule-0}
 use Rattle.meaning.specs.declared.chart.Act.{Act}
 use Rattle.meaning.specs.declared.chart.Act.the-variants.{AddTo as add-to, Send as send, SetTo as set-to, TakeTo as take-to, Tell as tell}

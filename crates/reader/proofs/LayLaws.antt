@@ -189,7 +189,8 @@ count-put t rows z f r n o =
     sized (counted q) = refl
     sized (laid q) = laid-sized rows f (laid q)
 
-    own : (a b : List ℤ) → sets (a ++ ((pos (t r) ∷ []) ++ b)) (length a + 0) (pos n ∷ []) ≡ a ++ (part-by (with-turn t r n) rows (counted r) ++ b)
+    own : (a b : List ℤ) → sets (a ++ ((pos (t r) ∷ []) ++ b)) (length a + 0) (pos n ∷ [])
+        ≡ a ++ (part-by (with-turn t r n) rows (counted r) ++ b)
     own a b = rw (same-self r, add-zero (length a)) (put-at a b (pos (t r)) (pos n))
 
 -- the counts of some kinds, the last one put first

@@ -97,7 +97,8 @@ none-two a b = decided (a + b) 0 (eqb a 0 && eqb b 0)
 module _ (t : Turns) (q : Record) where
   pub in-order-s : q ≡ s-record → eqb (t .vars + t .events + t .transitions + t .actions) 0 ≡ in-order (turn-of t) q
   unfolding in-order every exists
-  in-order-s e = rw (e, none-two, none-two, none-two) (go (eqb (t .vars) 0) (eqb (t .events) 0) (eqb (t .transitions) 0) (eqb (t .actions) 0))
+  in-order-s e =
+      rw (e, none-two, none-two, none-two) (go (eqb (t .vars) 0) (eqb (t .events) 0) (eqb (t .transitions) 0) (eqb (t .actions) 0))
     where
       go : (v e t a : Bool) → ((v && e) && t) && a ≡ (v && (e && (t && (a && true)))) && e
       go true true true true = refl

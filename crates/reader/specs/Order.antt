@@ -41,11 +41,16 @@ pub record KindOf (r : Record) (k : Kind) : Type 0 where
 
 -- what is counted after a line
 unfoldable pub turns-after : Record → Turns → Turns
-turns-after s-record t = record { states = t .states + 1; vars = t .vars; events = t .events; transitions = t .transitions; actions = t .actions }
-turns-after v-record t = record { states = t .states; vars = t .vars + 1; events = t .events; transitions = t .transitions; actions = t .actions }
-turns-after e-record t = record { states = t .states; vars = t .vars; events = t .events + 1; transitions = t .transitions; actions = t .actions }
-turns-after t-record t = record { states = t .states; vars = t .vars; events = t .events; transitions = t .transitions + 1; actions = t .actions }
-turns-after a-record t = record { states = t .states; vars = t .vars; events = t .events; transitions = t .transitions; actions = t .actions + 1 }
+turns-after s-record t =
+    record { states = t .states + 1; vars = t .vars; events = t .events; transitions = t .transitions; actions = t .actions }
+turns-after v-record t =
+    record { states = t .states; vars = t .vars + 1; events = t .events; transitions = t .transitions; actions = t .actions }
+turns-after e-record t =
+    record { states = t .states; vars = t .vars; events = t .events + 1; transitions = t .transitions; actions = t .actions }
+turns-after t-record t =
+    record { states = t .states; vars = t .vars; events = t .events; transitions = t .transitions + 1; actions = t .actions }
+turns-after a-record t =
+    record { states = t .states; vars = t .vars; events = t .events; transitions = t .transitions; actions = t .actions + 1 }
 turns-after no-record t = t
 
 -- the counts keep their sizes

@@ -355,7 +355,10 @@ module _ (r : Rows) (shaped : Shaped r) (sound : Sound-chart (chart-by r)) (size
   lines-few [] = omega arith
   lines-few (q ∷ qs) =
       let k = kind-short (text-of-row q) (LINE q) (most q) (r q) (line-short q) (shaped .fitting q .few) in
-      rw (ended-append (lines-of r q) (concat-map (lines-of r) qs), length-append (ended (lines-of r q)) (ended (concat-map (lines-of r) qs)))
+      rw (
+        ended-append (lines-of r q) (concat-map (lines-of r) qs),
+        length-append (ended (lines-of r q)) (ended (concat-map (lines-of r) qs)),
+      )
       (omega (arith, k, lines-few qs))
 
   rows-short : length (text-by r) ≤ TEXT

@@ -143,8 +143,13 @@ module _ (rows : Rows) (f : Fit rows) (z : List ℤ) where
       go true e h ih = record { rest = l; is = rw (e, same-part-true p q e) assoc }
       go false e h ih = record {
         rest = ih h .rest;
-        is = rw (e, assoc, ← drop-drop (begins qs p) (room-of q) (part-of rows q ++ l), drop-at (part-of rows q) l (room-of q) (part-length q))
-            (ih h .is);
+        is =
+            rw (
+              e,
+              assoc,
+              ← drop-drop (begins qs p) (room-of q) (part-of rows q ++ l),
+              drop-at (part-of rows q) l (room-of q) (part-length q),
+            ) (ih h .is);
       }
 
   -- ---- rows back from their value
@@ -152,7 +157,8 @@ module _ (rows : Rows) (f : Fit rows) (z : List ℤ) where
   abbrev v : List ℤ
   v = value-of rows ++ z
 
-  laid-at : (r : Record) → exists (same-part (laid r)) PARTS ≡ true → chunks (length (rows r)) (row-size r) (drop (place (laid r)) v) ≡ rows r
+  laid-at : (r : Record) → exists (same-part (laid r)) PARTS ≡ true
+      → chunks (length (rows r)) (row-size r) (drop (place (laid r)) v) ≡ rows r
   unfolding value-of
   laid-at r h =
       let w = from PARTS (laid r) h in
@@ -272,4 +278,5 @@ module _ (v : List ℤ) (keeps : rule-0 v ≡ true) where
       all e-record = fitting-of e-record refl
       all t-record = fitting-of t-record refl
       all a-record = fitting-of a-record refl
-      all no-record = subst (Fitting no-record) (nothing (rows-of v no-record) (rw chunks-length (many-few no-record))) (fitting-none no-record)
+      all no-record =
+          subst (Fitting no-record) (nothing (rows-of v no-record) (rw chunks-length (many-few no-record))) (fitting-none no-record)

@@ -15,9 +15,10 @@ use Rattle.laws.proofs.Parts.{same-true, named-is, every-record}
 use Rattle.meaning.specs.Lists.{every, exists, concat-map, map-from}
 use Rattle.meaning.specs.Value.{Rows}
 use Rattle.meaning.specs.Split.{LF, fields, lines, tails, ended}
-use Rattle.meaning.specs.Grammar.{Record, e-record, ORDER, most, same}
+use Rattle.meaning.specs.Grammar.{Record, e-record, ORDER, name, most, same}
 use Rattle.meaning.specs.Line.{Line, letter-of, field, behind-in, later, in-order, line-in-order, line-of, text-of-row}
-use Rattle.meaning.specs.Text.{done, refused, turns-of, with-row, further, record-of, ending, walk, no-rows, lines-of, read-unless, read-text, text-by}
+use Rattle.meaning.specs.Text.{done, refused, turns-of, with-row, further, record-of, ending, walk, no-rows, lines-of}
+use Rattle.meaning.specs.Text.{read-unless, read-text, text-by}
 use Rattle.round_trip.proofs.Numbers.{no}
 use Rattle.round_trip.proofs.Splits.{glued, glued-lines, ended-append}
 use Rattle.round_trip.proofs.Fields.{Good, zero-good}
@@ -125,7 +126,7 @@ module _ (rows : Rows) (s : Sound rows) (l : List ℕ) where
   in-order-kept r true e o g =
       let h : length (rows r) < most r = row-room r (length (rows r)) (fields l) g in
       let n = named-is (letter-of (field (fields l) 0)) (length (rows r)) (subst (λ q. length (rows r) < most q) e h) in
-      row-step r _ (and-left (none-in rows (later r)) _ o) (row-kept r (length (rows r)) l (n ∙ ap Rattle.meaning.specs.Grammar.name (sym e)) g)
+      row-step r _ (and-left (none-in rows (later r)) _ o) (row-kept r (length (rows r)) l (n ∙ ap name (sym e)) g)
 
   line-kept : Good (line-of (record-of (fields l)) (turns-of rows) (fields l) .mark)
       → Step rows l (with-row (record-of (fields l)) (line-of (record-of (fields l)) (turns-of rows) (fields l) .row) rows)
@@ -172,7 +173,8 @@ walk-kept n rows (line ∷ next ∷ rest) r s e = go (x .mark) refl e (λ more t
     x = line-of k (turns-of rows) (fields line)
 
     go : (m : ℕ) → x .mark ≡ m → further m n (with-row k (x .row) rows) (λ more. walk (n + 1) more (next ∷ rest)) ≡ done r
-        → ((more : Rows) → Sound more → walk (n + 1) more (next ∷ rest) ≡ done r → Kept more (next ∷ rest) r) → Kept rows (line ∷ next ∷ rest) r
+        → ((more : Rows) → Sound more → walk (n + 1) more (next ∷ rest) ≡ done r → Kept more (next ∷ rest) r)
+        → Kept rows (line ∷ next ∷ rest) r
     go zero h e ih =
         let st = line-kept rows s line (zero-good (x .mark) h) in
         let more : Rows = with-row k (x .row) rows in

@@ -60,7 +60,8 @@ module _ (r : Record) (rows : Rows) (fresh : rows r ≡ []) where
   unfolding with-row
   one-more ys x = fun-ext (λ q. go (same r q) (rows q))
     where
-      go : (t : Bool) (zs : List (List ℤ)) → cond t (cond t (zs ++ ys) zs ++ (x ∷ [])) (cond t (zs ++ ys) zs) ≡ cond t (zs ++ (ys ++ (x ∷ []))) zs
+      go : (t : Bool) (zs : List (List ℤ)) → cond t (cond t (zs ++ ys) zs ++ (x ∷ [])) (cond t (zs ++ ys) zs)
+          ≡ cond t (zs ++ (ys ++ (x ∷ []))) zs
       go true zs = append-assoc zs ys (x ∷ [])
       go false zs = refl
 
@@ -71,7 +72,9 @@ module _ (r : Record) (rows : Rows) (fresh : rows r ≡ []) where
       go true zs = sym (append-nil zs)
       go false zs = refl
 
-  module _ (whole : List (List ℤ)) (opens : (ys : List (List ℤ)) → length ys < length whole → in-order (turns-of (with-rows r ys rows)) r ≡ true) where
+  module _
+      (whole : List (List ℤ))
+      (opens : (ys : List (List ℤ)) → length ys < length whole → in-order (turns-of (with-rows r ys rows)) r ≡ true) where
     row-goes : (ys : List (List ℤ)) (x : List ℤ) → length ys < length whole → statable r (length ys) x ≡ true → length x ≡ row-size r
         → length ys < most r → Goes (with-rows r ys rows) (text-of-row r (length ys) x) (with-rows r (ys ++ (x ∷ [])) rows)
     unfolding line-of statable
@@ -129,11 +132,15 @@ module _ (r : Rows) (s : Shaped r) where
   all-read : Reads no-rows (concat-map (lines-of r) ORDER) all
   unfolding concat-map in-order every exists
   all-read =
-      then (kind-read s-record no-rows refl (r s-record) (λ ys h. refl) (s .fitting s-record))
-      (then (kind-read v-record (of (s-record ∷ [])) refl (r v-record) (λ ys h. refl) (s .fitting v-record))
-      (then (kind-read e-record (of (v-record ∷ s-record ∷ [])) refl (r e-record) (λ ys h. rw (no-row-yet ys h)) (s .fitting e-record))
-      (then (kind-read t-record (of (e-record ∷ v-record ∷ s-record ∷ [])) refl (r t-record) (λ ys h. rw (s .one)) (s .fitting t-record))
-      (then (kind-read a-record (of (t-record ∷ e-record ∷ v-record ∷ s-record ∷ [])) refl (r a-record) (λ ys h. rw (s .one)) (s .fitting a-record)) none))))
+      then (next [] s-record refl (λ ys h. refl)) (then (next (s-record ∷ []) v-record refl (λ ys h. refl))
+      (then (next (v-record ∷ s-record ∷ []) e-record refl (λ ys h. rw (no-row-yet ys h)))
+      (then (next (e-record ∷ v-record ∷ s-record ∷ []) t-record refl (λ ys h. rw (s .one)))
+      (then (next (t-record ∷ e-record ∷ v-record ∷ s-record ∷ []) a-record refl (λ ys h. rw (s .one))) none))))
+    where
+      next : (qs : List Record) (q : Record) → of qs q ≡ []
+          → ((ys : List (List ℤ)) → length ys < length (r q) → in-order (turns-of (with-rows q ys (of qs))) q ≡ true)
+          → Reads (of qs) (lines-of r q) (of (q ∷ qs))
+      next qs q fresh opens = kind-read q (of qs) fresh (r q) opens (s .fitting q)
 
   all-rows : all ≡ r
   all-rows = fun-ext go

@@ -18,8 +18,8 @@ mul-at c =
 
 add-at : tie.Need-add-at
 add-at c =
-    let w = place-within _ _ _ _ (then1-from-known (c .before) .before .before .before .pre .2) (c .before .before .before .before .turn .ensures)
-    (c .before .before .before .kind-of .ensures) in
+    let w = place-within _ _ _ _ (then1-from-known (c .before) .before .before .before .pre .2)
+    (c .before .before .before .before .turn .ensures) (c .before .before .before .kind-of .ensures) in
     let h = w .2 in
     record { fits = omega arith }
 

@@ -1,7 +1,7 @@
 -- `reader::order::placed`: whether the kind that a letter names stands in its place. Assumes nothing.
 use borrow.Author.Needs.{needs}
-use Rattle.reader.proofs.OrderLaws.{is-s, is-v, is-e, is-t, is-a, is-none, in-order-s, in-order-v, in-order-e, in-order-t, in-order-a}
-use Rattle.reader.proofs.OrderLaws.{in-order-none}
+use Rattle.reader.proofs.OrderLaws.{is-s, is-v, is-e, is-t, is-a, is-none, in-order-s, in-order-v, in-order-e}
+use Rattle.reader.proofs.OrderLaws.{in-order-t, in-order-a, in-order-none}
 use Rattle.reader.proofs.order.placed.Statement.{statement}
 use Rattle.reader.proofs.order.placed.Tie as tie
 
