@@ -11,13 +11,13 @@ use lib.Dec.{leb}
 use lib.IntN.{negsuc, pos, ℤ}
 use borrow.Author.Tests.{leb-true}
 use Rattle.laws.proofs.Lists.{and-left, and-right, every-from-at}
-use Rattle.laws.proofs.Parts.{every-part}
-use Rattle.meaning.specs.Grammar.{Record, v-record, e-record, t-record, a-record, bytes, guard, target}
+use Rattle.laws.proofs.Parts.{same-true, every-part}
+use Rattle.meaning.specs.Grammar.{Record, s-record, v-record, e-record, t-record, a-record, bytes, guard, target, most, row-size, same}
 use Rattle.meaning.specs.Chart.{Chart, no-action, no-trans, no-var}
 use Rattle.meaning.specs.Lists.{chunks, every, every-from, exists}
 use Rattle.meaning.specs.Rules.{after-rule-0, failing-rule, failing-rule-of}
 use Rattle.meaning.specs.Tree.{trans-row, var-row}
-use Rattle.meaning.specs.Value.{STATES-AT, STATE-ROW, VARS-AT, VAR-ROW, TRANSITIONS-AT, TRANS-ROW, ACTIONS-AT, ACT-ROW, VALUE}
+use Rattle.meaning.specs.Value.{VALUE, counted, place, how-many}
 use Rattle.meaning.specs.Value.{Part, laid, PARTS, same-part, num, is-letter, is-absent, one-of-letters, state-by, var-by, guard-by}
 use Rattle.meaning.specs.Value.{trans-by}
 use Rattle.meaning.specs.Value.{act-by, action-by, chart-by, chart-of, size-by, rows-of, count-fits, fits, statable, part-fits, rule-0}
@@ -79,6 +79,14 @@ size-by-most most z = go (leb (ref z) most) refl
     go : (b : Bool) → leb (ref z) most ≡ b → cond b (ref z) 0 ≤ most
     go true e = leb-true _ _ e
     go false e = omega arith
+
+-- of a kind there are never too many
+pub many-few : (v : List ℤ) (r : Record) → how-many v r ≤ most r
+many-few v r = go (same r e-record) refl
+  where
+    go : (t : Bool) → same r e-record ≡ t → cond t 1 (size-by (most r) (num v (place (counted r)))) ≤ most r
+    go true e = rw (same-true r e-record e) (omega arith)
+    go false e = size-by-most (most r) (num v (place (counted r)))
 
 ref-most : (most : ℕ) (z : ℤ) → count-fits 0 most z ≡ true → ref z ≤ most
 ref-most most (pos n) e = leb-true n most (and-right (leb 0 n) (leb n most) e)
@@ -189,19 +197,21 @@ module _ (v : List ℤ) (e : rule-0 v ≡ true) where
       let k : i < length (rows-of v r) = rw (length-map (rows-of v r) f) at l in
       subst P (sym (getD-map f (rows-of v r) i d [] k)) (g i (getD (rows-of v r) i []) (row-ok r h i k))
 
-  few-rows : {A : Type 0} (f : List ℤ → A) (most k : ℕ) (z : ℤ) (l : List ℤ) → length (map f (chunks (size-by most z) k l)) ≤ most
-  few-rows f most k z l = rw (length-map (chunks (size-by most z) k l) f, length-chunks (size-by most z) k l) (size-by-most most z)
+  few-rows : {A : Type 0} (f : List ℤ → A) (r : Record) → length (map f (rows-of v r)) ≤ most r
+  unfolding rows-of
+  few-rows f r =
+      rw (length-map (rows-of v r) f, length-chunks (how-many v r) (row-size r) (drop (place (laid r)) v)) (many-few v r)
 
   -- it states a chart of 01's sizes
   pub sized-chart : Sized-chart (chart-of v)
   unfolding chart-of chart-by rows-of statable every-from exists var-row trans-row chunks
   sized-chart = record {
-    states = few-rows state-by STATES STATE-ROW (num v 0) (drop STATES-AT v);
-    vars = few-rows var-by VARIABLES VAR-ROW (num v 1) (drop VARS-AT v);
+    states = few-rows state-by s-record;
+    vars = few-rows var-by v-record;
     events = let row : List ℤ = take 1 (drop 2 v) in
         ref-most EVENTS (num row 0) (and-left (count-fits 0 EVENTS (num row 0)) true (part-ok (laid e-record) refl));
-    transitions = few-rows trans-by TRANSITIONS TRANS-ROW (num v 3) (drop TRANSITIONS-AT v);
-    actions = few-rows action-by ACTIONS ACT-ROW (num v 4) (drop ACTIONS-AT v);
+    transitions = few-rows trans-by t-record;
+    actions = few-rows action-by a-record;
     rows-range = all-rows Row-in-range var-by v-record no-var refl (λ i. row-range);
     guards-range = all-rows (λ x. Guard-in-range (x .guard)) trans-by t-record no-trans refl (λ i. guard-range);
     acts-range = all-rows (λ x. Act-in-range (x .act)) action-by a-record no-action refl (λ i. act-range);

@@ -202,19 +202,13 @@ counts-of rows (r ∷ rs) = with-turn (counts-of rows rs) r (length (rows r))
 pub counted-numbers : (rows : Rows) (z : List ℤ) → Fit rows → with-counts (turns-in rows) (laid-out rows z) ≡ value-of rows ++ z
 unfolding with-counts laid-out value-of concat-map exists
 counted-numbers rows z f =
-    ap (λ (l : List ℤ). set (set (set l 1 v) 3 t) 4 a) (put [] s-record refl)
-    ∙ ap (λ (l : List ℤ). set (set l 3 t) 4 a) (put (s-record ∷ []) v-record refl)
-    ∙ ap (λ (l : List ℤ). set l 4 a) (put (v-record ∷ s-record ∷ []) t-record refl)
+    ap (λ (l : List ℤ). with-count (with-count (with-count l v-record) t-record) a-record) (put [] s-record refl)
+    ∙ ap (λ (l : List ℤ). with-count (with-count l t-record) a-record) (put (s-record ∷ []) v-record refl)
+    ∙ ap (λ (l : List ℤ). with-count l a-record) (put (v-record ∷ s-record ∷ []) t-record refl)
     ∙ put (t-record ∷ v-record ∷ s-record ∷ []) a-record refl
   where
-    v : ℤ
-    v = pos (length (rows v-record))
-
-    t : ℤ
-    t = pos (length (rows t-record))
-
-    a : ℤ
-    a = pos (length (rows a-record))
+    with-count : List ℤ → Record → List ℤ
+    with-count l r = set l (place (counted r)) (pos (length (rows r)))
 
     put : (rs : List Record) (r : Record) → once PARTS (counted r) ≡ true
         → set (concat-map (part-by (counts-of rows rs) rows) PARTS ++ z) (place (counted r)) (pos (length (rows r)))

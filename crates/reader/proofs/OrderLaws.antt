@@ -17,7 +17,7 @@ use Rattle.numerals.proofs.Signed.{back32}
 use borrow.Author.Tests.{eqb-true, eq-eqb, ne-eqb}
 use Rattle.laws.proofs.Lists.{and-left, and-right, and-both}
 use Rattle.meaning.specs.Lists.{every, exists}
-use Rattle.meaning.specs.Value.{laid, place, VALUE}
+use Rattle.meaning.specs.Value.{counted, laid, place, VALUE}
 use Rattle.meaning.specs.Grammar.{Record, s-record, v-record, e-record, t-record, a-record, no-record, form, most, row-size, record-by}
 use Rattle.meaning.specs.Line.{line, beside, room, rest-of, read-by, in-order, line-by, line-of}
 use Rattle.forms.specs.Table.{form-at}
@@ -169,9 +169,9 @@ counts q r t u e h = rw e h
 pub count-set : (l : List ℤ) (at n : ℕ) (z : ℤ) → z ≡ pos n → n < NOWHERE → set l at (toZ w32 (ofZ w32 z)) ≡ set l at (pos n)
 count-set l at n z e h = rw (e, back32 (pos n) h)
 
-pub counts-set : (t : Turns) (l a b c d : List ℤ) → a ≡ set l 0 (pos (t .states)) → b ≡ set a 1 (pos (t .vars))
-    → c ≡ set b 3 (pos (t .transitions))
-    → d ≡ set c 4 (pos (t .actions)) → d ≡ with-counts t l
+pub counts-set : (t : Turns) (l a b c d : List ℤ) → a ≡ set l (place (counted s-record)) (pos (t .states))
+    → b ≡ set a (place (counted v-record)) (pos (t .vars)) → c ≡ set b (place (counted t-record)) (pos (t .transitions))
+    → d ≡ set c (place (counted a-record)) (pos (t .actions)) → d ≡ with-counts t l
 unfolding with-counts
 counts-set t l a b c d ea eb ec ed = rw (ed, ec, eb, ea)
 

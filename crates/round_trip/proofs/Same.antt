@@ -10,7 +10,7 @@ use lib.IntN.{ℤ, pos}
 use lib.ListN.{length, drop, replicate, length-drop, List·getD-append, getD-replicate}
 use lib.Seq.{getD-take, getD-drop, getD-append-add}
 use Rattle.numbers.specs.Reference.{ref}
-use Rattle.laws.proofs.Value.{part-ok}
+use Rattle.laws.proofs.Value.{part-ok, many-few}
 use Rattle.meaning.specs.Grammar.{Record, s-record, v-record, e-record, t-record, a-record, no-record, most, row-size, same}
 use Rattle.meaning.specs.Lists.{exists, padded, chunks}
 use Rattle.meaning.specs.Value.{num, counted, laid, PARTS, same-part, place, VALUE, how-many, rows-of, least, rule-0}
@@ -18,7 +18,7 @@ use Rattle.meaning.specs.Text.{flat, area, value-of}
 use Rattle.round_trip.specs.Rows.{Fit}
 use Rattle.round_trip.proofs.Shaped.{shaped-fit}
 use Rattle.round_trip.proofs.Values.{flat-length, flat-chunks, chunks-length, chunks-long, area-length, size-is, laid-from, count-of}
-use Rattle.round_trip.proofs.Values.{value-length, counted-is, many-few, rows-within, value-shaped}
+use Rattle.round_trip.proofs.Values.{value-length, counted-is, rows-within, value-shaped}
 
 -- ---- one kind's rows
 
@@ -84,7 +84,7 @@ module _ (v : List ℤ) (keeps : rule-0 v ≡ true) where
   rows-same : (r : Record) → exists (same-part (laid r)) PARTS ≡ true → SameRows v w (place (laid r)) (most r) (row-size r) (how-many v r)
   unfolding rows-of
   rows-same r h =
-      let few = many-few v keeps r in
+      let few = many-few v r in
       let within = rows-within v keeps r h in
       let f = laid-from (rows-of v) fit r h in
       record {

@@ -16,7 +16,7 @@ use Rattle.sizes.specs.Sizes.{LEAST-STATES}
 use Rattle.numbers.specs.Reference.{ref}
 use Rattle.laws.proofs.Lists.{and-left, and-right}
 use Rattle.laws.proofs.Parts.{same-true, same-part-true, part-every}
-use Rattle.laws.proofs.Value.{part-ok}
+use Rattle.laws.proofs.Value.{part-ok, many-few, size-by-most}
 use Rattle.meaning.specs.Grammar.{Record, s-record, v-record, e-record, t-record, a-record, no-record, most, row-size, same}
 use Rattle.meaning.specs.Lists.{every, exists, every-from, concat-map, padded, chunks}
 use Rattle.meaning.specs.Value.{Rows, Part, counted, laid, PARTS, room-of, room-in, same-part, begins, place, VALUE, num}
@@ -104,14 +104,6 @@ pub size-is : (most n : ℕ) → n ≤ most → size-by most (pos n) ≡ n
 unfolding size-by
 size-is most n h = rw (le-leb n most h)
 
-pub size-few : (most : ℕ) (z : ℤ) → size-by most z ≤ most
-unfolding size-by
-size-few most z = go (leb (ref z) most) refl
-  where
-    go : (t : Bool) → leb (ref z) most ≡ t → cond t (ref z) 0 ≤ most
-    go true e = leb-true (ref z) most e
-    go false e = omega arith
-
 module _ (rows : Rows) (f : Fit rows) (z : List ℤ) where
   part-length : (p : Part) → length (part-of rows p) ≡ room-of p
   part-length (counted r) = refl
@@ -183,7 +175,7 @@ module _ (rows : Rows) (f : Fit rows) (z : List ℤ) where
     back-at t-record = rw (size-at t-record refl) (laid-at t-record refl)
     back-at a-record = rw (size-at a-record refl) (laid-at a-record refl)
     back-at no-record =
-        sym (nothing (rows-of v no-record) (rw chunks-length (size-few 0 (num v VALUE)))) ∙ nothing (rows no-record) (f .few no-record)
+        sym (nothing (rows-of v no-record) (rw chunks-length (size-by-most 0 (num v VALUE)))) ∙ nothing (rows no-record) (f .few no-record)
 
     pub rows-back : rows-of v ≡ rows
     rows-back = fun-ext back-at
@@ -245,17 +237,10 @@ module _ (v : List ℤ) (keeps : rule-0 v ≡ true) where
   unfolding rule-0
   enough = leb-true VALUE (length v) (and-left (leb VALUE (length v)) (every (part-fits v) PARTS) keeps)
 
-  pub many-few : (r : Record) → how-many v r ≤ most r
-  many-few r = go (same r e-record) refl
-    where
-      go : (t : Bool) → same r e-record ≡ t → cond t 1 (size-by (most r) (num v (place (counted r)))) ≤ most r
-      go true e = rw (same-true r e-record e) (omega arith)
-      go false e = size-few (most r) (num v (place (counted r)))
-
   -- the numbers of a kind's rows
   pub rows-within : (r : Record) → exists (same-part (laid r)) PARTS ≡ true → how-many v r * row-size r ≤ length (drop (place (laid r)) v)
   rows-within r h =
-      let m : how-many v r * row-size r ≤ most r * row-size r = mul-le-mul-right (row-size r) (many-few r) in
+      let m : how-many v r * row-size r ≤ most r * row-size r = mul-le-mul-right (row-size r) (many-few v r) in
       let e = enough in
       let w = part-within PARTS (laid r) h in
       rw (length-drop (place (laid r)) v) (omega arith)
@@ -265,7 +250,7 @@ module _ (v : List ℤ) (keeps : rule-0 v ≡ true) where
   fitting-of r h = record {
     ok = part-ok v keeps (laid r) h;
     long = chunks-long (how-many v r) (row-size r) (drop (place (laid r)) v) (rows-within r h);
-    few = rw (chunks-length (how-many v r) (row-size r) (drop (place (laid r)) v)) (many-few r);
+    few = rw (chunks-length (how-many v r) (row-size r) (drop (place (laid r)) v)) (many-few v r);
   }
 
   pub value-shaped : Shaped (rows-of v)
@@ -279,4 +264,4 @@ module _ (v : List ℤ) (keeps : rule-0 v ≡ true) where
       all t-record = fitting-of t-record refl
       all a-record = fitting-of a-record refl
       all no-record =
-          subst (Fitting no-record) (nothing (rows-of v no-record) (rw chunks-length (many-few no-record))) (fitting-none no-record)
+          subst (Fitting no-record) (nothing (rows-of v no-record) (rw chunks-length (many-few v no-record))) (fitting-none no-record)
