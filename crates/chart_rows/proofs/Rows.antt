@@ -26,7 +26,8 @@ use Rattle.meaning.specs.Chart.{Chart, no-state, no-var, no-trans, no-action}
 use Rattle.meaning.specs.Tree.{state-row, parent-of, kind-of, default-child, var-row, trans-row}
 use Rattle.meaning.specs.Value.{num, STATE-ROW, VAR-ROW, TRANS-ROW, ACT-ROW, STATES-AT, VARS-AT, TRANSITIONS-AT, ACTIONS-AT}
 use Rattle.meaning.specs.Value.{ref-or-none, kind-by, state-by, var-by, guard-by, target-by, trans-by, owner-by, act-by, action-by}
-use Rattle.meaning.specs.Value.{chart-by, size-by, rows-of, chart-of}
+use Rattle.meaning.specs.Grammar.{s-record, v-record, t-record, a-record}
+use Rattle.meaning.specs.Value.{counted, place, chart-by, size-by, rows-of, chart-of}
 
 -- ---- chunks
 
@@ -86,34 +87,38 @@ size-most most z = go (leb (ref z) most) refl
     go false e = omega arith
 
 module _ (v : List ℤ) where
-  pub states-count : length (chart-of v .states) ≡ size-by STATES (num v 0)
+  pub states-count : length (chart-of v .states) ≡ size-by STATES (num v (place (counted s-record)))
   unfolding chart-of chart-by rows-of
   states-count = length-rows state-by _ _ _
 
-  pub vars-count : length (chart-of v .vars) ≡ size-by VARIABLES (num v 1)
+  pub vars-count : length (chart-of v .vars) ≡ size-by VARIABLES (num v (place (counted v-record)))
   unfolding chart-of chart-by rows-of
   vars-count = length-rows var-by _ _ _
 
-  pub transitions-count : length (chart-of v .transitions) ≡ size-by TRANSITIONS (num v 3)
+  pub transitions-count : length (chart-of v .transitions) ≡ size-by TRANSITIONS (num v (place (counted t-record)))
   unfolding chart-of chart-by rows-of
   transitions-count = length-rows trans-by _ _ _
 
-  pub actions-count : length (chart-of v .actions) ≡ size-by ACTIONS (num v 4)
+  pub actions-count : length (chart-of v .actions) ≡ size-by ACTIONS (num v (place (counted a-record)))
   unfolding chart-of chart-by rows-of
   actions-count = length-rows action-by _ _ _
 
+  pub events-count : chart-of v .events ≡ ref (num v 2)
+  unfolding chart-of chart-by rows-of chunks
+  events-count = ap ref (num-first 1 2 v (omega arith))
+
   -- what a value states is never more than its size
   pub states-most : length (chart-of v .states) ≤ STATES
-  states-most = rw states-count (size-most STATES (num v 0))
+  states-most = rw states-count (size-most STATES (num v (place (counted s-record))))
 
   pub vars-most : length (chart-of v .vars) ≤ VARIABLES
-  vars-most = rw vars-count (size-most VARIABLES (num v 1))
+  vars-most = rw vars-count (size-most VARIABLES (num v (place (counted v-record))))
 
   pub transitions-most : length (chart-of v .transitions) ≤ TRANSITIONS
-  transitions-most = rw transitions-count (size-most TRANSITIONS (num v 3))
+  transitions-most = rw transitions-count (size-most TRANSITIONS (num v (place (counted t-record))))
 
   pub actions-most : length (chart-of v .actions) ≤ ACTIONS
-  actions-most = rw actions-count (size-most ACTIONS (num v 4))
+  actions-most = rw actions-count (size-most ACTIONS (num v (place (counted a-record))))
 
 -- ---- the rows
 
@@ -150,7 +155,7 @@ module _ (c : Chart) where
 module _ (v : List ℤ) (i : ℕ) where
   pub state-at : i < length (chart-of v .states) → state-row (chart-of v) i ≡ state-by (take STATE-ROW (drop (STATES-AT + i * STATE-ROW) v))
   unfolding state-row chart-of chart-by rows-of
-  state-at h = row-at state-by (size-by STATES (num v 0)) STATE-ROW STATES-AT v i no-state (rw (states-count v) at h)
+  state-at h = row-at state-by (size-by STATES (num v (place (counted s-record)))) STATE-ROW STATES-AT v i no-state (rw (states-count v) at h)
 
   pub parent-at : i < length (chart-of v .states) → parent-of (chart-of v) i ≡ ref-or-none (getD v (STATES-AT + i * STATE-ROW) (pos 0))
   unfolding parent-of state-by
@@ -169,17 +174,17 @@ module _ (v : List ℤ) (i : ℕ) where
 
   pub var-at : i < length (chart-of v .vars) → var-row (chart-of v .vars) i ≡ var-by (take VAR-ROW (drop (VARS-AT + i * VAR-ROW) v))
   unfolding var-row chart-of chart-by rows-of
-  var-at h = row-at var-by (size-by VARIABLES (num v 1)) VAR-ROW VARS-AT v i no-var (rw (vars-count v) at h)
+  var-at h = row-at var-by (size-by VARIABLES (num v (place (counted v-record)))) VAR-ROW VARS-AT v i no-var (rw (vars-count v) at h)
 
   pub trans-at : i < length (chart-of v .transitions)
       → trans-row (chart-of v) i ≡ trans-by (take TRANS-ROW (drop (TRANSITIONS-AT + i * TRANS-ROW) v))
   unfolding trans-row chart-of chart-by rows-of
-  trans-at h = row-at trans-by (size-by TRANSITIONS (num v 3)) TRANS-ROW TRANSITIONS-AT v i no-trans (rw (transitions-count v) at h)
+  trans-at h = row-at trans-by (size-by TRANSITIONS (num v (place (counted t-record)))) TRANS-ROW TRANSITIONS-AT v i no-trans (rw (transitions-count v) at h)
 
   pub action-at : i < length (chart-of v .actions)
       → getD (chart-of v .actions) i no-action ≡ action-by (take ACT-ROW (drop (ACTIONS-AT + i * ACT-ROW) v))
   unfolding chart-of chart-by rows-of
-  action-at h = row-at action-by (size-by ACTIONS (num v 4)) ACT-ROW ACTIONS-AT v i no-action (rw (actions-count v) at h)
+  action-at h = row-at action-by (size-by ACTIONS (num v (place (counted a-record)))) ACT-ROW ACTIONS-AT v i no-action (rw (actions-count v) at h)
 
 -- a row field by field, from the place where it begins
 module _ (v : List ℤ) (b : ℕ) where

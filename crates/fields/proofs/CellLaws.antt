@@ -54,27 +54,36 @@ module _ (v : Num) (z : ℤ) (e : v ≡ Is z) (f : mag z < 2 ^ 31) where
       go (pos n) h = refl
       go (negsuc n) h = absurd (true≢false h)
 
-  pub count-neg : ltZ (toZ w32 (ofZ w32 z)) (pos 0) ≡ true → beyond ≡ count-line 0 32 v
-  count-neg h = rw e (go z (rw (back32 z f) at h))
-    where
-      go : (z : ℤ) → ltZ z (pos 0) ≡ true → beyond ≡ count-line 0 32 (Is z)
-      go (pos n) h = let k = ltb-true n 0 h in absurd (omega arith)
-      go (negsuc n) h = refl
-
-  module _ (g : ltZ (toZ w32 (ofZ w32 z)) (pos 0) ≡ false) where
-    pub count-in : natAbs (toZ w32 (ofZ w32 z)) ≤ EVENTS → line 0 (toZ w32 (ofZ w32 z) ∷ []) ≡ count-line 0 32 v
-    count-in h = rw (e, back32 z f) (go z (rw (back32 z f) at g) (rw (back32 z f) at h))
+  module _ (low high : ℕ) where
+    pub count-neg : ltZ (toZ w32 (ofZ w32 z)) (pos 0) ≡ true → beyond ≡ count-line low high v
+    count-neg h = rw e (go z (rw (back32 z f) at h))
       where
-        go : (z : ℤ) → ltZ z (pos 0) ≡ false → natAbs z ≤ EVENTS → line 0 (z ∷ []) ≡ count-line 0 32 (Is z)
-        go (pos n) g h = rw (le-leb 0 n (omega arith), le-leb n EVENTS h)
-        go (negsuc n) g h = absurd (true≢false g)
+        go : (z : ℤ) → ltZ z (pos 0) ≡ true → beyond ≡ count-line low high (Is z)
+        go (pos n) h = let k = ltb-true n 0 h in absurd (omega arith)
+        go (negsuc n) h = refl
 
-    pub count-past : EVENTS < natAbs (toZ w32 (ofZ w32 z)) → beyond ≡ count-line 0 32 v
-    count-past h = rw e (go z (rw (back32 z f) at g) (rw (back32 z f) at h))
-      where
-        go : (z : ℤ) → ltZ z (pos 0) ≡ false → EVENTS < natAbs z → beyond ≡ count-line 0 32 (Is z)
-        go (pos n) g h = rw (le-leb 0 n (omega arith), lt-leb n EVENTS h)
-        go (negsuc n) g h = refl
+    module _ (g : ltZ (toZ w32 (ofZ w32 z)) (pos 0) ≡ false) where
+      pub count-low : natAbs (toZ w32 (ofZ w32 z)) < low → beyond ≡ count-line low high v
+      count-low h = rw e (go z (rw (back32 z f) at h))
+        where
+          go : (z : ℤ) → natAbs z < low → beyond ≡ count-line low high (Is z)
+          go (pos n) h = rw (lt-leb low n h)
+          go (negsuc n) h = refl
+
+      pub count-in : low ≤ natAbs (toZ w32 (ofZ w32 z)) → natAbs (toZ w32 (ofZ w32 z)) ≤ high
+          → line 0 (toZ w32 (ofZ w32 z) ∷ []) ≡ count-line low high v
+      count-in l h = rw (e, back32 z f) (go z (rw (back32 z f) at g) (rw (back32 z f) at l) (rw (back32 z f) at h))
+        where
+          go : (z : ℤ) → ltZ z (pos 0) ≡ false → low ≤ natAbs z → natAbs z ≤ high → line 0 (z ∷ []) ≡ count-line low high (Is z)
+          go (pos n) g l h = rw (le-leb low n l, le-leb n high h)
+          go (negsuc n) g l h = absurd (true≢false g)
+
+      pub count-past : low ≤ natAbs (toZ w32 (ofZ w32 z)) → high < natAbs (toZ w32 (ofZ w32 z)) → beyond ≡ count-line low high v
+      count-past l h = rw e (go z (rw (back32 z f) at l) (rw (back32 z f) at h))
+        where
+          go : (z : ℤ) → low ≤ natAbs z → high < natAbs z → beyond ≡ count-line low high (Is z)
+          go (pos n) l h = rw (le-leb low n l, lt-leb n high h)
+          go (negsuc n) l h = refl
 
 module _ (v : Num) where
   pub number-beyond : v ≡ Beyond → beyond ≡ number-line [] v
@@ -83,11 +92,11 @@ module _ (v : Num) where
   pub number-not : v ≡ Not → wrong ≡ number-line [] v
   number-not e = rw e
 
-  pub count-beyond : v ≡ Beyond → beyond ≡ count-line 0 32 v
-  count-beyond e = rw e
+  pub count-beyond : (low high : ℕ) → v ≡ Beyond → beyond ≡ count-line low high v
+  count-beyond low high e = rw e
 
-  pub count-not : v ≡ Not → wrong ≡ count-line 0 32 v
-  count-not e = rw e
+  pub count-not : (low high : ℕ) → v ≡ Not → wrong ≡ count-line low high v
+  count-not low high e = rw e
 
 module _ (k : ℕ) (v : Num) where
   pub target-beyond : v ≡ Beyond → beyond ≡ number-line (pos k ∷ []) v

@@ -112,16 +112,20 @@ fn target_said(letter: u8, v: Num) -> Said
     }
 }
 
-// The count of events: 0 to 32.
-fn count_said(v: Num) -> Said
-    ensures { λ r. ⌜ said r ≡ count-line 0 32 v ⌝ }
+// A number from one end to another.
+fn count_said(v: Num, low: usize, high: usize) -> Said
+    ensures { λ r. ⌜ said r ≡ count-line low high v ⌝ }
 {
     match v {
         Num::Is(z) => {
             if z < 0 {
                 return BEYOND;
             }
-            if (z as usize) <= EVENTS {
+            let n = z as usize;
+            if n < low {
+                return BEYOND;
+            }
+            if n <= high {
                 return Said {
                     mark: 0,
                     width: 1,
@@ -207,7 +211,7 @@ pub fn read_field(s: &[u8], from: usize, to: usize, field: u8, n: usize) -> Said
         STATE => target_said(0, number(s, from, to)),
         HISTORY => history_said(s, from, to),
         IN_PLACE => absent_if(whole(s, from, to) == b'-', 2),
-        EVENT_COUNT => count_said(number(s, from, to)),
+        EVENT_COUNT => count_said(number(s, from, to), 0, EVENTS),
         O => letter_said(whole(s, from, to), b"o"),
         AB => letter_said(whole(s, from, to), b"ab"),
         SIGN => letter_said(whole(s, from, to), b"=<>"),

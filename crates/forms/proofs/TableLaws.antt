@@ -261,7 +261,6 @@ module _ (k n : ℕ) where
   unfolding record-by
   entry-action e = rw e (action-form n)
 
-  pub entry-none : (k ≡ 83 → ⊥) → (k ≡ 86 → ⊥) → (k ≡ 69 → ⊥) → (k ≡ 84 → ⊥) → (k ≡ 65 → ⊥) → n < most (record-by k) → ⊥
+  pub entry-none : (k ≡ 83 → ⊥) → (k ≡ 86 → ⊥) → (k ≡ 69 → ⊥) → (k ≡ 84 → ⊥) → (k ≡ 65 → ⊥) → form-at 48 ≡ form (record-by k) n
   unfolding record-by
-  entry-none s v e t a h =
-      let z : n < 0 = rw (ne-eqb k 83 s, ne-eqb k 86 v, ne-eqb k 69 e, ne-eqb k 84 t, ne-eqb k 65 a) at h in omega arith
+  entry-none s v e t a = rw (ne-eqb k 83 s, ne-eqb k 86 v, ne-eqb k 69 e, ne-eqb k 84 t, ne-eqb k 65 a) (form-past 48 (omega arith))

@@ -3,7 +3,7 @@
 ghost use mathlib.Core.Path.{_≡_};
 ghost use Prim.Native.Nat.{_-_, _<_, _≤_};
 ghost use lib.ListN.{length, getD};
-ghost use Rattle.meaning.specs.Grammar.{width, form, most, record-by};
+ghost use Rattle.meaning.specs.Grammar.{width, form, record-by};
 ghost use Rattle.forms.specs.Table.{ENTRIES as entries, steps, fields, skips, field-of, form-at};
 
 // What an entry is.
@@ -100,7 +100,6 @@ pub fn width(field: u8) -> usize
 
 // Where the form of record n stands, of the kind that a letter names.
 pub fn entry(kind: u8, n: usize) -> usize
-    requires { ⌜ n < most (record-by kind) ⌝ }
     ensures { λ r. ⌜ (form-at r ≡ form (record-by kind) n) × (r ≤ entries) ⌝ }
 {
     match kind {

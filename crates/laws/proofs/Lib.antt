@@ -8,6 +8,7 @@ pub mod Rules
 pub mod Sound
 pub mod Reach
 pub mod Ways
+pub mod Parts
 pub mod Value
 pub mod Scope
 pub mod Stays

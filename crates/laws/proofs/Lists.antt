@@ -4,17 +4,21 @@ use mathlib.Core.Logic.{_⊎_, inl, inr, ⊎-elim}
 use Prim.Native.Nat.{_+_, _<_, _≤_, suc, zero, ℕ}
 use native.Mathlib.Omega.{arith}
 use native.Mathlib.Nat.{eq-or-lt-of-le}
-use mathlib.Core.Bool.{Bool, _&&_, _||_, cond, false, false≢true, true, true≢false}
+use mathlib.Core.Bool.{Bool, _&&_, _||_, cond, false, false≢true, not, true, true≢false}
 use mathlib.Core.List.{List, [], _++_, _∷_, map, reverse, reverseAux}
 use lib.ListN.{getD, length, replicate}
 use lib.Dec.{eqb, leb}
 use borrow.Author.Tests.{eqb-false, eqb-true, leb-false, leb-true}
 use Rattle.laws.specs.Facts.{Each, none-left, one-more}
-use Rattle.meaning.specs.Lists.{concat-map, every, from, keep}
+use Rattle.meaning.specs.Lists.{concat-map, every, every-from, from, keep}
 
 pub is-false : (b : Bool) → (b ≡ true → ⊥) → b ≡ false
 is-false true n = absurd (n refl)
 is-false false n = refl
+
+pub not-true : (b : Bool) → not b ≡ true → b ≡ false
+not-true true e = sym e
+not-true false e = refl
 
 pub and-left : (a b : Bool) → (a && b) ≡ true → a ≡ true
 and-left true b e = refl
@@ -131,6 +135,16 @@ module _ (p : ℕ → Bool) where
       go false e ih = ih
 
 -- ---- two numbers
+
+-- p of each element and its place
+pub every-from-at : {A : Type 0} (p : ℕ → A → Bool) (k : ℕ) (xs : List A) → every-from p k xs ≡ true → (i : ℕ) → i < length xs → (d : A)
+    → p (k + i) (getD xs i d) ≡ true
+unfolding every-from
+every-from-at p k [] e i l d = absurd (omega arith)
+every-from-at p k (x ∷ xs) e zero l d = let z : k + 0 ≡ k = omega arith in rw z (and-left (p k x) (every-from p (suc k) xs) e)
+every-from-at p k (x ∷ xs) e (suc i) l d =
+    let z : k + suc i ≡ suc k + i = omega arith in
+    rw z (every-from-at p (suc k) xs (and-right (p k x) (every-from p (suc k) xs) e) i (omega arith) d)
 
 pub le-or-lt : (m n : ℕ) → (m ≤ n) ⊎ (n < m)
 le-or-lt m n = go (leb m n) refl

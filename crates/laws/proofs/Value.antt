@@ -1,26 +1,26 @@
 -- A chart handed over as a value that keeps R0 (01, "Chart rules, in order"): its counts keep their sizes, and its constants,
 -- arguments and range ends lie in 01's range. Assumes nothing.
 use mathlib.Core.Path.{_∙_, _≡_, ap, refl, subst, sym}
-use Prim.Native.Nat.{_<_, _≤_, suc, zero, ℕ}
+use Prim.Native.Nat.{_<_, _+_, _≤_, suc, zero, ℕ}
 use native.Mathlib.Omega.{arith}
 use mathlib.Core.Bool.{Bool, _&&_, _||_, cond, false, false≢true, true, true≢false}
 use mathlib.Core.List.{List, [], _∷_, map}
 use mathlib.Core.Option.{none}
-use lib.ListN.{drop, getD, length, length-map}
+use lib.ListN.{drop, getD, length, length-map, take}
 use lib.Dec.{leb}
 use lib.IntN.{negsuc, pos, ℤ}
 use borrow.Author.Tests.{leb-true}
-use Rattle.laws.proofs.Lists.{and-left, and-right, every-at}
-use Rattle.meaning.specs.Grammar.{bytes, guard, target}
+use Rattle.laws.proofs.Lists.{and-left, and-right, every-from-at}
+use Rattle.laws.proofs.Parts.{same-true, every-part}
+use Rattle.meaning.specs.Grammar.{Record, s-record, v-record, e-record, t-record, a-record, bytes, guard, target, most, row-size, same}
 use Rattle.meaning.specs.Chart.{Chart, no-action, no-trans, no-var}
-use Rattle.meaning.specs.Lists.{chunks, every, every-from}
+use Rattle.meaning.specs.Lists.{chunks, every, every-from, exists}
 use Rattle.meaning.specs.Rules.{after-rule-0, failing-rule, failing-rule-of}
 use Rattle.meaning.specs.Tree.{trans-row, var-row}
-use Rattle.meaning.specs.Value.{ACT-ROW, ACTIONS-AT, Rows, STATE-ROW, STATES-AT, TRANS-ROW, TRANSITIONS-AT, VALUE, VAR-ROW, VARS-AT, act-by}
-use Rattle.meaning.specs.Value.{action-by, action-statable, chart-by, chart-of, count-fits, counts-fit, fits, guard-by, is-absent}
-use Rattle.meaning.specs.Value.{is-letter}
-use Rattle.meaning.specs.Value.{num, one-of-letters, rows-of, rows-statable, rule-0, size-by, state-by, state-statable}
-use Rattle.meaning.specs.Value.{trans-by, trans-statable, var-by, var-statable}
+use Rattle.meaning.specs.Value.{VALUE, counted, place, how-many}
+use Rattle.meaning.specs.Value.{Part, laid, PARTS, same-part, num, is-letter, is-absent, one-of-letters, state-by, var-by, guard-by}
+use Rattle.meaning.specs.Value.{trans-by}
+use Rattle.meaning.specs.Value.{act-by, action-by, chart-by, chart-of, size-by, rows-of, count-fits, fits, statable, part-fits, rule-0}
 use Rattle.meaning.specs.declared.chart.Act.{Act}
 use Rattle.meaning.specs.declared.chart.Act.the-variants.{AddTo as add-to, Send as send, SetTo as set-to, TakeTo as take-to, Tell as tell}
 use Rattle.meaning.specs.declared.chart.Guard.{Guard}
@@ -80,6 +80,14 @@ size-by-most most z = go (leb (ref z) most) refl
     go true e = leb-true _ _ e
     go false e = omega arith
 
+-- of a kind there are never too many
+pub many-few : (v : List ℤ) (r : Record) → how-many v r ≤ most r
+many-few v r = go (same r e-record) refl
+  where
+    go : (t : Bool) → same r e-record ≡ t → cond t 1 (size-by (most r) (num v (place (counted r)))) ≤ most r
+    go true e = rw (same-true r e-record e) (omega arith)
+    go false e = size-by-most (most r) (num v (place (counted r)))
+
 ref-most : (most : ℕ) (z : ℤ) → count-fits 0 most z ≡ true → ref z ≤ most
 ref-most most (pos n) e = leb-true n most (and-right (leb 0 n) (leb n most) e)
 ref-most most (negsuc n) e = absurd (false≢true e)
@@ -119,8 +127,8 @@ module _ (a x y : ℤ) (e : (one-of-letters (bytes "saq") a && (inRange x && inR
       go false false false true hs hp hq = second-range 113 hq refl refl
       go false false false false hs hp hq = first-range
 
-act-range : (row : List ℤ) → action-statable row ≡ true → Act-in-range (action-by row .act)
-unfolding action-statable action-by
+act-range : (row : List ℤ) → statable a-record 0 row ≡ true → Act-in-range (action-by row .act)
+unfolding statable action-by
 act-range row e =
     let l0 = (one-of-letters (bytes "saq") (num row 2) && (inRange (num row 3) && inRange (num row 4)))
     || (one-of-letters (bytes "ko") (num row 2) && (inRange (num row 3) && is-absent (num row 4))) in
@@ -154,14 +162,14 @@ module _
         go false false true hp hq hr = constant-range 62 hr refl
         go false false false hp hq hr = tt
 
-guard-range : (row : List ℤ) → trans-statable row ≡ true → Guard-in-range (trans-by row .guard)
-unfolding trans-statable trans-by
+guard-range : (row : List ℤ) → statable t-record 0 row ≡ true → Guard-in-range (trans-by row .guard)
+unfolding statable trans-by
 guard-range row e =
     guard-range-by (num row 2) (num row 3) (num row 4) (fits target 5 row)
     (and-right (inRange (num row 1)) (fits guard 2 row) (and-right (inRange (num row 0)) (inRange (num row 1) && fits guard 2 row) e))
 
-row-range : (row : List ℤ) → var-statable row ≡ true → Row-in-range (var-by row)
-unfolding var-statable var-by
+row-range : (row : List ℤ) → statable v-record 0 row ≡ true → Row-in-range (var-by row)
+unfolding statable var-by
 row-range row e =
     let f = and-right (inRange (num row 0)) (inRange (num row 1) && inRange (num row 2)) e in
     record {
@@ -170,65 +178,44 @@ row-range row e =
       first = and-right (inRange (num row 1)) (inRange (num row 2)) f;
     }
 
--- the rows of a value that can be stated
-module _ (r : Rows) (e : rows-statable r ≡ true) where
-  rest-1 : (every var-statable (r .vars) && (every trans-statable (r .transitions) && every action-statable (r .actions))) ≡ true
-  unfolding rows-statable
-  rest-1 = and-right (every-from state-statable 0 (r .states))
-      (every var-statable (r .vars) && (every trans-statable (r .transitions) && every action-statable (r .actions))) e
+-- a value that keeps R0: each part of it fits
+module _ (v : List ℤ) (e : rule-0 v ≡ true) where
+  pub part-ok : (p : Part) → exists (same-part p) PARTS ≡ true → part-fits v p ≡ true
+  unfolding rule-0
+  part-ok p h = every-part (part-fits v) PARTS (and-right (leb VALUE (length v)) (every (part-fits v) PARTS) e) p h
 
-  vars-statable : every var-statable (r .vars) ≡ true
-  vars-statable = and-left (every var-statable (r .vars))
-      (every trans-statable (r .transitions) && every action-statable (r .actions)) rest-1
+  -- row i of a kind can be stated
+  pub row-ok : (r : Record) → exists (same-part (laid r)) PARTS ≡ true → (i : ℕ) → i < length (rows-of v r)
+      → statable r i (getD (rows-of v r) i []) ≡ true
+  row-ok r h i l = let z : 0 + i ≡ i = omega arith in rw z at (every-from-at (statable r) 0 (rows-of v r) (part-ok (laid r) h) i l [])
 
-  rest-2 : (every trans-statable (r .transitions) && every action-statable (r .actions)) ≡ true
-  rest-2 = and-right (every var-statable (r .vars)) (every trans-statable (r .transitions) && every action-statable (r .actions)) rest-1
+  -- what each row is taken for has the property that rows which can be stated have
+  all-rows : {A : Type 0} (P : A → Type 0) (f : List ℤ → A) (r : Record) (d : A) → exists (same-part (laid r)) PARTS ≡ true
+      → ((i : ℕ) (row : List ℤ) → statable r i row ≡ true → P (f row))
+      → (i : ℕ) → i < length (map f (rows-of v r)) → P (getD (map f (rows-of v r)) i d)
+  all-rows P f r d h g i l =
+      let k : i < length (rows-of v r) = rw (length-map (rows-of v r) f) at l in
+      subst P (sym (getD-map f (rows-of v r) i d [] k)) (g i (getD (rows-of v r) i []) (row-ok r h i k))
 
-  rows-by : (v : ℕ) → v < length (r .vars) → Row-in-range (var-row (map var-by (r .vars)) v)
-  unfolding var-row
-  rows-by v l = subst Row-in-range (sym (getD-map var-by (r .vars) v no-var [] l))
-      (row-range _ (every-at var-statable (r .vars) vars-statable v l []))
+  few-rows : {A : Type 0} (f : List ℤ → A) (r : Record) → length (map f (rows-of v r)) ≤ most r
+  unfolding rows-of
+  few-rows f r =
+      rw (length-map (rows-of v r) f, length-chunks (how-many v r) (row-size r) (drop (place (laid r)) v)) (many-few v r)
 
-  guards-by : (t : ℕ) → t < length (r .transitions) → Guard-in-range (trans-row (chart-by r) t .guard)
-  unfolding trans-row chart-by
-  guards-by t l = subst (λ x. Guard-in-range (x .guard)) (sym (getD-map trans-by (r .transitions) t no-trans [] l))
-      (guard-range _ (every-at trans-statable (r .transitions)
-      (and-left (every trans-statable (r .transitions)) (every action-statable (r .actions)) rest-2) t l []))
-
-  acts-by : (i : ℕ) → i < length (r .actions) → Act-in-range (getD (map action-by (r .actions)) i no-action .act)
-  acts-by i l = subst (λ x. Act-in-range (x .act)) (sym (getD-map action-by (r .actions) i no-action [] l))
-      (act-range _ (every-at action-statable (r .actions)
-      (and-right (every trans-statable (r .transitions)) (every action-statable (r .actions)) rest-2) i l []))
-
-events-most : (v : List ℤ) → counts-fit v ≡ true → ref (num v 2) ≤ EVENTS
-unfolding counts-fit
-events-most v e =
-    let f = count-fits 0 TRANSITIONS (num v 3) && count-fits 0 ACTIONS (num v 4) in
-    let g = count-fits 0 EVENTS (num v 2) && f in
-    let h = count-fits 0 VARIABLES (num v 1) && g in
-    ref-most EVENTS (num v 2) (and-left (count-fits 0 EVENTS (num v 2)) f
-    (and-right (count-fits 0 VARIABLES (num v 1)) g (and-right (count-fits 2 STATES (num v 0)) h e)))
-
--- a value that keeps R0 states a chart of 01's sizes
-pub sized-chart : (v : List ℤ) → rule-0 v ≡ true → Sized-chart (chart-of v)
-unfolding rule-0 chart-of chart-by rows-of
-sized-chart v e =
-    let f = and-right (leb VALUE (length v)) (counts-fit v && rows-statable (rows-of v)) e in
-    let s = and-right (counts-fit v) (rows-statable (rows-of v)) f in
-    record {
-      states = subst (λ n. n ≤ STATES) (sym (length-map (rows-of v .states) state-by
-          ∙ length-chunks (size-by STATES (num v 0)) STATE-ROW (drop STATES-AT v))) (size-by-most STATES (num v 0));
-      vars = subst (λ n. n ≤ VARIABLES) (sym (length-map (rows-of v .vars) var-by
-          ∙ length-chunks (size-by VARIABLES (num v 1)) VAR-ROW (drop VARS-AT v))) (size-by-most VARIABLES (num v 1));
-      events = events-most v (and-left (counts-fit v) (rows-statable (rows-of v)) f);
-      transitions = subst (λ n. n ≤ TRANSITIONS) (sym (length-map (rows-of v .transitions) trans-by
-          ∙ length-chunks (size-by TRANSITIONS (num v 3)) TRANS-ROW (drop TRANSITIONS-AT v))) (size-by-most TRANSITIONS (num v 3));
-      actions = subst (λ n. n ≤ ACTIONS) (sym (length-map (rows-of v .actions) action-by
-          ∙ length-chunks (size-by ACTIONS (num v 4)) ACT-ROW (drop ACTIONS-AT v))) (size-by-most ACTIONS (num v 4));
-      rows-range = λ i l. rows-by (rows-of v) s i (subst (λ n. i < n) (length-map (rows-of v .vars) var-by) l);
-      guards-range = λ i l. guards-by (rows-of v) s i (subst (λ n. i < n) (length-map (rows-of v .transitions) trans-by) l);
-      acts-range = λ i l. acts-by (rows-of v) s i (subst (λ n. i < n) (length-map (rows-of v .actions) action-by) l);
-    }
+  -- it states a chart of 01's sizes
+  pub sized-chart : Sized-chart (chart-of v)
+  unfolding chart-of chart-by rows-of statable every-from exists var-row trans-row chunks
+  sized-chart = record {
+    states = few-rows state-by s-record;
+    vars = few-rows var-by v-record;
+    events = let row : List ℤ = take 1 (drop 2 v) in
+        ref-most EVENTS (num row 0) (and-left (count-fits 0 EVENTS (num row 0)) true (part-ok (laid e-record) refl));
+    transitions = few-rows trans-by t-record;
+    actions = few-rows action-by a-record;
+    rows-range = all-rows Row-in-range var-by v-record no-var refl (λ i. row-range);
+    guards-range = all-rows (λ x. Guard-in-range (x .guard)) trans-by t-record no-trans refl (λ i. guard-range);
+    acts-range = all-rows (λ x. Act-in-range (x .act)) action-by a-record no-action refl (λ i. act-range);
+  }
 
 -- a value that passes all rules: R0, and R1 to R7 of its chart
 after-0 : (b : Bool) (c : Chart) → after-rule-0 b c ≡ none → (b ≡ true) × (failing-rule c ≡ none)

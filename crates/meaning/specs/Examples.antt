@@ -8,7 +8,7 @@ use lib.IntN.{ℤ, pos, negsuc}
 use Rattle.sizes.specs.Sizes.{QUEUE, STATES, VARIABLES}
 use Rattle.queue.specs.Queue.{item, queue-of}
 use Rattle.meaning.specs.declared.State.{State}
-use Rattle.meaning.specs.Grammar.{bytes}
+use Rattle.meaning.specs.Grammar.{bytes, Record, s-record, v-record, e-record, t-record, a-record, no-record}
 use Rattle.meaning.specs.Lists.{concat-map, from, has, padded}
 use Rattle.meaning.specs.Chart.{Kind, kind-o, kind-a, kind-b, Guard, always, compares, equal, Target, to, history, set-to}
 use Rattle.meaning.specs.Chart.{add-to, send, tell, entry-of, exit-of, default-of, transition-of}
@@ -58,21 +58,24 @@ chart-K = record {
   actions = ac (entry-of 4) (tell (pos 7)) ∷ ac (exit-of 2) (add-to 0 (pos 60)) ∷ ac (default-of 2) (tell (pos 9)) ∷ [];
 }
 
--- chart K as a value that is handed over: each field a number, or the code of its letter
+-- chart K's rows: each field a number, or the code of its letter
+abbrev pub rows-K : Record → List (List ℤ)
+rows-K s-record =
+    (ABSENT ∷ pos 111 ∷ pos 1 ∷ []) ∷ (pos 0 ∷ pos 98 ∷ ABSENT ∷ []) ∷ (pos 0 ∷ pos 111 ∷ pos 3 ∷ [])
+    ∷ (pos 2 ∷ pos 98 ∷ ABSENT ∷ []) ∷ (pos 2 ∷ pos 98 ∷ ABSENT ∷ []) ∷ []
+rows-K v-record = (negsuc 99 ∷ pos 100 ∷ pos 0 ∷ []) ∷ []
+rows-K e-record = (pos 2 ∷ []) ∷ []
+rows-K t-record =
+    (pos 1 ∷ pos 1 ∷ ABSENT ∷ ABSENT ∷ ABSENT ∷ pos 104 ∷ pos 2 ∷ []) ∷ (pos 3 ∷ pos 2 ∷ ABSENT ∷ ABSENT ∷ ABSENT ∷ pos 0 ∷ pos 4 ∷ [])
+    ∷ (pos 2 ∷ pos 1 ∷ ABSENT ∷ ABSENT ∷ ABSENT ∷ pos 0 ∷ pos 1 ∷ []) ∷ []
+rows-K a-record =
+    (pos 101 ∷ pos 4 ∷ pos 111 ∷ pos 7 ∷ ABSENT ∷ []) ∷ (pos 120 ∷ pos 2 ∷ pos 97 ∷ pos 0 ∷ pos 60 ∷ [])
+    ∷ (pos 100 ∷ pos 2 ∷ pos 111 ∷ pos 9 ∷ ABSENT ∷ []) ∷ []
+rows-K no-record = []
+
+-- chart K as a value that is handed over
 unfoldable pub value-K : List ℤ
-value-K = value-of (record {
-  states =
-      (ABSENT ∷ pos 111 ∷ pos 1 ∷ []) ∷ (pos 0 ∷ pos 98 ∷ ABSENT ∷ []) ∷ (pos 0 ∷ pos 111 ∷ pos 3 ∷ [])
-      ∷ (pos 2 ∷ pos 98 ∷ ABSENT ∷ []) ∷ (pos 2 ∷ pos 98 ∷ ABSENT ∷ []) ∷ [];
-  vars = (negsuc 99 ∷ pos 100 ∷ pos 0 ∷ []) ∷ [];
-  events = pos 2;
-  transitions =
-      (pos 1 ∷ pos 1 ∷ ABSENT ∷ ABSENT ∷ ABSENT ∷ pos 104 ∷ pos 2 ∷ []) ∷ (pos 3 ∷ pos 2 ∷ ABSENT ∷ ABSENT ∷ ABSENT ∷ pos 0 ∷ pos 4 ∷ [])
-      ∷ (pos 2 ∷ pos 1 ∷ ABSENT ∷ ABSENT ∷ ABSENT ∷ pos 0 ∷ pos 1 ∷ []) ∷ [];
-  actions =
-      (pos 101 ∷ pos 4 ∷ pos 111 ∷ pos 7 ∷ ABSENT ∷ []) ∷ (pos 120 ∷ pos 2 ∷ pos 97 ∷ pos 0 ∷ pos 60 ∷ [])
-      ∷ (pos 100 ∷ pos 2 ∷ pos 111 ∷ pos 9 ∷ ABSENT ∷ []) ∷ [];
-})
+value-K = value-of rows-K
 
 -- "Plan of K"
 unfoldable pub plan-K : List ℤ

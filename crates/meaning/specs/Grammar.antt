@@ -1,11 +1,11 @@
 -- The grammar of chart text (01, "Chart text"), the only place where the fields of a record are written down: reading and writing
 -- a line (Line) and testing a row (Value, R0) are walks over it. In the order: fields; forms; the records. Letters stand as
 -- characters. Assumes nothing.
-use Prim.Native.Nat.{ℕ, zero, suc}
+use Prim.Native.Nat.{ℕ, zero, suc, _+_}
 use Prim.Native.String.{[] as no-more, _∷_ as _before_}
 use Prim.Native.String.{String}
 use Prim.Native.Char.{code}
-use mathlib.Core.Bool.{cond}
+use mathlib.Core.Bool.{Bool, cond}
 use mathlib.Core.List.{List, [], _∷_}
 use lib.Dec.{eqb}
 use Rattle.sizes.specs.Sizes.{STATES, VARIABLES, EVENTS, TRANSITIONS, ACTIONS}
@@ -48,10 +48,20 @@ pub data Form : Type 0 where
 
 infixr 60 _tab_
 infixr 50 _or_
+-- how many numbers its row has
+abbrev pub size : Form → ℕ
+size (last x) = width x
+size (x tab xs) = width x + size xs
+size (a or b) = size a
+
 -- ---- the records
 
 pub data Record : Type 0 where
   s-record v-record e-record t-record a-record no-record : Record
+
+-- "records stand in the order S, V, one E, T, A"
+abbrev pub ORDER : List Record
+ORDER = s-record ∷ v-record ∷ e-record ∷ t-record ∷ a-record ∷ []
 
 -- S: number, parent, kind (o, a, b), default. "State 0 alone has parent -. Default is a number for o, else -"
 abbrev pub kind : Form
@@ -69,7 +79,7 @@ guard = (dash tab dash tab dash tab target) or (number tab letter (bytes "=<>") 
 abbrev pub act : Form
 act = (letter (bytes "saq") tab number tab last number) or (letter (bytes "ko") tab number tab last dash)
 
--- the form of record n of a kind, behind its letter
+-- the form of record n of a kind, behind its letter; a line that names no record has none
 abbrev pub form : Record → ℕ → Form
 form s-record zero = turn tab dash tab kind
 form s-record (suc n) = turn tab number tab kind
@@ -77,7 +87,7 @@ form v-record n = turn tab number tab number tab last number
 form e-record n = last (count 0 EVENTS)
 form t-record n = turn tab number tab number tab guard
 form a-record n = letter (bytes "exdt") tab number tab act
-form no-record n = last dash
+form no-record n = last (letter [])
 
 abbrev pub name : Record → ℕ
 name s-record = code "S"
@@ -96,11 +106,20 @@ most t-record = TRANSITIONS
 most a-record = ACTIONS
 most no-record = 0
 
+-- how many numbers a row of the kind has
+abbrev pub row-size : Record → ℕ
+row-size r = size (form r 0)
+
+abbrev pub same : Record → Record → Bool
+same r q = eqb (name r) (name q)
+
 -- the record that a letter names
+abbrev pub named-in : List Record → ℕ → Record
+named-in [] k = no-record
+named-in (r ∷ rs) k = cond (eqb k (name r)) r (named-in rs k)
+
 unfoldable pub record-by : ℕ → Record
-record-by k =
-    cond (eqb k (name s-record)) s-record (cond (eqb k (name v-record)) v-record (cond (eqb k (name e-record)) e-record
-    (cond (eqb k (name t-record)) t-record (cond (eqb k (name a-record)) a-record no-record))))
+record-by k = named-in ORDER k
 
 -- everything above, opened: for statements that compute
 unfoldable pub grammar-open : ℕ

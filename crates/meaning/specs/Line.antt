@@ -1,23 +1,22 @@
 -- One line of the text, read and written by its record's form (01, "Chart text"). In the order: marks; fields read; a line read; its
 -- place in the order of records; a line written. Assumes nothing.
-use Prim.Native.Nat.{ℕ, zero, suc, _+_}
+use Prim.Native.Nat.{ℕ, _+_}
 use Prim.Native.Char.{code}
-use mathlib.Core.Bool.{Bool, true, false, cond}
+use mathlib.Core.Bool.{Bool, true, false, cond, _&&_}
 use mathlib.Core.List.{List, [], _∷_, _++_}
 use lib.ListN.{getD}
 use lib.IntN.{ℤ, pos, negsuc}
-use lib.Dec.{eqb, leb, ltb}
+use lib.Dec.{eqb, ltb}
 use Rattle.numbers.specs.Reference.{ref}
 use Rattle.meaning.specs.Grammar.{Field, turn, number, count, letter, dash, target-state, target-history, target-none, width, Form}
 use Rattle.meaning.specs.Grammar.{last, _tab_, _or_}
-use Rattle.meaning.specs.Grammar.{Record, s-record, v-record, e-record, t-record, a-record, no-record, form, name, most}
-use Rattle.meaning.specs.Lists.{has}
-use Rattle.meaning.specs.Value.{ABSENT, num, count-fits, fits, fits-field}
+use Rattle.meaning.specs.Grammar.{Record, e-record, ORDER, form, name, most, same}
+use Rattle.meaning.specs.Lists.{has, every, exists}
+use Rattle.meaning.specs.Value.{ABSENT, num, count-fits, fits}
 use Rattle.meaning.specs.Number.{number-of, numeral}
 use Rattle.meaning.specs.Split.{joined}
 use Rattle.meaning.specs.declared.Num.{Num}
 use Rattle.meaning.specs.declared.Num.the-variants.{Is, Beyond, Not}
-use Rattle.meaning.specs.declared.Turns.{Turns}
 
 -- ---- marks: 0, or the answer number 1 or 2 that a field or a line gives
 
@@ -127,38 +126,28 @@ line-by r n fs = beside (line (room n (most r)) []) (read-by (form r n) n (rest-
 
 -- ---- the order S, V, one E, T, A
 
--- the stages: 0 until the first V, 1 until the E, 2 until the first A, then 3
-unfoldable pub in-order : ℕ → Record → Bool
-in-order stage s-record = eqb stage 0
-in-order stage v-record = leb stage 1
-in-order stage e-record = leb stage 1
-in-order stage t-record = eqb stage 2
-in-order stage a-record = leb 2 stage
-in-order stage no-record = false
+-- how many records of each kind stand before a line
+abbrev pub Turns : Type 0
+Turns = Record → ℕ
 
-unfoldable pub stage-after : Record → ℕ
-stage-after s-record = 0
-stage-after v-record = 1
-stage-after e-record = 2
-stage-after t-record = 2
-stage-after a-record = 3
-stage-after no-record = 0
+-- the kinds that stand behind one
+abbrev pub behind-in : List Record → Record → List Record
+behind-in [] r = []
+behind-in (q ∷ qs) r = cond (same r q) qs (behind-in qs r)
 
--- the number in turn of a kind
-abbrev pub turn-of : Record → Turns → ℕ
-turn-of s-record t = t .states
-turn-of v-record t = t .vars
-turn-of e-record t = 0
-turn-of t-record t = t .transitions
-turn-of a-record t = t .actions
-turn-of no-record t = 0
+abbrev pub later : Record → List Record
+later r = behind-in ORDER r
+
+-- none of a later kind was read; one E was, where E stands before the kind, else none
+unfoldable pub in-order : Turns → Record → Bool
+in-order turns r = every (λ q. eqb (turns q) 0) (later r) && eqb (turns e-record) (cond (exists (same r) (later e-record)) 1 0)
 
 abbrev pub line-in-order : Bool → Record → ℕ → List (List ℕ) → Line
 line-in-order true r n fs = line-by r n fs
 line-in-order false r n fs = wrong
 
 unfoldable pub line-of : Record → Turns → List (List ℕ) → Line
-line-of r t fs = line-in-order (in-order (t .stage) r) r (turn-of r t) fs
+line-of r turns fs = line-in-order (in-order turns r) r (turns r) fs
 
 -- ---- a line written
 
@@ -185,5 +174,5 @@ text-of-row r n row = joined ((name r ∷ []) ∷ write-by (form r n) n 0 row)
 
 -- everything above, opened: for statements that compute
 unfoldable pub line-open : ℕ
-unfolding worse room read-field read-by line-by in-order stage-after line-of write-field write-by text-of-row
+unfolding worse room read-field read-by line-by in-order line-of write-field write-by text-of-row
 line-open = 0

@@ -1,7 +1,7 @@
 -- The chart handed over as a value: numbers at fixed places, and the rule R0 about them (01, "Chart rules, in order").
--- In the order: the layout; what a row of numbers says; the chart that the numbers state; R0.
+-- In the order: rows; the layout; what a row of numbers says; the chart that the numbers state; R0.
 -- A letter of the text stands as its own code, "-" as ABSENT, which is no number that a text can state. Assumes nothing.
-use Prim.Native.Nat.{ℕ, zero, suc, _+_, _*_}
+use Prim.Native.Nat.{ℕ, _+_, _*_}
 use Prim.Native.Char.{code}
 use mathlib.Core.Bool.{Bool, true, false, not, cond, _&&_, _||_}
 use mathlib.Core.List.{List, [], _∷_, map}
@@ -9,13 +9,13 @@ use lib.ListN.{length, getD, take, drop}
 use lib.IntN.{ℤ, pos, negsuc}
 use lib.Signed.{leZ}
 use lib.Dec.{eqb, leb, ltb}
-use Rattle.sizes.specs.Sizes.{LEAST-STATES, STATES, VARIABLES, EVENTS, TRANSITIONS, ACTIONS, MOST}
+use Rattle.sizes.specs.Sizes.{LEAST-STATES}
 use Rattle.numbers.specs.Equal.{eqZ}
 use Rattle.numbers.specs.Range.{inRange}
 use Rattle.numbers.specs.Reference.{ref}
 use Rattle.meaning.specs.Grammar.{Field, turn, number, count, letter, dash, target-state, target-history, target-none, width, Form}
 use Rattle.meaning.specs.Grammar.{last, _tab_, _or_}
-use Rattle.meaning.specs.Grammar.{s-record, v-record, t-record, a-record, form}
+use Rattle.meaning.specs.Grammar.{Record, s-record, v-record, e-record, t-record, a-record, form, most, row-size, same}
 use Rattle.meaning.specs.Lists.{every, every-from, chunks}
 use Rattle.meaning.specs.Chart.{Kind, kind-o, kind-a, kind-b, Sign, equal, less, more, Guard, always, compares, Target, to}
 use Rattle.meaning.specs.Chart.{history, in-place}
@@ -26,41 +26,72 @@ use Rattle.meaning.specs.Chart.{StateRow, VarRow, TransRow, ActRow, Char
 abbrev pub ABSENT : ℤ
 ABSENT = negsuc 2147483647
 
--- ---- the layout: five counts, then room for each record kind at its full size
+-- ---- rows of numbers, of each kind of record
 
-abbrev pub COUNTS : ℕ
-COUNTS = 5
+abbrev pub Rows : Type 0
+Rows = Record → List (List ℤ)
 
--- numbers to a row: parent, kind, default; low, high, first; source, trigger, guard variable, sign, constant, target's letter, target;
--- owner kind, owner, act, first, second
-abbrev pub STATE-ROW : ℕ
-STATE-ROW = 3
+-- ---- the layout: a count for each kind, but that E's one number stands in its place; then room for each kind's rows at its full size
 
-abbrev pub VAR-ROW : ℕ
-VAR-ROW = 3
+pub data Part : Type 0 where
+  counted laid : Record → Part
 
-abbrev pub TRANS-ROW : ℕ
-TRANS-ROW = 7
+abbrev pub PARTS : List Part
+PARTS =
+    counted s-record ∷ counted v-record ∷ laid e-record ∷ counted t-record ∷ counted a-record
+    ∷ laid s-record ∷ laid v-record ∷ laid t-record ∷ laid a-record ∷ []
 
-abbrev pub ACT-ROW : ℕ
-ACT-ROW = 5
+-- how many numbers a part has
+abbrev pub room-of : Part → ℕ
+room-of (counted r) = 1
+room-of (laid r) = most r * row-size r
 
--- where each kind's rows begin
-abbrev pub STATES-AT : ℕ
-STATES-AT = COUNTS
+abbrev pub same-part : Part → Part → Bool
+same-part (counted r) (counted q) = same r q
+same-part (counted r) (laid q) = false
+same-part (laid r) (counted q) = false
+same-part (laid r) (laid q) = same r q
 
-abbrev pub VARS-AT : ℕ
-VARS-AT = STATES-AT + STATES * STATE-ROW
+-- where a part begins
+abbrev pub begins : List Part → Part → ℕ
+begins [] p = 0
+begins (q ∷ qs) p = cond (same-part p q) 0 (room-of q + begins qs p)
 
-abbrev pub TRANSITIONS-AT : ℕ
-TRANSITIONS-AT = VARS-AT + VARIABLES * VAR-ROW
-
-abbrev pub ACTIONS-AT : ℕ
-ACTIONS-AT = TRANSITIONS-AT + TRANSITIONS * TRANS-ROW
+abbrev pub place : Part → ℕ
+place p = begins PARTS p
 
 -- how many numbers a value has
+abbrev pub room-in : List Part → ℕ
+room-in [] = 0
+room-in (p ∷ ps) = room-of p + room-in ps
+
 abbrev pub VALUE : ℕ
-VALUE = ACTIONS-AT + ACTIONS * ACT-ROW
+VALUE = room-in PARTS
+
+-- the same by name
+abbrev pub STATE-ROW : ℕ
+STATE-ROW = row-size s-record
+
+abbrev pub VAR-ROW : ℕ
+VAR-ROW = row-size v-record
+
+abbrev pub TRANS-ROW : ℕ
+TRANS-ROW = row-size t-record
+
+abbrev pub ACT-ROW : ℕ
+ACT-ROW = row-size a-record
+
+abbrev pub STATES-AT : ℕ
+STATES-AT = place (laid s-record)
+
+abbrev pub VARS-AT : ℕ
+VARS-AT = place (laid v-record)
+
+abbrev pub TRANSITIONS-AT : ℕ
+TRANSITIONS-AT = place (laid t-record)
+
+abbrev pub ACTIONS-AT : ℕ
+ACTIONS-AT = place (laid a-record)
 
 -- ---- letters of the text, by their codes
 
@@ -123,38 +154,27 @@ act-by a x y =
 unfoldable pub action-by : List ℤ → ActRow
 action-by row = record { owner = owner-by (num row 0) (num row 1); act = act-by (num row 2) (num row 3) (num row 4) }
 
--- ---- the records' rows of numbers, in the value and by themselves
+-- ---- the chart that rows state, and the rows of a value
 
-pub record Rows : Type 0 where
-  pub states : List (List ℤ)
-  pub vars : List (List ℤ)
-  pub events : ℤ
-  pub transitions : List (List ℤ)
-  pub actions : List (List ℤ)
-
--- the chart that rows of numbers state
 unfoldable pub chart-by : Rows → Chart
 chart-by r = record {
-  states = map state-by (r .states);
-  vars = map var-by (r .vars);
-  events = ref (r .events);
-  transitions = map trans-by (r .transitions);
-  actions = map action-by (r .actions);
+  states = map state-by (r s-record);
+  vars = map var-by (r v-record);
+  events = ref (num (getD (r e-record) 0 []) 0);
+  transitions = map trans-by (r t-record);
+  actions = map action-by (r a-record);
 }
 
 -- a count that keeps its size; any other counts as none
 unfoldable pub size-by : ℕ → ℤ → ℕ
 size-by most z = cond (leb (ref z) most) (ref z) 0
 
--- the rows within the counts: "places past the counts are ignored"
+-- the rows within the counts: "places past the counts are ignored"; of E there is one
+abbrev pub how-many : List ℤ → Record → ℕ
+how-many v r = cond (same r e-record) 1 (size-by (most r) (num v (place (counted r))))
+
 unfoldable pub rows-of : List ℤ → Rows
-rows-of v = record {
-  states = chunks (size-by STATES (num v 0)) STATE-ROW (drop STATES-AT v);
-  vars = chunks (size-by VARIABLES (num v 1)) VAR-ROW (drop VARS-AT v);
-  events = num v 2;
-  transitions = chunks (size-by TRANSITIONS (num v 3)) TRANS-ROW (drop TRANSITIONS-AT v);
-  actions = chunks (size-by ACTIONS (num v 4)) ACT-ROW (drop ACTIONS-AT v);
-}
+rows-of v r = chunks (how-many v r) (row-size r) (drop (place (laid r)) v)
 
 -- the chart that a value states
 unfoldable pub chart-of : List ℤ → Chart
@@ -187,35 +207,23 @@ fits (x tab xs) i row = fits-field x i row && fits xs (i + width x) row
 fits (a or b) i row = fits a i row || fits b i row
 
 -- record n of a kind is one that a text can state
-unfoldable pub state-statable : ℕ → List ℤ → Bool
-state-statable n row = fits (form s-record n) 0 row
+unfoldable pub statable : Record → ℕ → List ℤ → Bool
+statable r n row = fits (form r n) 0 row
 
-unfoldable pub var-statable : List ℤ → Bool
-var-statable row = fits (form v-record 0) 0 row
+-- states 2 to 64; of the other kinds there may be none
+abbrev pub least : Record → ℕ
+least r = cond (same r s-record) LEAST-STATES 0
 
-unfoldable pub trans-statable : List ℤ → Bool
-trans-statable row = fits (form t-record 0) 0 row
-
-unfoldable pub action-statable : List ℤ → Bool
-action-statable row = fits (form a-record 0) 0 row
-
--- states 2 to 64, variables 0 to 16, events 0 to 32, transitions 0 to 128, actions 0 to 256
-unfoldable pub counts-fit : List ℤ → Bool
-counts-fit v =
-    count-fits LEAST-STATES STATES (num v 0) && (count-fits 0 VARIABLES (num v 1)
-    && (count-fits 0 EVENTS (num v 2) && (count-fits 0 TRANSITIONS (num v 3) && count-fits 0 ACTIONS (num v 4))))
-
-unfoldable pub rows-statable : Rows → Bool
-rows-statable r =
-    every-from state-statable 0 (r .states)
-    && (every var-statable (r .vars) && (every trans-statable (r .transitions) && every action-statable (r .actions)))
+abbrev pub part-fits : List ℤ → Part → Bool
+part-fits v (counted r) = count-fits (least r) (most r) (num v (place (counted r)))
+part-fits v (laid r) = every-from (statable r) 0 (rows-of v r)
 
 -- R0; numbers too few for the layout do not state a chart
 unfoldable pub rule-0 : List ℤ → Bool
-rule-0 v = leb VALUE (length v) && (counts-fit v && rows-statable (rows-of v))
+rule-0 v = leb VALUE (length v) && every (part-fits v) PARTS
 
 -- everything above, opened: for statements that compute
 unfoldable pub value-open : ℕ
 unfolding is-absent ref-or-none kind-by state-by var-by guard-by target-by trans-by owner-by act-by action-by
-    chart-by size-by rows-of chart-of state-statable var-statable trans-statable action-statable counts-fit rows-statable rule-0
+    chart-by size-by rows-of chart-of statable rule-0
 value-open = 0

@@ -13,7 +13,8 @@ use Rattle.numbers.specs.Range.{inRange}
 use Rattle.numbers.specs.Reference.{ref}
 use Rattle.meaning.specs.Lists.{every, concat-map, chunks}
 use Rattle.meaning.specs.Chart.{equal, less, more, Guard, always, compares, set-to, add-to, take-to, send, tell, VarRow}
-use Rattle.meaning.specs.Value.{num, size-by, count-fits, VAR-ROW, var-by, var-statable}
+use Rattle.meaning.specs.Grammar.{v-record}
+use Rattle.meaning.specs.Value.{num, size-by, count-fits, VAR-ROW, var-by, statable}
 use Rattle.meaning.specs.Rules.{row-fits}
 use Rattle.meaning.specs.Widget.{as-slot}
 use Rattle.meaning.specs.Plan.{Instr, go-in, go-out, skip-out, skip-empty, skip-full, skip-not, does, Head, Plan}
@@ -125,7 +126,7 @@ counts-keep ns =
 -- ---- "each variable row keeps R5 and the number range"
 
 unfoldable pub var-keeps : List ℤ → Bool
-var-keeps row = row-fits (var-by row) && var-statable row
+var-keeps row = row-fits (var-by row) && statable v-record 0 row
 
 -- ---- heads
 

@@ -44,15 +44,6 @@ pub enum Nat {
     Not,
 }
 
-// How far a text was read: the stage in the order S, V, one E, T, A, and the number in turn of each kind of record.
-pub struct Turns {
-    pub stage: usize,
-    pub states: usize,
-    pub vars: usize,
-    pub transitions: usize,
-    pub actions: usize,
-}
-
 // What writing a chart's text gives: the answer, and how many bytes were written.
 pub struct Written {
     pub answer: Answer,

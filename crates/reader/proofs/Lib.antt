@@ -5,5 +5,4 @@ pub mod HeldLaws
 pub mod ScanLaws
 pub mod Again
 pub mod ReadLaws
-pub mod RowsBack
 pub mod RuledLaws

@@ -15,11 +15,12 @@ use Rattle.sizes.specs.Sizes.{TEXT}
 use Rattle.meaning.specs.Value.{Rows, VALUE}
 use Rattle.meaning.specs.Split.{fields, lines}
 use Rattle.meaning.specs.Line.{line-of}
-use Rattle.meaning.specs.Text.{Result, done, refused, answer, answer-of, Walk, walk-start, turns-of, row-taken, further}
+use Rattle.meaning.specs.Grammar.{e-record}
+use Rattle.meaning.specs.Text.{Result, done, refused, answer, answer-of, no-rows, turns-of, with-row, further}
 use Rattle.meaning.specs.Text.{record-of, ending, walk}
 use Rattle.meaning.specs.Text.{read-unless, read-text, value-of}
 use Rattle.meaning.specs.declared.Answer.{Answer}
-use Rattle.reader.specs.Scanned.{zeros, Fit, Scanned}
+use Rattle.reader.specs.Scanned.{zeros, Scanned}
 use Rattle.reader.specs.RowsRead.{roomy-if, roomy, Left, RowsRead}
 
 -- ---- a list filled from the front: after n stores it is `replicate n v ++ drop n d`
@@ -38,22 +39,22 @@ module _ {A : Type 0} (v : A) where
       e ∙ (rw (q, drop-length d, append-nil))
 
 -- ---- the walk refuses with 1 or 2, never with 0
-pub never-zero : (n : ℕ) (w : Walk) (ls : List (List ℕ)) (p : ℕ) → walk n w ls ≡ refused 0 p → ⊥
+pub never-zero : (n : ℕ) (w : Rows) (ls : List (List ℕ)) (p : ℕ) → walk n w ls ≡ refused 0 p → ⊥
 unfolding walk
 never-zero n w [] p e = let z : _≡_ {A = ℕ} 0 1 = cc in absurd (omega arith)
-never-zero n w ([] ∷ []) p e = go (leb 2 (w .stage)) e
+never-zero n w ([] ∷ []) p e = go (leb 1 (length (w e-record))) e
   where
-    go : (b : Bool) → cond b (done (w .rows)) (refused 1 n) ≡ refused 0 p → ⊥
+    go : (b : Bool) → cond b (done w) (refused 1 n) ≡ refused 0 p → ⊥
     go true e = let z : _≡_ {A = ℕ} 0 1 = cc in absurd (omega arith)
     go false e = let z : _≡_ {A = ℕ} 0 1 = cc in absurd (omega arith)
 never-zero n w ((b ∷ bs) ∷ []) p e = let z : _≡_ {A = ℕ} 0 1 = cc in absurd (omega arith)
 never-zero n w (line ∷ next ∷ rest) p e = go (line-of (record-of (fields line)) (turns-of w) (fields line) .mark) e (λ v. never-zero
     (n + 1) v (next ∷ rest) p)
   where
-    go : (m : ℕ) → further m n (row-taken (record-of (fields line)) (line-of (record-of (fields line)) (turns-of w) (fields line) .row) w)
+    go : (m : ℕ) → further m n (with-row (record-of (fields line)) (line-of (record-of (fields line)) (turns-of w) (fields line) .row) w)
         (λ v. walk (n + 1) v (next ∷ rest)) ≡ refused 0 p
-        → ((v : Walk) → walk (n + 1) v (next ∷ rest) ≡ refused 0 p → ⊥) → ⊥
-    go zero e ih = ih (row-taken (record-of (fields line)) (line-of (record-of (fields line)) (turns-of w) (fields line) .row) w) e
+        → ((v : Rows) → walk (n + 1) v (next ∷ rest) ≡ refused 0 p → ⊥) → ⊥
+    go zero e ih = ih (with-row (record-of (fields line)) (line-of (record-of (fields line)) (turns-of w) (fields line) .row) w) e
     go (suc m) e ih = let z : _≡_ {A = ℕ} 0 1 = cc in absurd (omega arith)
 
 pub read-never-zero : (s : List ℕ) (p : ℕ) → read-text s ≡ refused 0 p → ⊥
@@ -62,11 +63,11 @@ read-never-zero s p e = go (ltb TEXT (length s)) e
   where
     go : (b : Bool) → read-unless b s ≡ refused 0 p → ⊥
     go true e = let z : _≡_ {A = ℕ} 0 1 = cc in absurd (omega arith)
-    go false e = never-zero 1 walk-start (lines s) p e
+    go false e = never-zero 1 no-rows (lines s) p e
 
 -- ---- the whole
 module _ (s : List ℕ) (n : ℕ) where
-  read-walk : length s ≤ TEXT → read-text s ≡ walk 1 walk-start (lines s)
+  read-walk : length s ≤ TEXT → read-text s ≡ walk 1 no-rows (lines s)
   unfolding read-text
   read-walk h = rw (le-ltb TEXT (length s) h)
 
@@ -74,12 +75,12 @@ module _ (s : List ℕ) (n : ℕ) where
   unfolding read-text
   rows-long l h e = rw (lt-ltb TEXT (length s) h) (record { answer = refl; numbers = e })
 
-  module _ (h : length s ≤ TEXT) (a : Answer) (l : List ℤ) (q : Scanned (walk 1 walk-start (lines s)) a n l) where
-    by-cases : (P : Result Rows → Type 0) → ((r : Rows) → walk 1 walk-start (lines s) ≡ done r → P (done r)) → ((b p : ℕ)
-        → walk 1 walk-start (lines s) ≡ refused b p → P (refused b p)) → P (read-text s)
-    by-cases P f g = rw (read-walk h) (go (walk 1 walk-start (lines s)) refl)
+  module _ (h : length s ≤ TEXT) (a : Answer) (l : List ℤ) (q : Scanned (walk 1 no-rows (lines s)) a n l) where
+    by-cases : (P : Result Rows → Type 0) → ((r : Rows) → walk 1 no-rows (lines s) ≡ done r → P (done r)) → ((b p : ℕ)
+        → walk 1 no-rows (lines s) ≡ refused b p → P (refused b p)) → P (read-text s)
+    by-cases P f g = rw (read-walk h) (go (walk 1 no-rows (lines s)) refl)
       where
-        go : (o : Result Rows) → walk 1 walk-start (lines s) ≡ o → P o
+        go : (o : Result Rows) → walk 1 no-rows (lines s) ≡ o → P o
         go (done r) e = f r e
         go (refused b p) e = g b p e
 
@@ -89,10 +90,10 @@ module _ (s : List ℕ) (n : ℕ) where
         (λ b p f. record { answer = q .answer ∙ ap answer-of f; numbers = e })
 
     module _ (z : a .number ≡ 0) where
-      no-fault : (b p : ℕ) → walk 1 walk-start (lines s) ≡ refused b p → ⊥
+      no-fault : (b p : ℕ) → walk 1 no-rows (lines s) ≡ refused b p → ⊥
       no-fault b p f =
           let k : b ≡ 0 = sym (ap (λ (a : Answer). a .number) (q .answer ∙ ap answer-of f)) ∙ z in
-          never-zero 1 walk-start (lines s) p (f ∙ ap (λ (b : ℕ). refused b p) k)
+          never-zero 1 no-rows (lines s) p (f ∙ ap (λ (b : ℕ). refused b p) k)
 
       pub rows-few : (l′ : List ℤ) → n < VALUE → l′ ≡ zeros n → RowsRead (read-text s) n (answer 3 0) l′
       rows-few l′ v e = by-cases (λ o. RowsRead o n (answer 3 0) l′)

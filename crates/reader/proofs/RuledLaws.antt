@@ -16,11 +16,12 @@ use Rattle.meaning.specs.Text.{Result, done, refused, answer, answer-of, lent-r
 use Rattle.meaning.specs.Text.{checked-if}
 use Rattle.meaning.specs.Text.{checked, read}
 use Rattle.meaning.specs.declared.Answer.{Answer}
-use Rattle.reader.specs.Scanned.{zeros, Fit}
+use Rattle.round_trip.specs.Rows.{Whole}
+use Rattle.round_trip.proofs.Values.{rows-back, value-length}
+use Rattle.reader.specs.Scanned.{zeros}
 use Rattle.reader.specs.RowsRead.{roomy-if, roomy, Left, RowsRead}
 use Rattle.reader.proofs.LayLaws.{length-zeros}
 use Rattle.reader.proofs.ReadLaws.{read-never-zero}
-use Rattle.reader.proofs.RowsBack.{rows-back, value-length}
 
 -- what the caller sees of an outcome
 abbrev pub Seen : ℕ → Result (List ℤ) → Answer → List ℤ → Type 0
@@ -30,9 +31,9 @@ seen-refused : (n b p : ℕ) (l : List ℤ) → l ≡ zeros n → Seen n (refuse
 unfolding lent-numbers lent-result zeros
 seen-refused n b p l e = (refl, e)
 
-seen-done : (n : ℕ) (r : Rows) (l : List ℤ) → Fit r → l ≡ value-of r ++ zeros (n - VALUE) → Seen n (done (value-of r)) (answer 0 0) l
+seen-done : (n : ℕ) (r : Rows) (l : List ℤ) → Whole r → l ≡ value-of r ++ zeros (n - VALUE) → Seen n (done (value-of r)) (answer 0 0) l
 unfolding lent-numbers lent-result padded zeros
-seen-done n r l f e = (refl, e ∙ ap (λ (k : ℕ). value-of r ++ replicate (n - k) (pos 0)) (sym (value-length r [] f)))
+seen-done n r l f e = (refl, e ∙ ap (λ (k : ℕ). value-of r ++ replicate (n - k) (pos 0)) (sym (value-length r (f .fit))))
 
 -- ---- the lines were refused
 fault-by : (n : ℕ) (o : Result Rows) (a : Answer) (l : List ℤ) → RowsRead o n a l → (a .number ≡ 0 → ⊥) → Seen n (checked n o) a l
@@ -50,17 +51,17 @@ module _ (s : List ℕ) (n : ℕ) (a : Answer) (l : List ℤ) (q : RowsRead (rea
 
   -- ---- the lines have passed: the rules decide
   module _ (z : a .number ≡ 0) (v : Answer) (w : v ≡ verdict (failing-rule (chart-of l))) where
-    chart-is : (r : Rows) → Fit r → l ≡ value-of r ++ zeros (n - VALUE) → chart-of l ≡ chart-by r
+    chart-is : (r : Rows) → Whole r → l ≡ value-of r ++ zeros (n - VALUE) → chart-of l ≡ chart-by r
     unfolding chart-of
-    chart-is r f e = rw (e, rows-back r (zeros (n - VALUE)) f)
+    chart-is r f e = rw (e, rows-back r (f .fit) (zeros (n - VALUE)) (f .one))
 
-    long : (r : Rows) → Fit r → VALUE ≤ n → l ≡ value-of r ++ zeros (n - VALUE) → length l ≡ n
+    long : (r : Rows) → Whole r → VALUE ≤ n → l ≡ value-of r ++ zeros (n - VALUE) → length l ≡ n
     long r f h e =
-        let i = value-length r [] f in
+        let i = value-length r (f .fit) in
         let j = length-zeros (n - VALUE) in
         ap length e ∙ length-append (value-of r) (zeros (n - VALUE)) ∙ omega arith
 
-    by-verdict : (r : Rows) → Fit r → VALUE ≤ n → l ≡ value-of r ++ zeros (n - VALUE) → (o : Option ℕ) → v ≡ verdict o → (l′ : List ℤ)
+    by-verdict : (r : Rows) → Whole r → VALUE ≤ n → l ≡ value-of r ++ zeros (n - VALUE) → (o : Option ℕ) → v ≡ verdict o → (l′ : List ℤ)
         → ((v .number ≡ 0 → ⊥) → l′ ≡ zeros (length l)) → (v .number ≡ 0 → l′ ≡ l) → Seen n (by-rule o r) v l′
     unfolding verdict
     by-verdict r f h e none u l′ bad good = rw u (seen-done n r l′ f (good (ap (λ (a : Answer). a .number) u) ∙ e))

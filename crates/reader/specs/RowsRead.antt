@@ -9,7 +9,8 @@ use lib.IntN.{ℤ}
 use Rattle.meaning.specs.Value.{Rows, VALUE}
 use Rattle.meaning.specs.Text.{Result, done, refused, answer-of, value-of}
 use Rattle.meaning.specs.declared.Answer.{Answer}
-use Rattle.reader.specs.Scanned.{zeros, Fit}
+use Rattle.round_trip.specs.Rows.{Whole}
+use Rattle.reader.specs.Scanned.{zeros}
 
 abbrev pub roomy-if : Bool → Rows → Result Rows
 roomy-if true r = done r
@@ -22,7 +23,7 @@ roomy n (refused a p) = refused a p
 
 -- n lent numbers after it
 abbrev pub Left : Result Rows → ℕ → List ℤ → Type 0
-Left (done r) n l = (l ≡ value-of r ++ zeros (n - VALUE)) × Fit r
+Left (done r) n l = (l ≡ value-of r ++ zeros (n - VALUE)) × Whole r
 Left (refused a p) n l = l ≡ zeros n
 
 pub record RowsRead (o : Result Rows) (n : ℕ) (a : Answer) (l : List ℤ) : Type 0 where

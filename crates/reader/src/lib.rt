@@ -12,7 +12,7 @@ use scan::line_at;
 ghost use mathlib.Core.Path.{_≡_};
 ghost use lib.ListN.{length};
 ghost use Rattle.meaning.specs.Split.{lines};
-ghost use Rattle.meaning.specs.Text.{walk as walk-of, walk-start};
+ghost use Rattle.meaning.specs.Text.{walk as walk-of, no-rows};
 ghost use Rattle.reader.specs.Heard.{Heard};
 ghost use Rattle.reader.specs.Scanned.{zeros, Scanned};
 
@@ -53,7 +53,7 @@ pub fn open<'a>(text: &'a [u8]) -> Reader<'a>
 // afterwards is of no use.
 pub fn walk(text: &[u8], chart: &mut [i32]) -> Answer
     requires { ⌜ now chart ≡ zeros (length (now chart)) ⌝ }
-    ensures { λ r. ⌜ Scanned (walk-of 1 walk-start (lines (now (text .entry)))) r (length (now (chart .entry))) (now (chart .exit)) ⌝ }
+    ensures { λ r. ⌜ Scanned (walk-of 1 no-rows (lines (now (text .entry)))) r (length (now (chart .entry))) (now (chart .exit)) ⌝ }
 {
     let mut reader = open(text);
     let mut so_far = begin();

@@ -10,16 +10,11 @@ use chart_rows::layout::STATES_AT;
 use chart_rows::layout::TRANS_ROW;
 use chart_rows::layout::TRANSITION_COUNT;
 use chart_rows::layout::TRANSITIONS_AT;
+use chart_rows::layout::VALUE;
 use chart_rows::layout::VAR_COUNT;
 use chart_rows::layout::VAR_ROW;
 use chart_rows::layout::VARS_AT;
-use forms::ACTION;
-use forms::EVENTS;
-use forms::OTHER_STATE;
-use forms::ROOT;
-use forms::TRANSITION;
-use forms::VARIABLE;
-use meaning::Turns;
+use forms::entry;
 use numbers::number;
 use sizes::ACTIONS;
 use sizes::STATES;
@@ -33,92 +28,117 @@ ghost use lib.Seq.{slice};
 ghost use Rattle.numbers.specs.Reference.{NOWHERE};
 ghost use Rattle.meaning.specs.Split.{fields};
 ghost use Rattle.meaning.specs.Grammar.{record-by};
-ghost use Rattle.meaning.specs.Line.{line-of};
+ghost use Rattle.meaning.specs.Line.{line-of, in-order};
 ghost use Rattle.lines.specs.Took.{Took};
-ghost use Rattle.reader.specs.Order.{place-of, turns-after, Within, with-counts};
+ghost use Rattle.reader.specs.Order.{turn-of, place-of, turns-after, Within, with-counts, KindOf};
+
+// How many records of each kind were read.
+pub struct Turns {
+    pub states: usize,
+    pub vars: usize,
+    pub events: usize,
+    pub transitions: usize,
+    pub actions: usize,
+}
+
+// Of a kind: how many there may be, where its rows begin, and how many numbers a row has.
+pub struct Kind {
+    pub most: usize,
+    pub place: usize,
+    pub size: usize,
+}
+
+fn of(most: usize, place: usize, size: usize) -> Kind
+    ensures { λ r. ⌜ (r .most ≡ most) × (r .place ≡ place) × (r .size ≡ size) ⌝ }
+{
+    Kind { most, place, size }
+}
+
+// The kind that a letter names; of none there may be none.
+fn kind_of(k: u8) -> Kind
+    ensures { λ r. ⌜ KindOf (record-by k) r ⌝ }
+{
+    match k {
+        b'S' => of(STATES, STATES_AT, STATE_ROW),
+        b'V' => of(VARIABLES, VARS_AT, VAR_ROW),
+        b'E' => of(1, EVENT_COUNT, 1),
+        b'T' => of(TRANSITIONS, TRANSITIONS_AT, TRANS_ROW),
+        b'A' => of(ACTIONS, ACTIONS_AT, ACT_ROW),
+        _ => of(0, VALUE, 1),
+    }
+}
+
+// How many of it were read.
+fn turn(k: u8, t: Turns) -> usize
+    ensures { λ r. ⌜ r ≡ turn-of t (record-by k) ⌝ }
+{
+    match k {
+        b'S' => t.states,
+        b'V' => t.vars,
+        b'E' => t.events,
+        b'T' => t.transitions,
+        b'A' => t.actions,
+        _ => 0,
+    }
+}
+
+// None of a later kind was read; one E was, where E stands before the kind, else none.
+fn placed(k: u8, t: Turns) -> bool
+    requires { ⌜ Within t ⌝ }
+    ensures { λ r. ⌜ r ≡ in-order (turn-of t) (record-by k) ⌝ }
+{
+    match k {
+        b'S' => t.vars + t.events + t.transitions + t.actions == 0,
+        b'V' => t.events + t.transitions + t.actions == 0,
+        b'E' => t.events + t.transitions + t.actions == 0,
+        b'T' => t.actions + 1 == t.events,
+        b'A' => t.events == 1,
+        _ => t.events == 0,
+    }
+}
 
 // A line whose first field is the letter k.
 pub fn line(s: &[u8], from: usize, to: usize, k: u8, t: Turns, chart: &mut [i32]) -> usize
     requires { ⌜ (from ≤ to) × (to ≤ length (now s)) × Within t ⌝ }
-    ensures { λ r. ⌜ Took (line-of (record-by k) t (fields (slice from to (now (s .entry))))) (place-of (record-by k) t)
+    ensures { λ r. ⌜ Took (line-of (record-by k) (turn-of t) (fields (slice from to (now (s .entry))))) (place-of (record-by k) t)
         (now (chart .entry)) r (now (chart .exit)) ⌝ }
 {
-    let stage = t.stage;
-    if k == b'S' {
-        if stage == 0 {
-            let n = t.states;
-            let at = STATES_AT + n * STATE_ROW;
-            if n == 0 {
-                return lines::line(s, from, to, ROOT, n, STATES, chart, at);
-            }
-            return lines::line(s, from, to, OTHER_STATE, n, STATES, chart, at);
-        }
-        return 1;
-    }
-    if k == b'V' {
-        if stage <= 1 {
-            let n = t.vars;
-            let at = VARS_AT + n * VAR_ROW;
-            return lines::line(s, from, to, VARIABLE, n, VARIABLES, chart, at);
-        }
-        return 1;
-    }
-    if k == b'E' {
-        if stage <= 1 {
-            return lines::line(s, from, to, EVENTS, 0, 1, chart, EVENT_COUNT);
-        }
-        return 1;
-    }
-    if k == b'T' {
-        if stage == 2 {
-            let n = t.transitions;
-            let at = TRANSITIONS_AT + n * TRANS_ROW;
-            return lines::line(s, from, to, TRANSITION, n, TRANSITIONS, chart, at);
-        }
-        return 1;
-    }
-    if k == b'A' {
-        if 2 <= stage {
-            let n = t.actions;
-            let at = ACTIONS_AT + n * ACT_ROW;
-            return lines::line(s, from, to, ACTION, n, ACTIONS, chart, at);
-        }
-        return 1;
+    if placed(k, t) {
+        let n = turn(k, t);
+        let q = kind_of(k);
+        let i = entry(k, n);
+        let at = q.place + n * q.size;
+        return lines::line(s, from, to, i, n, q.most, chart, at);
     }
     1
 }
 
-// The stage and the numbers in turn after a line of the letter k.
+// What was read with a line of the letter k.
 pub fn counted(k: u8, t: Turns) -> Turns
     requires { ⌜ Within t ⌝ }
     ensures { λ r. ⌜ r ≡ turns-after (record-by k) t ⌝ }
 {
     let mut n = t;
     if k == b'S' {
-        n.stage = 0;
         n.states = t.states + 1;
         return n;
     }
     if k == b'V' {
-        n.stage = 1;
         n.vars = t.vars + 1;
         return n;
     }
     if k == b'E' {
-        n.stage = 2;
+        n.events = t.events + 1;
         return n;
     }
     if k == b'T' {
-        n.stage = 2;
         n.transitions = t.transitions + 1;
         return n;
     }
     if k == b'A' {
-        n.stage = 3;
         n.actions = t.actions + 1;
         return n;
     }
-    n.stage = 0;
     n
 }
 

@@ -2,12 +2,12 @@
 // numbers; the reader's struct, which walks over the lines, is in lib.rt.
 use crate::Step;
 use crate::next_line;
+use crate::order::Turns;
 use crate::order::counted;
 use crate::order::line;
 use crate::order::put_counts;
 use fields::letter_at;
 use meaning::Answer;
-use meaning::Turns;
 ghost use mathlib.Core.Path.{_≡_};
 ghost use mathlib.Core.Bool.{true};
 ghost use Prim.Native.Nat.{_<_};
@@ -25,9 +25,9 @@ pub struct Progress {
 
 // Before the first line.
 const START: Turns = Turns {
-    stage: 0,
     states: 0,
     vars: 0,
+    events: 0,
     transitions: 0,
     actions: 0,
 };
@@ -72,7 +72,7 @@ pub fn line_at(text: &[u8], at: usize, p: Progress, chart: &mut [i32]) -> Progre
         if at < text.len() {
             return over(1, n);
         }
-        if turns.stage < 2 {
+        if turns.events < 1 {
             return over(1, n);
         }
         put_counts(chart, turns);

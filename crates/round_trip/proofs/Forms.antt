@@ -11,7 +11,7 @@ use lib.IntN.{ℤ, pos}
 use lib.ListN.{length, length-append}
 use borrow.Author.Tests.{eqb-true, eqb-false, leb-true}
 use Rattle.sizes.specs.Sizes.{MOST}
-use Rattle.meaning.specs.Grammar.{Field, width, Form, last, _tab_, _or_}
+use Rattle.meaning.specs.Grammar.{Field, width, Form, last, _tab_, _or_, size}
 use Rattle.meaning.specs.Value.{num, fits, fits-field}
 use Rattle.meaning.specs.Number.{numeral}
 use Rattle.meaning.specs.Split.{TAB, tails}
@@ -24,12 +24,6 @@ use Rattle.round_trip.specs.Rows.{tells}
 
 -- ---- unambiguous forms
 
-abbrev pub size : Form → ℕ
-size (last x) = width x
-size (x tab xs) = width x + size xs
-size (a or b) = size a
-
--- of each field that a form may begin with
 abbrev pub First : (Field → Type 0) → Form → Type 0
 First P (last x) = P x
 First P (x tab xs) = P x

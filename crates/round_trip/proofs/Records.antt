@@ -5,22 +5,24 @@ use mathlib.Core.Bool.{Bool, true, false, cond}
 use mathlib.Core.List.{List, [], _∷_}
 use Prim.Native.Nat.{ℕ, zero, suc, _≤_, _<_}
 use native.Mathlib.Omega.{arith}
-use lib.Dec.{eqb}
+use lib.Dec.{leb}
 use lib.IntN.{ℤ, pos}
 use lib.ListN.{length}
-use borrow.Author.Tests.{eqb-true, lt-ltb}
-use Rattle.sizes.specs.Sizes.{STATES, VARIABLES, TRANSITIONS, ACTIONS, MOST}
-use Rattle.meaning.specs.Grammar.{Record, s-record, v-record, e-record, t-record, a-record, no-record, Form, form, name, most, record-by}
-use Rattle.meaning.specs.Value.{STATE-ROW, VAR-ROW, TRANS-ROW, ACT-ROW, fits}
+use borrow.Author.Tests.{leb-true, lt-ltb}
+use Rattle.sizes.specs.Sizes.{MOST}
+use Rattle.meaning.specs.Grammar.{Record, s-record, v-record, e-record, t-record, a-record, no-record, form, size}
+use Rattle.meaning.specs.Grammar.{name, most, row-size, record-by}
+use Rattle.meaning.specs.Lists.{every}
+use Rattle.meaning.specs.Value.{fits}
+use Rattle.laws.proofs.Parts.{named, every-record}
 use Rattle.meaning.specs.Number.{numeral}
 use Rattle.meaning.specs.Split.{TAB, LF, fields, joined, tails}
 use Rattle.meaning.specs.Line.{Line, worse, room, line, letter-of, field, rest-of, read-by, line-by, write-by, text-of-row}
 use Rattle.meaning.specs.Text.{record-of}
-use Rattle.round_trip.specs.Rows.{row-size}
 use Rattle.round_trip.proofs.Splits.{Free, AllFree, free-byte, free-joined, fields-joined, joined-fields}
 use Rattle.round_trip.proofs.Fields.{Good, Sized, worse-good, room-good, numbers-at, at-self, letter-field}
 use Rattle.round_trip.proofs.Apart.{other-letters, dash-number, place-history, place-state, history-state}
-use Rattle.round_trip.proofs.Forms.{size, Clear, LineKept, form-kept, form-reads, form-free, most-bytes, form-short}
+use Rattle.round_trip.proofs.Forms.{Clear, LineKept, form-kept, form-reads, form-free, most-bytes, form-short}
 
 -- ---- the forms
 
@@ -44,23 +46,15 @@ clear v-record n = (tt, (tt, (tt, tt)))
 clear e-record n = refl
 clear t-record n = (tt, (tt, (tt, ((tt, (tt, (tt, target-clear))), ((tt, (refl, (tt, target-clear))), (dash-number, refl))))))
 clear a-record n = (refl, (tt, ((refl, (tt, tt)), ((refl, (tt, tt)), (other-letters refl, refl)))))
-clear no-record n = tt
+clear no-record n = refl
 
 few : (r : Record) (n : ℕ) → n < most r → n ≤ MOST
-few s-record n h = omega arith
-few v-record n h = omega arith
-few e-record n h = omega arith
-few t-record n h = omega arith
-few a-record n h = omega arith
-few no-record n h = omega arith
+unfolding every
+few r n h = omega (arith, h, leb-true (most r) MOST (every-record (λ q. leb (most q) MOST) refl r n h))
 
 letter-above : (r : Record) (n : ℕ) → n < most r → 45 ≤ name r
-letter-above s-record n h = omega arith
-letter-above v-record n h = omega arith
-letter-above e-record n h = omega arith
-letter-above t-record n h = omega arith
-letter-above a-record n h = omega arith
-letter-above no-record n h = absurd (omega arith)
+unfolding every
+letter-above r n h = leb-true 45 (name r) (every-record (λ q. leb 45 (name q)) refl r n h)
 
 -- ---- a line that was read
 
@@ -75,12 +69,17 @@ first-and-rest : (k : ℕ) (fs : List (List ℕ)) → 0 < k → letter-of (field
 first-and-rest k [] h e = absurd (omega arith)
 first-and-rest k (f ∷ fs) h e = ap (λ (g : List ℕ). g ∷ fs) (letter-field f k h e)
 
+-- a line whose mark is right is within the size of its kind
+pub row-room : (r : Record) (n : ℕ) (fs : List (List ℕ)) → Good (line-by r n fs .mark) → n < most r
+unfolding line-by
+row-room r n fs g = room-good n (most r) (worse-good (room n (most r)) (read-by (form r n) n (rest-of fs) .mark) g .0)
+
 pub row-kept : (r : Record) (n : ℕ) (l : List ℕ) → letter-of (field (fields l) 0) ≡ name r → Good (line-by r n (fields l) .mark)
     → RowKept r n l (line-by r n (fields l) .row)
 unfolding line-by text-of-row
 row-kept r n l e g =
     let w = worse-good (room n (most r)) (read-by (form r n) n (rest-of (fields l)) .mark) g in
-    let h = room-good n (most r) (w .0) in
+    let h = row-room r n (fields l) g in
     let a = letter-above r n h in
     let k = form-kept (form r n) n (rest-of (fields l)) (clear r n) (w .1) in
     let s = at-self (read-by (form r n) n (rest-of (fields l)) .row) in
@@ -112,8 +111,8 @@ module _ (r : Record) (n : ℕ) (row : List ℤ) (ok : fits (form r n) 0 row ≡
   unfolding text-of-row
   its-fields = fields-joined (name r ∷ []) (write-by (form r n) n 0 row) (all-free TAB (omega arith))
 
-  pub row-named : record-of (fields (text-of-row r n row)) ≡ record-by (name r)
-  row-named = rw its-fields
+  pub row-named : record-of (fields (text-of-row r n row)) ≡ r
+  row-named = rw its-fields (named r)
 
   pub row-reads : length row ≡ row-size r → line-by r n (fields (text-of-row r n row)) ≡ line 0 row
   unfolding line-by room worse

@@ -10,6 +10,7 @@ use lib.IntN.{ℤ}
 use lib.ListN.{length, length-map}
 use borrow.Author.Tests.{leb-true, le-leb, le-ltb}
 use Rattle.sizes.specs.Sizes.{TEXT}
+use Rattle.meaning.specs.Grammar.{s-record}
 use Rattle.meaning.specs.Value.{Rows, VALUE, state-by, rows-of, chart-by, chart-of, rule-0}
 use Rattle.meaning.specs.Chart.{Chart}
 use Rattle.meaning.specs.Tree.{is-o, kind-of}
@@ -20,7 +21,7 @@ use Rattle.round_trip.proofs.Numbers.{no}
 use Rattle.round_trip.proofs.Fields.{both}
 use Rattle.round_trip.proofs.WalkKept.{text-kept}
 use Rattle.round_trip.proofs.WalkRead.{text-reads}
-use Rattle.round_trip.proofs.Values.{rows-back, value-keeps, value-shaped}
+use Rattle.round_trip.proofs.Values.{back, value-keeps, value-shaped}
 use Rattle.round_trip.proofs.Same.{Same, value-same}
 use Rattle.round_trip.proofs.Short.{text-short}
 
@@ -40,9 +41,9 @@ two-states c e =
     (rule-2 c ∷ rule-3 c ∷ rule-4 c ∷ rule-5 c ∷ rule-6 c ∷ rule-7 c ∷ []) e in
     leb-true 2 (length (c .states)) (both (leb 2 (length (c .states))) (is-o (kind-of c 0)) r .0)
 
-two-rows : (r : Rows) → failing-rule (chart-by r) ≡ none → 2 ≤ length (r .states)
+two-rows : (r : Rows) → failing-rule (chart-by r) ≡ none → 2 ≤ length (r s-record)
 unfolding chart-by
-two-rows r e = rw (length-map (r .states) state-by) at (two-states (chart-by r) e)
+two-rows r e = rw (length-map (r s-record) state-by) at (two-states (chart-by r) e)
 
 -- a value that no rule refuses keeps R0, and its chart passes R1 to R7
 pub record Passes (v : List ℤ) : Type 0 where
@@ -88,7 +89,7 @@ unfolding text-of
 read-then-text text n v e =
     let a = accepted text n v e in
     let k = text-kept text (a .rows) (a .stated) in
-    rw (a .value, rows-back (a .rows) (k .1)) (k .0)
+    rw (a .value, back (a .rows) (k .1)) (k .0)
 
 -- the value that was read passes all rules
 pub read-then-rules : (text : List ℕ) (n : ℕ) (v : List ℤ) → read text n ≡ done v → failing-rule-of v ≡ none
@@ -96,7 +97,7 @@ unfolding failing-rule-of chart-of
 read-then-rules text n v e =
     let a = accepted text n v e in
     let k = text-kept text (a .rows) (a .stated) in
-    rw (a .value, value-keeps (a .rows) (k .1) (two-rows (a .rows) (a .allowed)), rows-back (a .rows) (k .1)) (a .allowed)
+    rw (a .value, value-keeps (a .rows) (k .1) (two-rows (a .rows) (a .allowed)), back (a .rows) (k .1)) (a .allowed)
 
 -- and writing it into any buffer that is long enough gives those bytes
 pub read-then-write : (text : List ℕ) (n : ℕ) (v : List ℤ) (m : ℕ) → read text n ≡ done v → length text ≤ m → write v m ≡ done text

@@ -7,7 +7,7 @@ use mathlib.Core.Logic.{⊎-elim}
 use mathlib.Core.Option.{none}
 use Prim.Native.Nat.{ℕ, zero, suc, _+_, _*_, max, _≤_, _<_}
 use native.Mathlib.Omega.{arith}
-use native.Mathlib.Nat.{le-trans, mul-suc, mul-le-mul-left, zero-add}
+use native.Mathlib.Nat.{le-refl, le-trans, mul-suc, mul-le-mul-left}
 use lib.IntN.{ℤ, pos}
 use lib.ListN.{length, getD, length-append, length-map}
 use lib.Dec.{leb}
@@ -23,19 +23,19 @@ use Rattle.meaning.specs.declared.chart.Owner.the-variants.{DefaultOf as defaul
 use Rattle.meaning.specs.declared.chart.Owner.the-variants.{ExitOf as exit-of, TransitionOf as transition-of}
 use Rattle.meaning.specs.declared.chart.Sign.the-variants.{Equal as equal, Less as less, More as more}
 use Rattle.meaning.specs.declared.chart.Target.the-variants.{History as to-history, InPlace as no-target, To as to}
-use Rattle.meaning.specs.Grammar.{Record, s-record, v-record, e-record, t-record, a-record, form, bytes, kind, guard, target}
-use Rattle.meaning.specs.Lists.{every, every-from, map-from}
+use Rattle.meaning.specs.Grammar.{Record, s-record, v-record, e-record, t-record, a-record, no-record, ORDER, form, most, bytes}
+use Rattle.meaning.specs.Grammar.{kind, guard, target}
+use Rattle.meaning.specs.Lists.{concat-map, map-from}
 use Rattle.meaning.specs.Number.{digits-in, digits, numeral}
 use Rattle.meaning.specs.Rules.{failing-rule}
 use Rattle.meaning.specs.Split.{LF, ended}
 use Rattle.meaning.specs.Line.{text-of-row}
-use Rattle.meaning.specs.Text.{text-by}
+use Rattle.meaning.specs.Text.{lines-of, text-by}
 use Rattle.meaning.specs.Tree.{state-row, parent-of, kind-of, default-child, trans-row}
 use Rattle.meaning.specs.Value.{Rows, num, is-letter, is-absent, one-of-letters, ref-or-none, kind-by, state-by}
 use Rattle.meaning.specs.Value.{guard-by, target-by, trans-by}
-use Rattle.meaning.specs.Value.{owner-by, action-by, fits, chart-by, rows-of, chart-of, rule-0}
-use Rattle.meaning.specs.Value.{state-statable, var-statable, trans-statable, action-statable}
-use Rattle.laws.proofs.Lists.{and-left, and-right, or-cases, every-at}
+use Rattle.meaning.specs.Value.{owner-by, action-by, fits, statable, chart-by, rows-of, chart-of, rule-0}
+use Rattle.laws.proofs.Lists.{and-left, and-right, or-cases, every-from-at}
 use Rattle.laws.proofs.Rules.{Guard-facts, Transition-facts, Owner-facts}
 use Rattle.laws.specs.Facts.{Target-facts}
 use Rattle.laws.proofs.Sound.{Sound-chart, sound-chart}
@@ -64,26 +64,27 @@ T-ROW = wide STATES ∷ wide EVENTS ∷ wide VARIABLES ∷ NUMBER ∷ NUMBER ∷
 abbrev A-ROW : List ℕ
 A-ROW = NUMBER ∷ wide (max STATES TRANSITIONS) ∷ []
 
+abbrev widths : Record → List ℕ
+widths s-record = S-ROW
+widths v-record = []
+widths e-record = []
+widths t-record = T-ROW
+widths a-record = A-ROW
+widths no-record = []
+
 -- a line and its LF
-abbrev S-LINE : ℕ
-S-LINE = suc (suc (most-bytes (wide STATES) S-ROW (form s-record 1) 0))
+abbrev LINE : Record → ℕ
+LINE r = suc (suc (most-bytes (wide (most r)) (widths r) (form r 1) 0))
 
-abbrev V-LINE : ℕ
-V-LINE = suc (suc (most-bytes (wide VARIABLES) [] (form v-record 0) 0))
+-- a chart with every record of some kinds
+abbrev bytes-in : List Record → ℕ
+bytes-in [] = 0
+bytes-in (r ∷ rs) = LINE r * most r + bytes-in rs
 
-abbrev E-LINE : ℕ
-E-LINE = suc (suc (most-bytes 1 [] (form e-record 0) 0))
-
-abbrev T-LINE : ℕ
-T-LINE = suc (suc (most-bytes (wide TRANSITIONS) T-ROW (form t-record 0) 0))
-
-abbrev A-LINE : ℕ
-A-LINE = suc (suc (most-bytes (wide ACTIONS) A-ROW (form a-record 0) 0))
-
--- a chart with every record: the only place where the sizes are computed with
-enough : S-LINE * STATES + (V-LINE * VARIABLES + (E-LINE + (T-LINE * TRANSITIONS + A-LINE * ACTIONS))) ≤ TEXT
+-- the only place where the sizes are computed with
+enough : bytes-in ORDER ≤ TEXT
 unfolding digits digits-in
-enough = leb-true (S-LINE * STATES + (V-LINE * VARIABLES + (E-LINE + (T-LINE * TRANSITIONS + A-LINE * ACTIONS)))) TEXT refl
+enough = leb-true (bytes-in ORDER) TEXT refl
 
 -- ---- what the rules say of a row
 
@@ -163,17 +164,17 @@ module _ (r : Rows) (sound : Sound-chart (chart-by r)) (sized : Sized-chart (cha
 
   -- states
 
-  module _ (i : ℕ) (l : i < length (r .states)) where
+  module _ (i : ℕ) (l : i < length (r s-record)) where
     abbrev s-row : List ℤ
-    s-row = getD (r .states) i []
+    s-row = getD (r s-record) i []
 
     state-at : state-row c i ≡ state-by s-row
     unfolding state-row chart-by
-    state-at = getD-map state-by (r .states) i no-state [] l
+    state-at = getD-map state-by (r s-record) i no-state [] l
 
     state-in : i < STATES
     unfolding chart-by
-    state-in = omega (arith, sized .states, length-map (r .states) state-by)
+    state-in = omega (arith, sized .states, length-map (r s-record) state-by)
 
     parent-is : inRange (num s-row 0) ≡ true → parent-of c i ≡ ref (num s-row 0)
     unfolding parent-of state-by
@@ -188,26 +189,26 @@ module _ (r : Rows) (sound : Sound-chart (chart-by r)) (sized : Sized-chart (cha
     kind-is = ap (λ x. x .kind) state-at
 
   -- the root has no parent, and the parent of another comes before it
-  parent-named : (i : ℕ) (l : i < length (r .states)) → state-statable i (s-row i l) ≡ true → inRange (num (s-row i l) 0) ≡ true
+  parent-named : (i : ℕ) (l : i < length (r s-record)) → statable s-record i (s-row i l) ≡ true → inRange (num (s-row i l) 0) ≡ true
       → ref (num (s-row i l) 0) ≤ STATES
-  unfolding state-statable
+  unfolding statable
   parent-named zero l e h =
       let a = and-left (is-absent (num (s-row 0 l) 0)) (fits kind 1 (s-row 0 l)) e in
       absurd (true≢false (sym a ∙ absent-number (num (s-row 0 l) 0) h))
   parent-named (suc i) l e h = omega (arith, parent-is (suc i) l h, sound .ordered .falls i, state-in (suc i) l)
 
-  kind-fits : (i : ℕ) (row : List ℤ) → state-statable i row ≡ true → fits kind 1 row ≡ true
-  unfolding state-statable
+  kind-fits : (i : ℕ) (row : List ℤ) → statable s-record i row ≡ true → fits kind 1 row ≡ true
+  unfolding statable
   kind-fits zero row e = and-right (is-absent (num row 0)) (fits kind 1 row) e
   kind-fits (suc i) row e = and-right (inRange (num row 0)) (fits kind 1 row) e
 
-  default-named : (i : ℕ) (l : i < length (r .states)) → state-statable i (s-row i l) ≡ true → inRange (num (s-row i l) 2) ≡ true
+  default-named : (i : ℕ) (l : i < length (r s-record)) → statable s-record i (s-row i l) ≡ true → inRange (num (s-row i l) 2) ≡ true
       → ref (num (s-row i l) 2) ≤ STATES
   default-named i l e h =
       let o = kind-is i l ∙ default-of-o (num (s-row i l) 1) (num (s-row i l) 2) (kind-fits i (s-row i l) e) h in
       omega (arith, default-is i l h, sound .default i o .1, sized .states)
 
-  s-sized : (i : ℕ) (l : i < length (r .states)) → state-statable i (s-row i l) ≡ true → Sized S-ROW 0 (s-row i l)
+  s-sized : (i : ℕ) (l : i < length (r s-record)) → statable s-record i (s-row i l) ≡ true → Sized S-ROW 0 (s-row i l)
   s-sized i l e = (parent, (short-numeral (num row 1), (default, tt)))
     where
       row : List ℤ
@@ -221,19 +222,19 @@ module _ (r : Rows) (sound : Sound-chart (chart-by r)) (sized : Sized-chart (cha
 
   -- transitions
 
-  module _ (i : ℕ) (l : i < length (r .transitions)) where
+  module _ (i : ℕ) (l : i < length (r t-record)) where
     abbrev t-row : List ℤ
-    t-row = getD (r .transitions) i []
+    t-row = getD (r t-record) i []
 
     t-facts : Transition-facts c (trans-by t-row)
     unfolding trans-row chart-by
     t-facts =
-        subst (Transition-facts c) (getD-map trans-by (r .transitions) i no-trans [] l)
-        (sound .transitions i (omega (arith, length-map (r .transitions) trans-by, l)))
+        subst (Transition-facts c) (getD-map trans-by (r t-record) i no-trans [] l)
+        (sound .transitions i (omega (arith, length-map (r t-record) trans-by, l)))
 
-    module _ (e : trans-statable t-row ≡ true) where
+    module _ (e : statable t-record i t-row ≡ true) where
       guarded : fits guard 2 t-row ≡ true
-      unfolding trans-statable
+      unfolding statable
       guarded =
           and-right (inRange (num t-row 1)) (fits guard 2 t-row)
           (and-right (inRange (num t-row 0)) (inRange (num t-row 1) && fits guard 2 t-row) e)
@@ -275,15 +276,15 @@ module _ (r : Rows) (sound : Sound-chart (chart-by r)) (sized : Sized-chart (cha
 
   -- actions
 
-  module _ (i : ℕ) (l : i < length (r .actions)) where
+  module _ (i : ℕ) (l : i < length (r a-record)) where
     abbrev a-row : List ℤ
-    a-row = getD (r .actions) i []
+    a-row = getD (r a-record) i []
 
     a-facts : Owner-facts c (owner-by (num a-row 0) (num a-row 1))
     unfolding action-by chart-by
     a-facts =
-        subst (λ x. Owner-facts c (x .owner)) (getD-map action-by (r .actions) i no-action [] l)
-        (sound .owners i (omega (arith, length-map (r .actions) action-by, l)))
+        subst (λ x. Owner-facts c (x .owner)) (getD-map action-by (r a-record) i no-action [] l)
+        (sound .owners i (omega (arith, length-map (r a-record) action-by, l)))
 
     a-sized : Sized A-ROW 0 a-row
     a-sized = (short-numeral (num a-row 0), (owner, tt))
@@ -294,15 +295,6 @@ module _ (r : Rows) (sound : Sound-chart (chart-by r)) (sized : Sized-chart (cha
             named-length (num a-row 1) (max STATES TRANSITIONS) (omega (arith, named, sized .states, sized .transitions)) (omega arith)
 
 -- ---- lines one behind another
-
-every-from-at : (p : ℕ → List ℤ → Bool) (k : ℕ) (xs : List (List ℤ)) → every-from p k xs ≡ true → (i : ℕ) → i < length xs
-    → p (k + i) (getD xs i []) ≡ true
-unfolding every-from
-every-from-at p k [] e i l = absurd (omega arith)
-every-from-at p k (x ∷ xs) e zero l = let z : k + 0 ≡ k = omega arith in rw z (and-left (p k x) (every-from p (suc k) xs) e)
-every-from-at p k (x ∷ xs) e (suc i) l =
-    let z : k + suc i ≡ suc k + i = omega arith in
-    rw z (every-from-at p (suc k) xs (and-right (p k x) (every-from p (suc k) xs) e) i (omega arith))
 
 lines-short : (f : ℕ → List ℤ → List ℕ) (b k : ℕ) (xs : List (List ℤ))
     → ((i : ℕ) → i < length xs → suc (length (f (k + i) (getD xs i []))) ≤ b) → length (ended (map-from f k xs)) ≤ b * length xs
@@ -330,62 +322,48 @@ turn-short size i l = digits-grow size i (omega arith)
 wide-one : (size : ℕ) → 1 ≤ wide size
 wide-one size = omega (arith, digits-grow size 0 (omega arith), ap length (digits-one 0 (omega arith)))
 
+-- the first record of a kind is not longer than the others
+first-short : (q : Record) (i : ℕ) → most-bytes (wide (most q)) (widths q) (form q i) 0 ≤ most-bytes (wide (most q)) (widths q) (form q 1) 0
+first-short s-record zero = omega (arith, wide-one STATES)
+first-short s-record (suc i) = le-refl _
+first-short v-record i = le-refl _
+first-short e-record i = le-refl _
+first-short t-record i = le-refl _
+first-short a-record i = le-refl _
+first-short no-record i = le-refl _
+
 module _ (r : Rows) (shaped : Shaped r) (sound : Sound-chart (chart-by r)) (sized : Sized-chart (chart-by r)) where
-  s-line : (i : ℕ) → i < length (r .states) → suc (length (text-of-row s-record i (getD (r .states) i []))) ≤ S-LINE
-  unfolding state-statable
-  s-line i l = go i l (rw (zero-add i) at (every-from-at state-statable 0 (r .states) (shaped .states .ok) i l))
-    where
-      go : (i : ℕ) (l : i < length (r .states)) → state-statable i (getD (r .states) i []) ≡ true
-          → suc (length (text-of-row s-record i (getD (r .states) i []))) ≤ S-LINE
-      go zero l e =
-          let b = row-short s-record 0 (getD (r .states) 0 []) e (omega arith) (wide STATES) S-ROW
-          (turn-short STATES 0 (omega arith)) (s-sized r sound sized 0 l e) in
-          omega (arith, b, wide-one STATES)
-      go (suc i) l e =
-          let n : suc i < STATES = omega (arith, l, shaped .states .few) in
-          let b = row-short s-record (suc i) (getD (r .states) (suc i) []) e n (wide STATES) S-ROW
-          (turn-short STATES (suc i) n) (s-sized r sound sized (suc i) l e) in
-          omega (arith, b)
+  row-sized : (q : Record) (i : ℕ) → i < length (r q) → statable q i (getD (r q) i []) ≡ true → Sized (widths q) 0 (getD (r q) i [])
+  row-sized s-record i l e = s-sized r sound sized i l e
+  row-sized v-record i l e = tt
+  row-sized e-record i l e = tt
+  row-sized t-record i l e = t-sized r sound sized i l e
+  row-sized a-record i l e = a-sized r sound sized i l
+  row-sized no-record i l e = tt
 
-  v-line : (i : ℕ) → i < length (r .vars) → suc (length (text-of-row v-record i (getD (r .vars) i []))) ≤ V-LINE
-  unfolding var-statable
-  v-line i l =
-      let n : i < VARIABLES = omega (arith, l, shaped .vars .few) in
-      let e = every-at var-statable (r .vars) (shaped .vars .ok) i l [] in
-      let b = row-short v-record i (getD (r .vars) i []) e n (wide VARIABLES) [] (turn-short VARIABLES i n) tt in
-      omega (arith, b)
+  line-short : (q : Record) (i : ℕ) → i < length (r q) → suc (length (text-of-row q i (getD (r q) i []))) ≤ LINE q
+  unfolding statable
+  line-short q i l =
+      let z : 0 + i ≡ i = omega arith in
+      let e = rw z at (every-from-at (statable q) 0 (r q) (shaped .fitting q .ok) i l []) in
+      let n : i < most q = omega (arith, l, shaped .fitting q .few) in
+      let b = row-short q i (getD (r q) i []) e n (wide (most q)) (widths q) (turn-short (most q) i n) (row-sized q i l e) in
+      omega (arith, b, first-short q i)
 
-  e-line : suc (length (text-of-row e-record 0 (r .events ∷ []))) ≤ E-LINE
-  e-line =
-      let b = row-short e-record 0 (r .events ∷ []) (shaped .events) (omega arith) (wide 1) [] (turn-short 1 0 (omega arith)) tt in
-      omega (arith, b)
-
-  t-line : (i : ℕ) → i < length (r .transitions) → suc (length (text-of-row t-record i (getD (r .transitions) i []))) ≤ T-LINE
-  unfolding trans-statable
-  t-line i l =
-      let n : i < TRANSITIONS = omega (arith, l, shaped .transitions .few) in
-      let e = every-at trans-statable (r .transitions) (shaped .transitions .ok) i l [] in
-      let b = row-short t-record i (getD (r .transitions) i []) e n (wide TRANSITIONS) T-ROW
-      (turn-short TRANSITIONS i n) (t-sized r sound sized i l e) in
-      omega (arith, b)
-
-  a-line : (i : ℕ) → i < length (r .actions) → suc (length (text-of-row a-record i (getD (r .actions) i []))) ≤ A-LINE
-  unfolding action-statable
-  a-line i l =
-      let n : i < ACTIONS = omega (arith, l, shaped .actions .few) in
-      let e = every-at action-statable (r .actions) (shaped .actions .ok) i l [] in
-      let b = row-short a-record i (getD (r .actions) i []) e n (wide ACTIONS) A-ROW
-      (turn-short ACTIONS i n) (a-sized r sound sized i l) in
-      omega (arith, b)
+  lines-few : (qs : List Record) → length (ended (concat-map (lines-of r) qs)) ≤ bytes-in qs
+  unfolding concat-map ended
+  lines-few [] = omega arith
+  lines-few (q ∷ qs) =
+      let k = kind-short (text-of-row q) (LINE q) (most q) (r q) (line-short q) (shaped .fitting q .few) in
+      rw (
+        ended-append (lines-of r q) (concat-map (lines-of r) qs),
+        length-append (ended (lines-of r q)) (ended (concat-map (lines-of r) qs)),
+      )
+      (omega (arith, k, lines-few qs))
 
   rows-short : length (text-by r) ≤ TEXT
-  unfolding text-by ended
-  rows-short =
-      let s = kind-short (text-of-row s-record) S-LINE STATES (r .states) s-line (shaped .states .few) in
-      let v = kind-short (text-of-row v-record) V-LINE VARIABLES (r .vars) v-line (shaped .vars .few) in
-      let t = kind-short (text-of-row t-record) T-LINE TRANSITIONS (r .transitions) t-line (shaped .transitions .few) in
-      let a = kind-short (text-of-row a-record) A-LINE ACTIONS (r .actions) a-line (shaped .actions .few) in
-      simp (ended-append, length-append) (omega (arith, s, v, e-line, t, a, enough))
+  unfolding text-by
+  rows-short = le-trans (lines-few ORDER) enough
 
 pub text-short : (v : List ℤ) → rule-0 v ≡ true → failing-rule (chart-by (rows-of v)) ≡ none → length (text-by (rows-of v)) ≤ TEXT
 unfolding chart-of

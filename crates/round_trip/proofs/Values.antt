@@ -1,26 +1,30 @@
 -- The value of rows and the rows of a value: rows that a text can state come back from their value, and a value that keeps R0 has such
--- rows. In the order: rows laid out and cut again; areas; rows back from a value; R0 of a value of rows; rows of a value that keeps R0.
+-- rows. In the order: rows laid out and cut again; parts; rows back from a value; R0 of a value of rows; rows of a value that keeps R0.
 -- Assumes nothing.
-use mathlib.Core.Path.{_≡_, refl, sym, ap, _∙_}
-use mathlib.Core.Bool.{Bool, true, false, cond, _&&_, false≢true}
+use mathlib.Core.Path.{_≡_, refl, sym, ap, _∙_, subst, fun-ext}
+use mathlib.Core.Bool.{Bool, true, false, cond, _&&_, _||_, false≢true}
 use mathlib.Core.List.{List, [], _∷_, _++_, append-assoc, append-nil}
 use Prim.Native.Nat.{ℕ, zero, suc, _+_, _-_, _*_, _≤_}
 use native.Mathlib.Omega.{arith}
 use native.Mathlib.Nat.{suc-mul, mul-le-mul-right}
 use lib.Dec.{leb}
 use lib.IntN.{ℤ, pos, negsuc}
-use lib.ListN.{length, take, drop, replicate, length-append, length-drop, length-replicate}
-use lib.Seq.{take-at, drop-at, drop-drop, length-take-le, take-add}
+use lib.ListN.{length, getD, take, drop, replicate, length-append, length-drop, length-replicate}
+use lib.Seq.{take-at, drop-at, drop-drop, length-take-le, take-add, getD-drop}
 use borrow.Author.Tests.{leb-true, le-leb}
-use Rattle.sizes.specs.Sizes.{STATES, VARIABLES, EVENTS, TRANSITIONS, ACTIONS}
+use Rattle.sizes.specs.Sizes.{LEAST-STATES}
 use Rattle.numbers.specs.Reference.{ref}
-use Rattle.meaning.specs.Lists.{every, every-from, padded, chunks}
-use Rattle.meaning.specs.Value.{Rows, num, STATE-ROW, VAR-ROW, TRANS-ROW, ACT-ROW, STATES-AT, VARS-AT, TRANSITIONS-AT, ACTIONS-AT, VALUE}
-use Rattle.meaning.specs.Value.{state-statable, var-statable, trans-statable, action-statable, size-by, rows-of, count-fits, counts-fit}
-use Rattle.meaning.specs.Value.{rows-statable, rule-0}
-use Rattle.meaning.specs.Text.{flat, area, value-of}
+use Rattle.laws.proofs.Lists.{and-left, and-right}
+use Rattle.laws.proofs.Parts.{same-true, same-part-true, part-every}
+use Rattle.laws.proofs.Value.{part-ok, many-few, size-by-most}
+use Rattle.meaning.specs.Grammar.{Record, s-record, v-record, e-record, t-record, a-record, no-record, most, row-size, same}
+use Rattle.meaning.specs.Lists.{every, exists, every-from, concat-map, padded, chunks}
+use Rattle.meaning.specs.Value.{Rows, Part, counted, laid, PARTS, room-of, room-in, same-part, begins, place, VALUE, num}
+use Rattle.meaning.specs.Value.{size-by, how-many, rows-of, count-fits, statable, least, part-fits, rule-0}
+use Rattle.meaning.specs.Text.{flat, area, part-of, value-of}
+use Rattle.round_trip.specs.Rows.{AllLong, Fit}
 use Rattle.round_trip.proofs.Fields.{both}
-use Rattle.round_trip.proofs.Shaped.{Shaped, Fitting, AllLong}
+use Rattle.round_trip.proofs.Shaped.{Shaped, Fitting, fitting-none, shaped-fit, nothing}
 
 -- ---- rows laid out, and cut again
 
@@ -82,130 +86,145 @@ module _ (k most : ℕ) (rs : List (List ℤ)) (long : AllLong k rs) (few : leng
       rw (append-assoc (flat rs) (replicate (most * k - length (flat rs)) (pos 0)) t)
       (chunks-flat k rs (replicate (most * k - length (flat rs)) (pos 0) ++ t) long)
 
--- ---- rows back from their value
+-- ---- parts
+
+-- a part ends within the value
+pub part-within : (ps : List Part) (p : Part) → exists (same-part p) ps ≡ true → begins ps p + room-of p ≤ room-in ps
+unfolding exists
+part-within [] p h = absurd (false≢true h)
+part-within (q ∷ qs) p h = go (same-part p q) refl h (part-within qs p)
+  where
+    go : (t : Bool) → same-part p q ≡ t → t || exists (same-part p) qs ≡ true
+        → (exists (same-part p) qs ≡ true → begins qs p + room-of p ≤ room-in qs)
+        → cond t 0 (room-of q + begins qs p) + room-of p ≤ room-of q + room-in qs
+    go true e h ih = let z : room-of p ≡ room-of q = ap room-of (same-part-true p q e) in omega arith
+    go false e h ih = let i = ih h in omega arith
 
 pub size-is : (most n : ℕ) → n ≤ most → size-by most (pos n) ≡ n
 unfolding size-by
 size-is most n h = rw (le-leb n most h)
 
-pub size-few : (most : ℕ) (z : ℤ) → size-by most z ≤ most
-unfolding size-by
-size-few most z = go (leb (ref z) most) refl
-  where
-    go : (t : Bool) → leb (ref z) most ≡ t → cond t (ref z) 0 ≤ most
-    go true e = leb-true (ref z) most e
-    go false e = omega arith
+module _ (rows : Rows) (f : Fit rows) (z : List ℤ) where
+  part-length : (p : Part) → length (part-of rows p) ≡ room-of p
+  part-length (counted r) = refl
+  part-length (laid r) = area-length (row-size r) (most r) (rows r) (f .long r) (f .few r)
 
-rows-same : (a b : Rows) → a .states ≡ b .states → a .vars ≡ b .vars → a .events ≡ b .events → a .transitions ≡ b .transitions
-    → a .actions ≡ b .actions → a ≡ b
-rows-same a b p q r s t =
-    go (a .states) (b .states) (a .vars) (b .vars) (a .events) (b .events) (a .transitions) (b .transitions) (a .actions) (b .actions) p q
-    r s t
-  where
-    go : (s s′ v v′ : List (List ℤ)) (e e′ : ℤ) (t t′ x x′ : List (List ℤ)) → s ≡ s′ → v ≡ v′ → e ≡ e′ → t ≡ t′ → x ≡ x′
-        → _≡_ {A = Rows} (record { states = s; vars = v; events = e; transitions = t; actions = x })
-        (record { states = s′; vars = v′; events = e′; transitions = t′; actions = x′ })
-    go s s′ v v′ e e′ t t′ x x′ p q r u w = rw (p, q, r, u, w)
+  pub parts-length : (ps : List Part) → length (concat-map (part-of rows) ps) ≡ room-in ps
+  unfolding concat-map
+  parts-length [] = refl
+  parts-length (p ∷ ps) = rw (length-append (part-of rows p) (concat-map (part-of rows) ps), part-length p, parts-length ps)
 
-module _ (r : Rows) (s : Shaped r) where
-  abbrev s-area : List ℤ
-  s-area = area (STATES * STATE-ROW) (r .states)
+  -- what stands from the place of a part on
+  pub record From (ps : List Part) (p : Part) : Type 0 where
+    pub rest : List ℤ
+    pub is : drop (begins ps p) (concat-map (part-of rows) ps ++ z) ≡ part-of rows p ++ rest
 
-  abbrev v-area : List ℤ
-  v-area = area (VARIABLES * VAR-ROW) (r .vars)
+  from : (ps : List Part) (p : Part) → exists (same-part p) ps ≡ true → From ps p
+  unfolding exists concat-map
+  from [] p h = absurd (false≢true h)
+  from (q ∷ qs) p h = go (same-part p q) refl h (from qs p)
+    where
+      l : List ℤ
+      l = concat-map (part-of rows) qs ++ z
 
-  abbrev t-area : List ℤ
-  t-area = area (TRANSITIONS * TRANS-ROW) (r .transitions)
+      assoc : concat-map (part-of rows) (q ∷ qs) ++ z ≡ part-of rows q ++ l
+      assoc = append-assoc (part-of rows q) (concat-map (part-of rows) qs) z
 
-  abbrev a-area : List ℤ
-  a-area = area (ACTIONS * ACT-ROW) (r .actions)
+      go : (t : Bool) → same-part p q ≡ t → t || exists (same-part p) qs ≡ true → (exists (same-part p) qs ≡ true → From qs p)
+          → From (q ∷ qs) p
+      go true e h ih = record { rest = l; is = rw (e, same-part-true p q e) assoc }
+      go false e h ih = record {
+        rest = ih h .rest;
+        is =
+            rw (
+              e,
+              assoc,
+              ← drop-drop (begins qs p) (room-of q) (part-of rows q ++ l),
+              drop-at (part-of rows q) l (room-of q) (part-length q),
+            ) (ih h .is);
+      }
 
-  s-long : length s-area ≡ STATES * STATE-ROW
-  s-long = area-length STATE-ROW STATES (r .states) (s .states .long) (s .states .few)
+  -- ---- rows back from their value
 
-  v-long : length v-area ≡ VARIABLES * VAR-ROW
-  v-long = area-length VAR-ROW VARIABLES (r .vars) (s .vars .long) (s .vars .few)
+  abbrev v : List ℤ
+  v = value-of rows ++ z
 
-  t-long : length t-area ≡ TRANSITIONS * TRANS-ROW
-  t-long = area-length TRANS-ROW TRANSITIONS (r .transitions) (s .transitions .long) (s .transitions .few)
-
-  a-long : length a-area ≡ ACTIONS * ACT-ROW
-  a-long = area-length ACT-ROW ACTIONS (r .actions) (s .actions .long) (s .actions .few)
-
-  -- what stands from each kind's place on
-  pub states-from : drop STATES-AT (value-of r) ≡ s-area ++ (v-area ++ (t-area ++ a-area))
+  laid-at : (r : Record) → exists (same-part (laid r)) PARTS ≡ true
+      → chunks (length (rows r)) (row-size r) (drop (place (laid r)) v) ≡ rows r
   unfolding value-of
-  states-from = refl
+  laid-at r h =
+      let w = from PARTS (laid r) h in
+      rw (w .is) (area-rows (row-size r) (most r) (rows r) (f .long r) (f .few r) (w .rest))
 
-  pub vars-from : drop VARS-AT (value-of r) ≡ v-area ++ (t-area ++ a-area)
-  vars-from =
-      sym (drop-drop (STATES * STATE-ROW) STATES-AT (value-of r))
-      ∙ ap (drop (STATES * STATE-ROW)) states-from
-      ∙ drop-at s-area (v-area ++ (t-area ++ a-area)) (STATES * STATE-ROW) s-long
-
-  pub transitions-from : drop TRANSITIONS-AT (value-of r) ≡ t-area ++ a-area
-  transitions-from =
-      sym (drop-drop (VARIABLES * VAR-ROW) VARS-AT (value-of r))
-      ∙ ap (drop (VARIABLES * VAR-ROW)) vars-from
-      ∙ drop-at v-area (t-area ++ a-area) (VARIABLES * VAR-ROW) v-long
-
-  pub actions-from : drop ACTIONS-AT (value-of r) ≡ a-area ++ []
-  actions-from =
-      sym (drop-drop (TRANSITIONS * TRANS-ROW) TRANSITIONS-AT (value-of r))
-      ∙ ap (drop (TRANSITIONS * TRANS-ROW)) transitions-from
-      ∙ drop-at t-area a-area (TRANSITIONS * TRANS-ROW) t-long
-      ∙ sym (append-nil a-area)
-
-  pub value-length : length (value-of r) ≡ VALUE
+  pub count-at : (r : Record) → exists (same-part (counted r)) PARTS ≡ true → num v (place (counted r)) ≡ pos (length (rows r))
   unfolding value-of
-  value-length =
-      let a = s-long in
-      let b = v-long in
-      let c = t-long in
-      let d = a-long in
-      let e = length-append s-area (v-area ++ (t-area ++ a-area)) in
-      let f = length-append v-area (t-area ++ a-area) in
-      let g = length-append t-area a-area in
-      omega arith
+  count-at r h =
+      let w = from PARTS (counted r) h in
+      let n : place (counted r) + 0 ≡ place (counted r) = omega arith in
+      rw (← n, ← getD-drop (place (counted r)) v 0 (pos 0), w .is)
 
-  -- the rows of one kind
-  back : (most k at : ℕ) (rs : List (List ℤ)) (t : List ℤ) → AllLong k rs → length rs ≤ most
-      → drop at (value-of r) ≡ area (most * k) rs ++ t
-      → chunks (size-by most (pos (length rs))) k (drop at (value-of r)) ≡ rs
-  back most k at rs t long few e = rw (size-is most (length rs) few, e) (area-rows k most rs long few t)
+  size-at : (r : Record) → exists (same-part (counted r)) PARTS ≡ true → size-by (most r) (num v (place (counted r))) ≡ length (rows r)
+  size-at r h = rw (count-at r h) (size-is (most r) (length (rows r)) (f .few r))
 
-  pub rows-back : rows-of (value-of r) ≡ r
-  unfolding rows-of value-of
-  rows-back = rows-same (rows-of (value-of r)) r
-      (back STATES STATE-ROW STATES-AT (r .states) (v-area ++ (t-area ++ a-area)) (s .states .long) (s .states .few) states-from)
-      (back VARIABLES VAR-ROW VARS-AT (r .vars) (t-area ++ a-area) (s .vars .long) (s .vars .few) vars-from)
-      refl
-      (back TRANSITIONS TRANS-ROW TRANSITIONS-AT (r .transitions) a-area (s .transitions .long) (s .transitions .few) transitions-from)
-      (back ACTIONS ACT-ROW ACTIONS-AT (r .actions) [] (s .actions .long) (s .actions .few) actions-from)
+  module _ (one : length (rows e-record) ≡ 1) where
+    back-at : (r : Record) → rows-of v r ≡ rows r
+    unfolding rows-of exists
+    back-at s-record = rw (size-at s-record refl) (laid-at s-record refl)
+    back-at v-record = rw (size-at v-record refl) (laid-at v-record refl)
+    back-at e-record = ap (λ (n : ℕ). chunks n 1 (drop (place (laid e-record)) v)) (sym one) ∙ laid-at e-record refl
+    back-at t-record = rw (size-at t-record refl) (laid-at t-record refl)
+    back-at a-record = rw (size-at a-record refl) (laid-at a-record refl)
+    back-at no-record =
+        sym (nothing (rows-of v no-record) (rw chunks-length (size-by-most 0 (num v VALUE)))) ∙ nothing (rows no-record) (f .few no-record)
+
+    pub rows-back : rows-of v ≡ rows
+    rows-back = fun-ext back-at
+
+pub value-length : (rows : Rows) → Fit rows → length (value-of rows) ≡ VALUE
+unfolding value-of
+value-length rows f = parts-length rows f [] PARTS
+
+-- the same with nothing past it
+module _ (rows : Rows) (f : Fit rows) (r : Record) where
+  pub record Laid : Type 0 where
+    pub rest : List ℤ
+    pub is : drop (place (laid r)) (value-of rows) ≡ area (room-of (laid r)) (rows r) ++ rest
+
+  pub laid-from : exists (same-part (laid r)) PARTS ≡ true → Laid
+  unfolding value-of
+  laid-from h =
+      let w = from rows f [] PARTS (laid r) h in
+      record { rest = w .rest; is = rw (append-nil (concat-map (part-of rows) PARTS)) at (w .is) }
+
+  pub count-of : exists (same-part (counted r)) PARTS ≡ true → num (value-of rows) (place (counted r)) ≡ pos (length (rows r))
+  count-of h = rw (append-nil (value-of rows)) at (count-at rows f [] r h)
+
+pub back : (rows : Rows) → Shaped rows → rows-of (value-of rows) ≡ rows
+back rows s = rw (append-nil (value-of rows)) at (rows-back rows (shaped-fit rows (s .fitting)) [] (s .one))
 
 -- ---- R0 of the value of rows
 
-counted : (least most n : ℕ) → least ≤ n → n ≤ most → count-fits least most (pos n) ≡ true
-counted least most n h k = rw (le-leb least n h, le-leb n most k)
+count-fitting : (low high n : ℕ) → low ≤ n → n ≤ high → count-fits low high (pos n) ≡ true
+count-fitting low high n h k = rw (le-leb low n h, le-leb n high k)
 
-counts-kept : (r : Rows) → Shaped r → 2 ≤ length (r .states) → counts-fit (value-of r) ≡ true
-unfolding counts-fit value-of
-counts-kept r s h =
-    rw (
-      counted 2 STATES (length (r .states)) h (s .states .few),
-      counted 0 VARIABLES (length (r .vars)) (omega arith) (s .vars .few),
-      s .events,
-      counted 0 TRANSITIONS (length (r .transitions)) (omega arith) (s .transitions .few),
-      counted 0 ACTIONS (length (r .actions)) (omega arith) (s .actions .few),
-    )
+module _ (rows : Rows) (s : Shaped rows) (two : LEAST-STATES ≤ length (rows s-record)) where
+  least-met : (r : Record) → least r ≤ length (rows r)
+  least-met r = go (same r s-record) refl
+    where
+      go : (t : Bool) → same r s-record ≡ t → cond t LEAST-STATES 0 ≤ length (rows r)
+      go true e = rw (same-true r s-record e) two
+      go false e = omega arith
 
-rows-kept : (r : Rows) → Shaped r → rows-statable r ≡ true
-unfolding rows-statable
-rows-kept r s = rw (s .states .ok, s .vars .ok, s .transitions .ok, s .actions .ok)
+  pub value-keeps : rule-0 (value-of rows) ≡ true
+  unfolding rule-0
+  value-keeps = rw (value-length rows fit) (part-every (part-fits (value-of rows)) PARTS go)
+    where
+      fit : Fit rows
+      fit = shaped-fit rows (s .fitting)
 
-pub value-keeps : (r : Rows) → Shaped r → 2 ≤ length (r .states) → rule-0 (value-of r) ≡ true
-unfolding rule-0
-value-keeps r s h = rw (rows-back r s, rows-kept r s, counts-kept r s h, value-length r s)
+      go : (p : Part) → exists (same-part p) PARTS ≡ true → part-fits (value-of rows) p ≡ true
+      go (counted r) h = rw (count-of rows fit r h) (count-fitting (least r) (most r) (length (rows r)) (least-met r) (fit .few r))
+      go (laid r) h = rw (back rows s) (s .fitting r .ok)
 
 -- ---- the rows of a value that keeps R0
 
@@ -216,55 +235,33 @@ counted-is least most (negsuc n) e = absurd (false≢true e)
 module _ (v : List ℤ) (keeps : rule-0 v ≡ true) where
   pub enough : VALUE ≤ length v
   unfolding rule-0
-  enough = leb-true VALUE (length v) (both (leb VALUE (length v)) (counts-fit v && rows-statable (rows-of v)) keeps .0)
+  enough = leb-true VALUE (length v) (and-left (leb VALUE (length v)) (every (part-fits v) PARTS) keeps)
 
-  pub counts-of : counts-fit v ≡ true
-  unfolding rule-0
-  counts-of =
-      both (counts-fit v) (rows-statable (rows-of v))
-      (both (leb VALUE (length v)) (counts-fit v && rows-statable (rows-of v)) keeps .1) .0
-
-  rows-ok : rows-statable (rows-of v) ≡ true
-  unfolding rule-0
-  rows-ok =
-      both (counts-fit v) (rows-statable (rows-of v))
-      (both (leb VALUE (length v)) (counts-fit v && rows-statable (rows-of v)) keeps .1) .1
-
-  -- one kind's rows, cut from the value
-  fitting-of : (statable : List (List ℤ) → Bool) (k most at : ℕ) (z : ℤ) → at + most * k ≤ VALUE
-      → statable (chunks (size-by most z) k (drop at v)) ≡ true → Fitting statable k most (chunks (size-by most z) k (drop at v))
-  fitting-of statable k most at z h ok =
-      let n : size-by most z ≤ most = size-few most z in
-      let m : size-by most z * k ≤ most * k = mul-le-mul-right k n in
+  -- the numbers of a kind's rows
+  pub rows-within : (r : Record) → exists (same-part (laid r)) PARTS ≡ true → how-many v r * row-size r ≤ length (drop (place (laid r)) v)
+  rows-within r h =
+      let m : how-many v r * row-size r ≤ most r * row-size r = mul-le-mul-right (row-size r) (many-few v r) in
       let e = enough in
-      record {
-        ok = ok;
-        long = chunks-long (size-by most z) k (drop at v) (rw (length-drop at v) (omega arith));
-        few = rw (chunks-length (size-by most z) k (drop at v)) n;
-      }
+      let w = part-within PARTS (laid r) h in
+      rw (length-drop (place (laid r)) v) (omega arith)
+
+  fitting-of : (r : Record) → exists (same-part (laid r)) PARTS ≡ true → Fitting r (rows-of v r)
+  unfolding rows-of
+  fitting-of r h = record {
+    ok = part-ok v keeps (laid r) h;
+    long = chunks-long (how-many v r) (row-size r) (drop (place (laid r)) v) (rows-within r h);
+    few = rw (chunks-length (how-many v r) (row-size r) (drop (place (laid r)) v)) (many-few v r);
+  }
 
   pub value-shaped : Shaped (rows-of v)
-  unfolding rows-of rows-statable counts-fit
-  value-shaped =
-      let a =
-      both (every-from state-statable 0 (rows-of v .states))
-      (every var-statable (rows-of v .vars) && (every trans-statable (rows-of v .transitions)
-      && every action-statable (rows-of v .actions))) rows-ok in
-      let b =
-      both (every var-statable (rows-of v .vars)) (every trans-statable (rows-of v .transitions)
-      && every action-statable (rows-of v .actions)) (a .1) in
-      let c = both (every trans-statable (rows-of v .transitions)) (every action-statable (rows-of v .actions)) (b .1) in
-      record {
-        states = fitting-of (every-from state-statable 0) STATE-ROW STATES STATES-AT (num v 0) (omega arith) (a .0);
-        vars = fitting-of (every var-statable) VAR-ROW VARIABLES VARS-AT (num v 1) (omega arith) (b .0);
-        events = events-of;
-        transitions = fitting-of (every trans-statable) TRANS-ROW TRANSITIONS TRANSITIONS-AT (num v 3) (omega arith) (c .0);
-        actions = fitting-of (every action-statable) ACT-ROW ACTIONS ACTIONS-AT (num v 4) (omega arith) (c .1);
-      }
+  unfolding rows-of exists
+  value-shaped = record { fitting = all; one = chunks-length 1 1 (drop 2 v) }
     where
-      events-of : count-fits 0 EVENTS (num v 2) ≡ true
-      events-of =
-          let rest : Bool = count-fits 0 EVENTS (num v 2) && (count-fits 0 TRANSITIONS (num v 3) && count-fits 0 ACTIONS (num v 4)) in
-          let a = both (count-fits 2 STATES (num v 0)) (count-fits 0 VARIABLES (num v 1) && rest) counts-of in
-          let b = both (count-fits 0 VARIABLES (num v 1)) rest (a .1) in
-          both (count-fits 0 EVENTS (num v 2)) (count-fits 0 TRANSITIONS (num v 3) && count-fits 0 ACTIONS (num v 4)) (b .1) .0
+      all : (r : Record) → Fitting r (rows-of v r)
+      all s-record = fitting-of s-record refl
+      all v-record = fitting-of v-record refl
+      all e-record = fitting-of e-record refl
+      all t-record = fitting-of t-record refl
+      all a-record = fitting-of a-record refl
+      all no-record =
+          subst (Fitting no-record) (nothing (rows-of v no-record) (rw chunks-length (many-few v no-record))) (fitting-none no-record)

@@ -1,19 +1,32 @@
--- How many numbers a record's row has, and what its first number tells of its form (01, "Chart text"). Assumes nothing.
-use Prim.Native.Nat.{ℕ}
+-- Rows that a value has room for, and what the first number of a row tells of its form (01, "Chart text"). Assumes nothing.
+use Prim.Native.Nat.{ℕ, _≤_}
 use Prim.Native.Char.{code}
 use mathlib.Core.Bool.{Bool, false}
 use lib.IntN.{ℤ}
-use Rattle.meaning.specs.Grammar.{Record, s-record, v-record, e-record, t-record, a-record, no-record}
+use lib.ListN.{length}
+use mathlib.Core.Path.{_≡_}
+use mathlib.Core.List.{List, [], _∷_}
+use Rattle.meaning.specs.Grammar.{Record, e-record, row-size, most}
 use Rattle.meaning.specs.Grammar.{Field, turn, number, count, letter, dash, target-state, target-history, target-none}
-use Rattle.meaning.specs.Value.{STATE-ROW, VAR-ROW, TRANS-ROW, ACT-ROW, is-letter, is-absent, one-of-letters}
+use Rattle.meaning.specs.Value.{Rows, is-letter, is-absent, one-of-letters}
 
-abbrev pub row-size : Record → ℕ
-row-size s-record = STATE-ROW
-row-size v-record = VAR-ROW
-row-size e-record = 1
-row-size t-record = TRANS-ROW
-row-size a-record = ACT-ROW
-row-size no-record = 1
+-- ---- rows that a value has room for
+
+-- each row has k numbers
+unfoldable pub AllLong : ℕ → List (List ℤ) → Type 0
+AllLong k [] = Unit
+AllLong k (r ∷ rs) = (length r ≡ k) × AllLong k rs
+
+pub record Fit (rows : Rows) : Type 0 where
+  pub long : (r : Record) → AllLong (row-size r) (rows r)
+  pub few : (r : Record) → length (rows r) ≤ most r
+
+-- and of which a text can be the whole: it has its E
+pub record Whole (rows : Rows) : Type 0 where
+  pub fit : Fit rows
+  pub one : length (rows e-record) ≡ 1
+
+-- ---- fields
 
 -- the first number of a row tells a field from one that is apart from it: a letter, "-", or h
 unfoldable pub tells : Field → ℤ → Bool

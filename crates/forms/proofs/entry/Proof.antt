@@ -7,7 +7,7 @@ use Rattle.forms.proofs.entry.Tie as tie
 returns-7 : tie.Need-returns-7
 returns-7 c =
     let r = c .match .rest in
-    absurd (entry-none _ _ (r .0 .0 .0 .0 .1) (r .0 .0 .0 .1) (r .0 .0 .1) (r .0 .1) (r .1) (c .before .pre))
+    (entry-none _ _ (r .0 .0 .0 .0 .1) (r .0 .0 .0 .1) (r .0 .0 .1) (r .0 .1) (r .1), omega arith)
 
 pub entry-spec : {M : Type 1} → statement M
 entry-spec =

@@ -44,7 +44,7 @@ use denote.Triple.Table.{entered, cited}
 use denote.Triple.Walked.{needs, goes-none-slice, goes-slice, Walks, walked, walk-meets}
 use denote.Triple.Clauses.{ensured, lasts}
 use denote.Exit.{yes}
-use Rattle.meaning.specs.Text.{walk-start}
+use Rattle.meaning.specs.Text.{no-rows}
 use Rattle.meaning.proofs.Answer.Laws as N′
 use Rattle.reader.specs.Scanned.{zeros}
 use Rattle.reader.specs.Onward.{begun}

@@ -16,7 +16,7 @@ returns-2 c = counts _ _ _ _ (is-v (c .before .if2 .taken)) refl
 
 returns-3 : tie.Need-returns-3
 unfolding turns-after
-returns-3 c = counts _ _ _ _ (is-e (c .if3 .taken)) refl
+returns-3 c = counts _ _ _ _ (is-e (c .before .if3 .taken)) refl
 
 returns-4 : tie.Need-returns-4
 unfolding turns-after
@@ -35,5 +35,5 @@ returns-6 c =
 
 pub counted-spec : {M : Type 1} → statement M
 counted-spec =
-    tie.close (tie.spec (λ c. search needs) returns (λ c. search needs) returns-2 returns-3
+    tie.close (tie.spec (λ c. search needs) returns (λ c. search needs) returns-2 (λ c. search needs) returns-3
     (λ c. search needs) returns-4 (λ c. search needs) returns-5 returns-6)

@@ -38,7 +38,7 @@ use denote.Triple.Walked.{says, Stays, stay-none-slice, stay-slice, walkOf, ends
 use denote.Triple.Clauses.{ensured, lasts}
 use denote.Exit.{yes}
 use Rattle.meaning.specs.Split.{lines}
-use Rattle.meaning.specs.Text.{walk as walk-of, walk-start}
+use Rattle.meaning.specs.Text.{walk as walk-of, no-rows}
 use Rattle.meaning.proofs.Answer as N
 use Rattle.meaning.proofs.Answer.Laws as N′
 use Rattle.reader.specs.Scanned.{zeros, Scanned}
@@ -266,7 +266,7 @@ module _ {M : Type 1} (𝓤 : URA M) (H : Heap 𝓤) (A : Atoms 𝓤) (W : Given
           (t .long) (comes-back i32 κ′ (ν ∷ []) q′ γ b o 𝓤 H A W (named 1) (named 1) cs δ zs (subst (Room i32) (sym (t .long)) room) e)
 
     -- the text is read: what a caller is told of the answer
-    pub exits : Scanned (walk-of 1 walk-start (lines (s .now))) (p .answer) n cs
+    pub exits : Scanned (walk-of 1 no-rows (lines (s .now))) (p .answer) n cs
         → ent 𝓤 (⋆ 𝓤 H A (‵ Own ∷ ‵ (flft κ q) ∷ ‵ (Chart κ′ γ cs) ∷ ‵ (flft κ′ q′) ∷ [])) (Post (N′.lowered (p .answer)))
     exits f =
         qed W (‵ Own ∷ ‵ (flft κ q) ∷ ‵ (Chart κ′ γ cs) ∷ ‵ (flft κ′ q′) ∷ []) ∵
