@@ -1,3 +1,4 @@
 pub mod Said
 pub mod Rows
 pub mod Letters
+pub mod Named
