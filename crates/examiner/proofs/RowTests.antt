@@ -18,7 +18,7 @@ use Rattle.numbers.specs.Reference.{ref}
 use Rattle.meaning.specs.declared.chart.VarRow.{VarRow}
 use Rattle.meaning.specs.declared.plan.Counts.{Counts}
 use Rattle.meaning.specs.Rules.{row-fits}
-use Rattle.meaning.specs.Value.{count-fits, var-by, var-statable}
+use Rattle.meaning.specs.Value.{count-fits, var-by, statable}
 use Rattle.meaning.specs.WellFormed.{HEAD-ROW, var-keeps, one-of, span-fits, head-guard-fits, head-fits}
 use Rattle.meaning.specs.WellFormed.{Operand, SHAPES, no-shape, shape, operand-fits, shape-fits, instr-fits}
 use Rattle.chart_rows.proofs.Rows.{num-at}
@@ -29,7 +29,7 @@ order-said f g = rw (toZ-ofZ f, toZ-ofZ g)
 
 pub var-read : (r : VarRow) (l : List ℤ) → r ≡ var-by l
     → var-keeps l ≡ within (r .low) (r .first) (r .high) && (inRange (r .low) && (inRange (r .high) && inRange (r .first)))
-unfolding var-keeps row-fits var-statable var-by within
+unfolding var-keeps row-fits statable var-by within
 var-read r l e = rw e
 
 module _ (k : Counts) (ns : List ℤ) (b : ℕ) where

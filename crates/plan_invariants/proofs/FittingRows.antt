@@ -15,7 +15,7 @@ use Rattle.laws.proofs.Lists.{and-left, and-right, or-cases}
 use Rattle.laws.specs.Facts.{Each, none-left, one-more}
 use Rattle.meaning.specs.Lists.{every}
 use Rattle.meaning.specs.Rules.{row-fits}
-use Rattle.meaning.specs.Value.{count-fits, num, var-by, var-statable}
+use Rattle.meaning.specs.Value.{count-fits, num, var-by, statable}
 use Rattle.meaning.specs.WellFormed.{SHAPES, Operand, INSTR-ROW, a-constant, a-parent, a-skip, a-state, a-variable, an-event}
 use Rattle.meaning.specs.WellFormed.{operand-fits, shape}
 use Rattle.meaning.specs.WellFormed.{shape-fits, head-by, head-fits, head-guard-by, head-guard-fits, instr-act-by, instr-by, instr-fits}
@@ -183,7 +183,7 @@ heads-fitting k (row ∷ rows) m e =
 -- ---- variables
 
 var-fitting : (row : List ℤ) → var-keeps row ≡ true → Var-fits (var-by row)
-unfolding var-keeps var-statable var-by
+unfolding var-keeps statable var-by
 var-fitting row e =
     let ranges = inRange (num row 1) && inRange (num row 2) in
     let s = and-right (row-fits (var-by row)) (inRange (num row 0) && ranges) e in
