@@ -2,19 +2,15 @@
 -- act, and one step after another where a refusal ends it. Assumes nothing.
 use mathlib.Core.Path.{_≡_, refl, sym, ap, subst, _∙_}
 use Prim.Native.Nat.{ℕ, suc, _≤_, _<_}
-use mathlib.Core.Bool.{Bool, true, false, false≢true, _&&_}
+use mathlib.Core.Bool.{Bool, true, false}
 use mathlib.Core.List.{List, [], _∷_}
 use native.Mathlib.Omega.{arith}
 use lib.ListN.{length, getD, drop, drop-of-length-le}
 use lib.Seq.{drop-cons}
-use lib.IntN.{ℤ, pos, negsuc}
-use lib.Signed.{leZ}
-use lib.Dec.{leb}
-use borrow.Author.Tests.{leb-true}
-use Rattle.sizes.specs.Sizes.{STATES, VARIABLES, EVENTS}
-use Rattle.numbers.specs.Reference.{ref}
-use Rattle.laws.proofs.Lists.{and-left, and-right}
+use lib.IntN.{ℤ}
+use Rattle.sizes.specs.Sizes.{VARIABLES, EVENTS}
 use Rattle.laws.proofs.Rules.{Act-facts}
+use Rattle.laws.proofs.Value.{sized-chart}
 use Rattle.chart_rows.proofs.Rows.{vars-most}
 use Rattle.meaning.specs.Chart.{Chart, no-action}
 use Rattle.meaning.specs.Steps.{Step, each}
@@ -26,7 +22,7 @@ use Rattle.meaning.specs.declared.chart.Owner.{Owner}
 use Rattle.meaning.specs.declared.chart.VarRow.{VarRow}
 use Rattle.meaning.specs.Effects.{act-on, act-var, acts-in, acts-of, perform, perform-all, same-owner}
 use Rattle.meaning.specs.Tree.{var-row}
-use Rattle.meaning.specs.Value.{chart-of, chart-by, rows-of, count-fits, counts-fit, num, rows-statable, rule-0, VALUE}
+use Rattle.meaning.specs.Value.{chart-of}
 use Rattle.widget.specs.declared.Went.{Went}
 use Rattle.widget.specs.View.{Lent, with-vars, with-queue, with-trace, Within, Did, Owes}
 use Rattle.widget.specs.Acts.{Named}
@@ -51,19 +47,8 @@ module _ (rows : List ActRow) (o : Owner) (i : ℕ) where
 
 -- ---- R7: what an act names is there
 
-ref-most : (n : ℕ) (z : ℤ) → leZ (pos 0) z ≡ true → leZ z (pos n) ≡ true → ref z ≤ n
-ref-most n (pos m) p q = leb-true m n q
-ref-most n (negsuc m) p q = absurd (false≢true p)
-
 pub events-most : (v : List ℤ) → Ruled v → chart-of v .events ≤ EVENTS
-unfolding chart-of chart-by rows-of rule-0 counts-fit
-events-most v r =
-    let fit = and-left (counts-fit v) (rows-statable (rows-of v)) (and-right (leb VALUE (length v)) (counts-fit v && rows-statable
-    (rows-of v)) (rules-passed v r .0)) in
-    let few = and-right (count-fits 0 VARIABLES (num v 1)) _ (and-right (count-fits 2 STATES (num v 0)) _ fit) in
-    let events = and-left (count-fits 0 EVENTS (num v 2)) _ few in
-    ref-most EVENTS (num v 2) (and-left (leZ (pos 0) (num v 2)) (leZ (num v 2) (pos EVENTS)) events) (and-right (leZ (pos 0) (num v 2))
-    (leZ (num v 2) (pos EVENTS)) events)
+events-most v r = sized-chart v (rules-passed v r .0) .events
 
 named : (c : Chart) → length (c .vars) ≤ VARIABLES → c .events ≤ EVENTS → (x : Act) → Act-facts c x → Named x
 named c m n (set-to v x) f = omega (arith, f .0)

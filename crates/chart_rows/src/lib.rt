@@ -2,6 +2,7 @@
 // over `chart-of` on every input: a place that the chart does not have reads as the definitions say, so that no caller
 // has to show that what it asks for is there.
 pub mod decode;
+pub mod kinds;
 pub mod layout;
 pub mod tree;
 

@@ -15,7 +15,7 @@ use Rattle.laws.proofs.Trace.{concat-map-joined}
 use Rattle.meaning.specs.Lists.{concat-map, every}
 use Rattle.meaning.specs.Plan.{Plan, act-numbers, guard-numbers, head-numbers, instr-numbers, plan-numbers, sign-number, six, slot-number}
 use Rattle.meaning.specs.Plan.{var-numbers}
-use Rattle.meaning.specs.Value.{VAR-ROW, num, var-by, var-statable}
+use Rattle.meaning.specs.Value.{VAR-ROW, num, var-by, statable}
 use Rattle.meaning.specs.WellFormed.{HEAD-ROW, INSTR-ROW, all-blocks-fill, blocks-fill, code-at, code-fits, counts-keep, counts-of}
 use Rattle.meaning.specs.WellFormed.{operand-fits, shape-fits, head-fits, head-guard-fits, head-rows, heads-at, instr-fits, is-whole}
 use Rattle.meaning.specs.WellFormed.{left-after-each, left-in-blocks, plan-end, rows-well-formed, span-fits, var-keeps, var-rows}
@@ -89,7 +89,7 @@ module _ (p : Plan) (rest : List ℤ) where
 -- ---- variables
 
 var-passes : (r : VarRow) → Var-fits r → var-keeps (var-numbers r) ≡ true
-unfolding var-keeps var-by var-numbers var-statable
+unfolding var-keeps var-by var-numbers statable
 var-passes r h = rw (h .in-order, h .in-range .low, h .in-range .high, h .in-range .first)
 
 -- ---- heads

@@ -17,7 +17,7 @@ use Rattle.meaning.specs.declared.chart.VarRow.{VarRow}
 use Rattle.meaning.specs.declared.plan.Head.{Head}
 use Rattle.meaning.specs.declared.plan.Instr.{Instr}
 use Rattle.meaning.specs.Rules.{row-fits}
-use Rattle.meaning.specs.Value.{num, count-fits, VAR-ROW, var-by, var-statable}
+use Rattle.meaning.specs.Value.{num, count-fits, VAR-ROW, var-by, statable}
 use Rattle.meaning.specs.WellFormed.{SIX, HEAD-ROW, INSTR-ROW, counts-of, heads-at, code-at, plan-end, head-rows, head-by, instr-by}
 use Rattle.meaning.specs.WellFormed.{counts-keep, var-keeps, head-fits, blocks-fill, left-after-each, left-in-blocks}
 use Rattle.meaning.specs.WellFormed.{code-fits, well-formed}
@@ -72,7 +72,7 @@ module _ (ns : List ℤ) (e : well-formed ns ≡ true) where
   two-states = count-kept 2 STATES (num ns 0) (and-left (count-fits 2 STATES (num ns 0)) _ (well-counted ns e))
 
   var-kept : (v : ℕ) → v < counts-of ns .vars → Var-kept (var-at ns v)
-  unfolding var-keeps var-statable var-by
+  unfolding var-keeps statable var-by
   var-kept v h =
       let k = counts-of ns in
       let l = row VAR-ROW SIX v ns in

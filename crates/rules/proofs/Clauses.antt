@@ -10,7 +10,8 @@ use lib.IntN.{ℤ, pos}
 use Rattle.numbers.specs.Range.{inRange}
 use Rattle.numbers.proofs.Laws.{eqZ-true}
 use Rattle.meaning.specs.Grammar.{bytes, kind, target, guard, act}
-use Rattle.meaning.specs.Value.{num, is-letter, is-absent, one-of-letters, fits, state-statable, trans-statable, action-statable}
+use Rattle.meaning.specs.Value.{num, is-letter, is-absent, one-of-letters, fits, statable}
+use Rattle.meaning.specs.Grammar.{s-record, t-record, a-record}
 use Rattle.rules.specs.Clauses.{number-if, guard-statable, target-statable}
 
 or-false : (b : Bool) → b || false ≡ b
@@ -31,10 +32,10 @@ kind-is k d = go (is-letter 111 k) refl
     go true e = is-o (eqZ-true k (pos 111) e)
     go false e = rw e
 
-pub state-is : (n : ℕ) (row : List ℤ) → state-statable n row
+pub state-is : (n : ℕ) (row : List ℤ) → statable s-record n row
     ≡ number-if (not (eqb n 0)) (num row 0)
     && (one-of-letters (111 ∷ 97 ∷ 98 ∷ []) (num row 1) && number-if (is-letter 111 (num row 1)) (num row 2))
-unfolding state-statable
+unfolding statable
 state-is zero row = ap (λ (b : Bool). is-absent (num row 0) && b) (kind-is (num row 1) (num row 2))
 state-is (suc n) row =
     rw (ne-eqb (suc n) 0 (λ e. omega arith)) (ap (λ (b : Bool). inRange (num row 0) && b) (kind-is (num row 1) (num row 2)))
@@ -68,11 +69,11 @@ guard-and true true false d e f t = and-three d e f t
 guard-and true false c d e f t = and-three d e f t
 guard-and false b c d e f t = and-three d e f t
 
-pub trans-is : (row : List ℤ) → trans-statable row
+pub trans-is : (i : ℕ) (row : List ℤ) → statable t-record i row
     ≡ inRange (num row 0)
     && (inRange (num row 1) && (guard-statable (num row 2) (num row 3) (num row 4) && target-statable (num row 5) (num row 6)))
-unfolding trans-statable guard-statable
-trans-is row = ap (λ (b : Bool). inRange (num row 0) && (inRange (num row 1) && b))
+unfolding statable guard-statable
+trans-is i row = ap (λ (b : Bool). inRange (num row 0) && (inRange (num row 1) && b))
     (rw (target-is (num row 5) (num row 6))
     (guard-and (is-absent (num row 2)) (is-absent (num row 3))
     (is-absent (num row 4)) (inRange (num row 2)) (one-of-letters (61 ∷ 60 ∷ 62 ∷ []) (num row 3))
@@ -97,10 +98,10 @@ act-is a x y = go (is-letter 115 a) (is-letter 97 a) (is-letter 113 a) refl refl
     go false false true hs hp hq = subst (λ (z : ℤ). SameAct z x y) (sym (eqZ-true a (pos 113) hq)) both-numbers
     go false false false hs hp hq = rw (hs, hp, hq)
 
-pub action-is : (row : List ℤ) → action-statable row
+pub action-is : (i : ℕ) (row : List ℤ) → statable a-record i row
     ≡ one-of-letters (101 ∷ 120 ∷ 100 ∷ 116 ∷ []) (num row 0)
     && (inRange (num row 1) && (one-of-letters (115 ∷ 97 ∷ 107 ∷ 113 ∷ 111 ∷ []) (num row 2)
     && (inRange (num row 3) && number-if (one-of-letters (115 ∷ 97 ∷ 113 ∷ []) (num row 2)) (num row 4))))
-unfolding action-statable
-action-is row = ap (λ (b : Bool). one-of-letters (101 ∷ 120 ∷ 100 ∷ 116 ∷ []) (num row 0) && (inRange (num row 1) && b))
+unfolding statable
+action-is i row = ap (λ (b : Bool). one-of-letters (101 ∷ 120 ∷ 100 ∷ 116 ∷ []) (num row 0) && (inRange (num row 1) && b))
     (act-is (num row 2) (num row 3) (num row 4))

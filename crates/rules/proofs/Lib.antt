@@ -6,4 +6,4 @@ pub mod Letters
 pub mod Verdicts
 pub mod Kept
 pub mod Fields
-pub mod ByKindLaws
+pub mod KindTests

@@ -1,46 +1,40 @@
 // R0 (01, "Chart rules, in order"), for a chart handed over as a value: counts and constants keep their sizes and every
 // field is one that a text can state. Each function equals the definition of the same name in the crate meaning.
-use chart_rows::count_at;
 use chart_rows::decode::is_absent;
 use chart_rows::decode::is_letter;
 use chart_rows::decode::one_of_letters;
+use chart_rows::kinds;
+use chart_rows::kinds::KINDS;
+use chart_rows::kinds::how_many;
+use chart_rows::kinds::letter;
 use chart_rows::layout::ACT_ROW;
-use chart_rows::layout::ACTION_COUNT;
 use chart_rows::layout::ACTIONS_AT;
 use chart_rows::layout::EVENT_COUNT;
 use chart_rows::layout::STATE_COUNT;
 use chart_rows::layout::STATE_ROW;
 use chart_rows::layout::STATES_AT;
 use chart_rows::layout::TRANS_ROW;
-use chart_rows::layout::TRANSITION_COUNT;
 use chart_rows::layout::TRANSITIONS_AT;
 use chart_rows::layout::VALUE;
-use chart_rows::layout::VAR_COUNT;
 use chart_rows::layout::VAR_ROW;
 use chart_rows::layout::VARS_AT;
 use chart_rows::number_at;
 use numbers::between;
 use numbers::in_range;
 use numbers::number;
-use sizes::ACTIONS;
 use sizes::EVENTS;
+use sizes::LEAST_STATES;
 use sizes::STATES;
-use sizes::TRANSITIONS;
-use sizes::VARIABLES;
 ghost use mathlib.Core.Path.{_≡_};
 ghost use mathlib.Core.Bool.{_&&_, _||_};
 ghost use mathlib.Core.List.{_∷_, []};
-ghost use Prim.Native.Nat.{_<_, _≤_, _+_, _*_};
-ghost use lib.ListN.{take, drop};
+ghost use Prim.Native.Nat.{_<_};
 ghost use Rattle.sizes.specs.Sizes.{STATES, VARIABLES, TRANSITIONS, ACTIONS};
 ghost use Rattle.numbers.specs.Reference.{NOWHERE};
 ghost use Rattle.numbers.specs.Range.{inRange};
-ghost use Rattle.meaning.specs.Lists.{every-from};
-ghost use Rattle.meaning.specs.Value.{STATE-ROW, VAR-ROW, TRANS-ROW, ACT-ROW, STATES-AT, VARS-AT, TRANSITIONS-AT, ACTIONS-AT};
-ghost use Rattle.meaning.specs.Value.{num, is-letter, is-absent, one-of-letters, count-fits, counts-fit, rows-of, rows-statable, rule-0};
-ghost use Rattle.meaning.specs.Value.{state-statable, var-statable, trans-statable, action-statable};
-ghost use Rattle.rules.specs.Clauses.{number-if, guard-statable, target-statable};
-ghost use Rattle.rules.specs.ByKind.{most-by, statable-by, row-in, rows-by};
+ghost use Rattle.meaning.specs.Grammar.{s-record, v-record, t-record, a-record, most, record-by};
+ghost use Rattle.meaning.specs.Value.{num, is-letter, is-absent, one-of-letters, count-fits, statable, laid, part-fits, rule-0};
+ghost use Rattle.rules.specs.Clauses.{number-if, guard-statable, target-statable, row-in, counted-fits, kind-fits};
 
 // A number where it is wanted, else "-".
 fn number_if(wanted: bool, z: i32) -> bool
@@ -55,7 +49,7 @@ fn number_if(wanted: bool, z: i32) -> bool
 // State 0 alone has parent "-"; a default is a number for o, else "-".
 fn state_statable(chart: &[i32], n: usize) -> bool
     requires { ⌜ n < STATES ⌝ }
-    ensures { λ r. ⌜ r ≡ state-statable n (take STATE-ROW (drop (STATES-AT + n * STATE-ROW) (now (chart .entry)))) ⌝ }
+    ensures { λ r. ⌜ r ≡ statable s-record n (row-in s-record n (now (chart .entry))) ⌝ }
 {
     let at = STATES_AT + n * STATE_ROW;
     if !number_if(n != 0, number_at(chart, at)) {
@@ -70,7 +64,7 @@ fn state_statable(chart: &[i32], n: usize) -> bool
 
 fn var_statable(chart: &[i32], i: usize) -> bool
     requires { ⌜ i < VARIABLES ⌝ }
-    ensures { λ r. ⌜ r ≡ var-statable (take VAR-ROW (drop (VARS-AT + i * VAR-ROW) (now (chart .entry)))) ⌝ }
+    ensures { λ r. ⌜ r ≡ statable v-record i (row-in v-record i (now (chart .entry))) ⌝ }
 {
     let at = VARS_AT + i * VAR_ROW;
     if !in_range(number_at(chart, at)) {
@@ -153,7 +147,7 @@ fn target_statable(h: i32, s: i32) -> bool
 
 fn trans_statable(chart: &[i32], i: usize) -> bool
     requires { ⌜ i < TRANSITIONS ⌝ }
-    ensures { λ r. ⌜ r ≡ trans-statable (take TRANS-ROW (drop (TRANSITIONS-AT + i * TRANS-ROW) (now (chart .entry)))) ⌝ }
+    ensures { λ r. ⌜ r ≡ statable t-record i (row-in t-record i (now (chart .entry))) ⌝ }
 {
     let at = TRANSITIONS_AT + i * TRANS_ROW;
     if !in_range(number_at(chart, at)) {
@@ -175,7 +169,7 @@ fn trans_statable(chart: &[i32], i: usize) -> bool
 // Acts s, a and q have a number as their second field, k and o "-".
 fn action_statable(chart: &[i32], i: usize) -> bool
     requires { ⌜ i < ACTIONS ⌝ }
-    ensures { λ r. ⌜ r ≡ action-statable (take ACT-ROW (drop (ACTIONS-AT + i * ACT-ROW) (now (chart .entry)))) ⌝ }
+    ensures { λ r. ⌜ r ≡ statable a-record i (row-in a-record i (now (chart .entry))) ⌝ }
 {
     let at = ACTIONS_AT + i * ACT_ROW;
     if !one_of_letters(b"exdt", number_at(chart, at)) {
@@ -194,24 +188,34 @@ fn action_statable(chart: &[i32], i: usize) -> bool
     number_if(one_of_letters(b"saq", act), number_at(chart, at + 4))
 }
 
+// Is the number at this place a count within its size?
+fn count_fits(chart: &[i32], place: usize, least: usize, most: usize) -> bool
+    requires { ⌜ (least < NOWHERE) × (most < NOWHERE) ⌝ }
+    ensures { λ r. ⌜ r ≡ count-fits least most (num (now (chart .entry)) place) ⌝ }
+{
+    between(number(least), number_at(chart, place), number(most))
+}
+
 // Row i of the kind that a letter names.
 fn row_statable(chart: &[i32], kind: u8, i: usize) -> bool
-    requires { ⌜ i < most-by kind ⌝ }
-    ensures { λ r. ⌜ r ≡ statable-by kind i (row-in kind i (now (chart .entry))) ⌝ }
+    requires { ⌜ i < most (record-by kind) ⌝ }
+    ensures { λ r. ⌜ r ≡ statable (record-by kind) i (row-in (record-by kind) i (now (chart .entry))) ⌝ }
 {
     match kind {
         b'S' => state_statable(chart, i),
         b'V' => var_statable(chart, i),
+        b'E' => count_fits(chart, EVENT_COUNT + i, 0, EVENTS),
         b'T' => trans_statable(chart, i),
-        _ => action_statable(chart, i),
+        b'A' => action_statable(chart, i),
+        _ => false,
     }
 }
 
-// So many rows of that kind.
-fn kind_statable(chart: &[i32], kind: u8, count: usize) -> bool
-    requires { ⌜ count ≤ most-by kind ⌝ }
-    ensures { λ r. ⌜ r ≡ every-from (statable-by kind) 0 (rows-by kind count (now (chart .entry))) ⌝ }
+// The rows of that kind.
+fn rows_statable(chart: &[i32], kind: u8) -> bool
+    ensures { λ r. ⌜ r ≡ part-fits (now (chart .entry)) (laid (record-by kind)) ⌝ }
 {
+    let count = how_many(chart, kind);
     let mut i = 0;
     while i < count {
         if !row_statable(chart, kind, i) {
@@ -222,45 +226,27 @@ fn kind_statable(chart: &[i32], kind: u8, count: usize) -> bool
     true
 }
 
-// Does the count at this place keep its size?
-fn count_fits(chart: &[i32], place: usize, least: usize, most: usize) -> bool
-    requires { ⌜ (least < NOWHERE) × (most < NOWHERE) ⌝ }
-    ensures { λ r. ⌜ r ≡ count-fits least most (num (now (chart .entry)) place) ⌝ }
+// Does the count of that kind keep its size? There are at least two states; E has no count.
+fn kind_counted(chart: &[i32], kind: u8) -> bool
+    ensures { λ r. ⌜ r ≡ counted-fits (now (chart .entry)) (record-by kind) ⌝ }
 {
-    between(number(least), number_at(chart, place), number(most))
+    match kind {
+        b'S' => count_fits(chart, STATE_COUNT, LEAST_STATES, STATES),
+        b'E' => true,
+        _ => {
+            let a = kinds::kind(kind);
+            count_fits(chart, a.count, 0, a.most)
+        }
+    }
 }
 
-fn counts_fit(chart: &[i32]) -> bool
-    ensures { λ r. ⌜ r ≡ counts-fit (now (chart .entry)) ⌝ }
+fn kind_fits(chart: &[i32], kind: u8) -> bool
+    ensures { λ r. ⌜ r ≡ kind-fits (now (chart .entry)) (record-by kind) ⌝ }
 {
-    if !count_fits(chart, STATE_COUNT, 2, STATES) {
+    if !kind_counted(chart, kind) {
         return false;
     }
-    if !count_fits(chart, VAR_COUNT, 0, VARIABLES) {
-        return false;
-    }
-    if !count_fits(chart, EVENT_COUNT, 0, EVENTS) {
-        return false;
-    }
-    if !count_fits(chart, TRANSITION_COUNT, 0, TRANSITIONS) {
-        return false;
-    }
-    count_fits(chart, ACTION_COUNT, 0, ACTIONS)
-}
-
-fn rows_statable(chart: &[i32]) -> bool
-    ensures { λ r. ⌜ r ≡ rows-statable (rows-of (now (chart .entry))) ⌝ }
-{
-    if !kind_statable(chart, b'S', count_at(chart, STATE_COUNT, STATES)) {
-        return false;
-    }
-    if !kind_statable(chart, b'V', count_at(chart, VAR_COUNT, VARIABLES)) {
-        return false;
-    }
-    if !kind_statable(chart, b'T', count_at(chart, TRANSITION_COUNT, TRANSITIONS)) {
-        return false;
-    }
-    kind_statable(chart, b'A', count_at(chart, ACTION_COUNT, ACTIONS))
+    rows_statable(chart, kind)
 }
 
 // R0; numbers too few for the layout do not state a chart.
@@ -270,8 +256,12 @@ pub fn rule_0(chart: &[i32]) -> bool
     if chart.len() < VALUE {
         return false;
     }
-    if !counts_fit(chart) {
-        return false;
+    let mut i = 0;
+    while i < KINDS {
+        if !kind_fits(chart, letter(i)) {
+            return false;
+        }
+        i += 1;
     }
-    rows_statable(chart)
+    true
 }

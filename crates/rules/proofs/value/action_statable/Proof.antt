@@ -36,7 +36,7 @@ returns : tie.Need-returns
 returns c =
     let a = c .before .before .before .before .args in
     let n1 = c .before .before .number-at in
-    rw (action-read (a .chart .now) (ACTIONS-AT + a .i * ACT-ROW))
+    rw (action-read (a .chart .now) (ACTIONS-AT + a .i * ACT-ROW) (a .i))
     (rw (refuted (said-of (one-of-letters (101 ∷ 120 ∷ 100 ∷ 116 ∷ [])) (n1 .ok) (n1 .ensures) (c .before .one-of-letters .ensures))
     (c .if1 .taken)))
 
@@ -45,7 +45,7 @@ returns-2 c =
     let a = one-of-letters-from-then2 c .before .before .before .args in
     let n1 = one-of-letters-from-then2 c .before .number-at in
     let n2 = c .before .before .number-at2 in
-    rw (action-read (a .chart .now) (ACTIONS-AT + a .i * ACT-ROW))
+    rw (action-read (a .chart .now) (ACTIONS-AT + a .i * ACT-ROW) (a .i))
     (on (held (said-of (one-of-letters (101 ∷ 120 ∷ 100 ∷ 116 ∷ [])) (n1 .ok)
     (n1 .ensures) (one-of-letters-from-then2 c .one-of-letters .ensures)) (c .before .before .before .if1 .left))
     (rw (refuted (said-of inRange (n2 .ok) (n2 .ensures) (c .before .in-range .ensures)) (c .if2 .taken))))
@@ -56,7 +56,7 @@ returns-3 c =
     let n1 = one-of-letters-from-then3 c .before .number-at in
     let n2 = else2-from-then3 c .before .before .number-at2 in
     let n3 = c .before .before .before .number-at3 in
-    rw (action-read (a .chart .now) (ACTIONS-AT + a .i * ACT-ROW))
+    rw (action-read (a .chart .now) (ACTIONS-AT + a .i * ACT-ROW) (a .i))
     (on (held (said-of (one-of-letters (101 ∷ 120 ∷ 100 ∷ 116 ∷ [])) (n1 .ok)
     (n1 .ensures) (one-of-letters-from-then3 c .one-of-letters .ensures)) (else2-from-then3 c .before .before .before .if1 .left))
     (on (held (said-of inRange (n2 .ok) (n2 .ensures) (else2-from-then3 c .before .in-range .ensures)) (else2-from-then3 c .if2 .left))
@@ -70,7 +70,7 @@ returns-4 c =
     let n2 = in-range-from-then4 c .before .number-at2 in
     let n3 = one-of-letters2-from-then4 c .before .before .number-at3 in
     let n4 = c .before .before .number-at4 in
-    rw (action-read (a .chart .now) (ACTIONS-AT + a .i * ACT-ROW))
+    rw (action-read (a .chart .now) (ACTIONS-AT + a .i * ACT-ROW) (a .i))
     (on (held (said-of (one-of-letters (101 ∷ 120 ∷ 100 ∷ 116 ∷ [])) (n1 .ok) (n1 .ensures)
     (in-range-from-then4 c .before .before .before .one-of-letters .ensures)) (in-range-from-then4 c .before .before .if1 .left))
     (on (held (said-of inRange (n2 .ok) (n2 .ensures) (in-range-from-then4 c .in-range .ensures))
@@ -89,7 +89,7 @@ returns-5 c =
     let n3 = c .before .before .before .before .before .before .before .before .before .before .number-at3 in
     let n4 = c .before .before .before .before .before .before .number-at4 in
     let n5 = c .before .number-at5 in
-    rw (action-read (a .chart .now) (ACTIONS-AT + a .i * ACT-ROW))
+    rw (action-read (a .chart .now) (ACTIONS-AT + a .i * ACT-ROW) (a .i))
     (on (held (said-of (one-of-letters (101 ∷ 120 ∷ 100 ∷ 116 ∷ [])) (n1 .ok) (n1 .ensures) (c .before .before .before
     .before .before .before .before .before .before .before .before .before .before .before .before .one-of-letters .ensures))
     (c .before .before .before .before .before .before .before .before .before .before .before .before .before .before .if1 .left))

@@ -1,56 +1,51 @@
--- `rows_statable` tests record kind by record kind. Assumes nothing.
-use Rattle.rules.proofs.Tests.{refuted, held, on}
-use Rattle.meaning.specs.Value.{rows-statable}
-use Rattle.rules.proofs.ByKindLaws.{states-few, vars-few, transitions-few, actions-few, states-said, vars-said, transitions-said}
-use Rattle.rules.proofs.ByKindLaws.{actions-said}
+-- `rows_statable` tries each row. Assumes nothing.
+use mathlib.Core.Path.{_≡_, refl}
+use Prim.Native.Nat.{_-_}
+use native.Mathlib.Omega.{arith}
+use lib.ListN.{drop}
+use Rattle.meaning.specs.Grammar.{record-by}
+use Rattle.meaning.specs.Lists.{every-from}
+use Rattle.meaning.specs.Value.{laid, rows-of, statable, part-fits}
+use Rattle.rules.proofs.KindTests.{rows-end, row-stops, row-goes}
 use borrow.Author.Needs.{needs}
 use Rattle.rules.proofs.value.rows_statable.Statement.{statement}
 use Rattle.rules.proofs.value.rows_statable.Tie as tie
 
-returns : tie.Need-returns
-unfolding rows-statable
-returns c = rw (refuted (states-said _ _ (c .before .before .count-at .ensures) (c .before .kind-statable .ensures)) (c .if1 .taken))
+abbrev Inv-loop : tie.InvT-loop
+Inv-loop chart kind count i₀ i =
+    every-from (statable (record-by kind)) i (drop i (rows-of chart (record-by kind))) ≡ part-fits chart (laid (record-by kind))
 
-returns-2 : tie.Need-returns-2
-unfolding rows-statable
+abbrev μ-loop : tie.MeasureT-loop
+μ-loop chart kind count i₀ i = count - i
+
+returns : tie.Need-returns Inv-loop μ-loop
+returns c =
+    let w = c .before .before .before .before in
+    row-stops (w .before .args .chart .now) _ _ _ (w .how-many .ensures .0) _ (c .before .before .loop-test .taken)
+    (c .before .row-statable .ensures) (c .if1 .taken) (c .before .before .before .loop .inv)
+
+loop-again : tie.Need-loop-again Inv-loop μ-loop
+loop-again c =
+    let w = c .before .before .before .before in
+    row-goes (w .before .args .chart .now) _ _ _ (w .how-many .ensures .0) _ (c .before .before .loop-test .taken)
+    (c .before .row-statable .ensures) (c .if1 .left) (c .before .before .before .loop .inv)
+
+returns-2 : tie.Need-returns-2 Inv-loop μ-loop
 returns-2 c =
-    on (held (states-said _ _ (c .before .before .before .before .before .count-at .ensures)
-    (c .before .before .before .before .kind-statable .ensures)) (c .before .before .before .if1 .left))
-    (rw (refuted (vars-said _ _ (c .before .before .count-at2 .ensures) (c .before .kind-statable2 .ensures)) (c .if2 .taken)))
-
-returns-3 : tie.Need-returns-3
-unfolding rows-statable
-returns-3 c =
-    let d = c .before .before .before in
-    on (held (states-said _ _ (d .before .before .before .before .before .count-at .ensures)
-    (d .before .before .before .before .kind-statable .ensures)) (d .before .before .before .if1 .left))
-    (on (held (vars-said _ _ (d .before .before .count-at2 .ensures) (d .before .kind-statable2 .ensures)) (d .if2 .left))
-    (rw (refuted (transitions-said _ _ (c .before .before .count-at3 .ensures) (c .before .kind-statable3 .ensures)) (c .if3 .taken))))
-
-returns-4 : tie.Need-returns-4
-unfolding rows-statable
-returns-4 c =
-    let d = c .before .before .before .before .before in
-    on (held (states-said _ _ (d .before .before .before .before .before .count-at .ensures)
-    (d .before .before .before .before .kind-statable .ensures)) (d .before .before .before .if1 .left))
-    (on (held (vars-said _ _ (d .before .before .count-at2 .ensures) (d .before .kind-statable2 .ensures)) (d .if2 .left))
-    (on (held (transitions-said _ _ (c .before .before .before .before .count-at3 .ensures)
-    (c .before .before .before .kind-statable3 .ensures)) (c .before .before .if3 .left))
-    (actions-said _ _ (c .before .count-at4 .ensures) (c .kind-statable4 .ensures))))
+    let w = c .before .before in
+    rows-end (w .before .args .chart .now) _ _ _ (w .how-many .ensures .0) (c .loop-test .left) (c .before .loop .inv)
 
 pub rows-statable-spec : {M : Type 1} → statement M
 rows-statable-spec =
     tie.close
     (tie.spec
+    Inv-loop
+    μ-loop
     (λ c κs. search needs)
-    (λ c κs. states-few _ _ (c .count-at .ensures))
+    (λ c. refl)
+    (λ c κs. omega (arith, c .loop-test .taken, c .before .before .how-many .ensures .1))
     returns
-    (λ c κs. search needs)
-    (λ c κs. vars-few _ _ (c .count-at2 .ensures))
-    returns-2
-    (λ c κs. search needs)
-    (λ c κs. transitions-few _ _ (c .count-at3 .ensures))
-    returns-3
-    (λ c κs. search needs)
-    (λ c κs. actions-few _ _ (c .count-at4 .ensures))
-    returns-4)
+    (λ c. omega arith)
+    (λ c. omega arith)
+    loop-again
+    returns-2)

@@ -34,7 +34,7 @@ returns : tie.Need-returns
 returns c =
     let a = c .before .before .before .args in
     let x = c .before .before .number-at in
-    rw (trans-read (a .chart .now) (TRANSITIONS-AT + a .i * TRANS-ROW))
+    rw (trans-read (a .chart .now) (TRANSITIONS-AT + a .i * TRANS-ROW) (a .i))
     (rw (refuted (said-of inRange (x .ok) (x .ensures) (c .before .in-range .ensures)) (c .if1 .taken)))
 
 returns-2 : tie.Need-returns-2
@@ -42,7 +42,7 @@ returns-2 c =
     let a = in-range-from-then2 c .before .before .args in
     let x = in-range-from-then2 c .before .number-at in
     let y = c .before .before .number-at2 in
-    rw (trans-read (a .chart .now) (TRANSITIONS-AT + a .i * TRANS-ROW))
+    rw (trans-read (a .chart .now) (TRANSITIONS-AT + a .i * TRANS-ROW) (a .i))
     (on (held (said-of inRange (x .ok) (x .ensures) (in-range-from-then2 c .in-range .ensures)) (c .before .before .before .if1 .left))
     (rw (refuted (said-of inRange (y .ok) (y .ensures) (c .before .in-range2 .ensures)) (c .if2 .taken))))
 
@@ -54,7 +54,7 @@ returns-3 c =
     let v = number-at3-from-then3 c .number-at3 in
     let g = c .before .before .before .number-at4 in
     let k = c .before .before .number-at5 in
-    rw (trans-read (a .chart .now) (TRANSITIONS-AT + a .i * TRANS-ROW))
+    rw (trans-read (a .chart .now) (TRANSITIONS-AT + a .i * TRANS-ROW) (a .i))
     (on (held (said-of inRange (x .ok) (x .ensures) (else1-from-then3 c .before .in-range .ensures)) (else1-from-then3 c .if1 .left))
     (on (held (said-of inRange (y .ok) (y .ensures) (number-at3-from-then3 c .before .before .in-range2 .ensures))
     (number-at3-from-then3 c .before .if2 .left))
@@ -71,7 +71,7 @@ returns-4 c =
     let k = guard-statable-from-target-statable c .before .number-at5 in
     let h = c .before .before .number-at6 in
     let s = c .before .number-at7 in
-    rw (trans-read (a .chart .now) (TRANSITIONS-AT + a .i * TRANS-ROW))
+    rw (trans-read (a .chart .now) (TRANSITIONS-AT + a .i * TRANS-ROW) (a .i))
     (on (held (said-of inRange (x .ok) (x .ensures) (in-range-from-target-statable c .in-range .ensures))
     (else2-from-target-statable c .before .before .before .if1 .left))
     (on (held (said-of inRange (y .ok) (y .ensures) (else2-from-target-statable c .before .in-range2 .ensures))

@@ -20,7 +20,7 @@ number-at2-from-in-range3 c = c .before .before .before .before
 returns : tie.Need-returns
 returns c =
     let a = c .before .before .before .args in
-    rw (var-read (a .chart .now) (VARS-AT + a .i * VAR-ROW)) (rw (refuted (said-of inRange
+    rw (var-read (a .chart .now) (VARS-AT + a .i * VAR-ROW) (a .i)) (rw (refuted (said-of inRange
     (c .before .before .number-at .ok) (c .before .before .number-at .ensures) (c .before .in-range .ensures)) (c .if1 .taken)))
 
 returns-2 : tie.Need-returns-2
@@ -28,7 +28,7 @@ returns-2 c =
     let a = in-range-from-then2 c .before .before .args in
     let x = in-range-from-then2 c .before .number-at in
     let y = c .before .before .number-at2 in
-    rw (var-read (a .chart .now) (VARS-AT + a .i * VAR-ROW))
+    rw (var-read (a .chart .now) (VARS-AT + a .i * VAR-ROW) (a .i))
     (on (held (said-of inRange (x .ok) (x .ensures) (in-range-from-then2 c .in-range .ensures)) (c .before .before .before .if1 .left))
     (rw (refuted (said-of inRange (y .ok) (y .ensures) (c .before .in-range2 .ensures)) (c .if2 .taken))))
 
@@ -38,7 +38,7 @@ returns-3 c =
     let x = number-at2-from-in-range3 c .before .before .before .number-at in
     let y = number-at2-from-in-range3 c .number-at2 in
     let z = c .before .number-at3 in
-    rw (var-read (a .chart .now) (VARS-AT + a .i * VAR-ROW))
+    rw (var-read (a .chart .now) (VARS-AT + a .i * VAR-ROW) (a .i))
     (on (held (said-of inRange (x .ok) (x .ensures) (number-at2-from-in-range3 c .before .before .in-range .ensures))
     (number-at2-from-in-range3 c .before .if1 .left))
     (on (held (said-of inRange (y .ok) (y .ensures) (c .before .before .before .in-range2 .ensures)) (c .before .before .if2 .left))

@@ -1,44 +1,53 @@
--- `put_chart`: the five kinds in their order are the text. Assumes nothing.
-use Rattle.writer.proofs.RowLaws.{states-stated, vars-stated, events-stated, transitions-stated, actions-stated, chart-put}
+-- `put_chart`: what is left from kind i on, put behind what was put, is the whole. Assumes nothing.
+use mathlib.Core.Path.{_≡_, refl, _∙_}
+use Prim.Native.Nat.{_-_}
+use native.Mathlib.Omega.{arith}
+use lib.ListN.{length}
+use Rattle.meaning.specs.Value.{rows-of}
+use Rattle.meaning.specs.Text.{text-of}
+use Rattle.pen.specs.Pen.{pen, put-all}
+use Rattle.writer.proofs.RowLaws.{kinds-from, kind-more, kinds-done}
 use borrow.Author.Needs.{needs}
 use Rattle.writer.proofs.rows.put_chart.Statement.{statement}
 use Rattle.writer.proofs.rows.put_chart.Tie as tie
 
-abbrev put-rows3-from-slice-known6 : tie.After-slice-known6 → tie.After-put-rows3
-put-rows3-from-slice-known6 c = c .before .before .before .before .before .before .before .before .before .before
+abbrev Inv-loop : tie.InvT-loop
+Inv-loop chart text₀ p₀ i₀ text p i =
+    (put-all (kinds-from (rows-of chart) i) (pen text p) ≡ put-all (kinds-from (rows-of chart) 0) (pen text₀ 0))
+    × (length text ≡ length text₀)
 
-abbrev count-at4-from-put-rows-arg5 : tie.After-put-rows-arg5 → tie.After-count-at4
-count-at4-from-put-rows-arg5 c =
-    c .before .before .before .before .before .before .before .before .before .before .before .before
-    .before .before .before .before .before
+abbrev μ-loop : tie.MeasureT-loop
+μ-loop chart text₀ p₀ i₀ text p i = 5 - i
 
-put-rows-requires-5 : tie.Need-put-rows-requires-5
-put-rows-requires-5 c κs =
-    let d = count-at4-from-put-rows-arg5 c in
-    actions-stated _ (d .before .before .before .before .before .pre) _ (d .count-at4 .ensures)
+abbrev letter-from-slice-known2 : tie.After-slice-known2 Inv-loop μ-loop → tie.After-letter Inv-loop μ-loop
+letter-from-slice-known2 c = c .before .before .before .before
 
-returns : tie.Need-returns
+loop-again : tie.Need-loop-again Inv-loop μ-loop
+loop-again c =
+    let d = letter-from-slice-known2 c in
+    let w = d .before .before in (
+      kind-more (rows-of (w .before .before .args .chart .now)) _ _ _ _ (d .before .loop-test .taken) (d .letter .ensures)
+          (c .before .before .put-rows .ensures)
+          ∙ w .loop .inv .0,
+      search needs,
+    )
+
+returns : tie.Need-returns Inv-loop μ-loop
+unfolding text-of
 returns c =
-    let d = count-at4-from-put-rows-arg5 (c .before .before .before) in
-    let t = put-rows3-from-slice-known6 c in
-    chart-put _ _ _ _ _ (d .before .before .before .count-at .ensures) (d .before .before .count-at2 .ensures)
-    (d .before .count-at3 .ensures) (d .count-at4 .ensures)
-    _ _ _ _ _ _ (put-rows3-from-slice-known6 c .before .before .before .before .before .before .before .before .put-rows .ensures)
-    (put-rows3-from-slice-known6 c .before .before .before .before .put-rows2 .ensures)
-    (t .put-rows3 .ensures) (c .before .before .before .before .before .before .put-rows4 .ensures)
-    (c .before .before .put-rows5 .ensures)
+    let w = c .before in kinds-done (rows-of (w .before .before .args .chart .now)) _ _ _ (c .loop-test .left) (w .loop .inv .0)
 
 pub put-chart-spec : {M : Type 1} → statement M
 put-chart-spec =
-    tie.close (tie.spec (λ c κs. search needs) (λ c κs. search needs) (λ c κs. search needs)
-    (λ c κs. search needs) (λ c κs. states-stated _ (c .before .before .before .before .before .before .pre) _
-    (c .before .before .before .before .count-at .ensures))
-    (λ c κs. vars-stated _
-    (c .before .before .before .before .before .before .before .before .before .before .pre) _
-    (c .before .before .before .before .before .before .before .count-at2 .ensures))
-    (λ c κs. events-stated _
-    (c .before .before .before .before .before .before .before .before .before .before .before .before .before .before .pre))
-    (λ c κs. transitions-stated _ (c .before .before .before .before .before .before .before .before .before .before .before .before
-    .before .before .before .before .before .before .pre) _
-    (c .before .before .before .before .before .before .before .before .before .before .before .before .before .before .count-at3 .ensures))
-    put-rows-requires-5 (λ c. search needs) returns)
+    tie.close
+    (tie.spec
+    Inv-loop
+    μ-loop
+    (λ c. (refl, refl))
+    (λ c κs. search needs)
+    (λ c κs. search needs)
+    (λ c. search needs)
+    (λ c. search needs)
+    loop-again
+    (λ c. search needs)
+    returns)
