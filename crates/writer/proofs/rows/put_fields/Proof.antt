@@ -103,7 +103,7 @@ loop-again-3 c =
 
 pub put-fields-spec : {M : Type 1} → statement M
 put-fields-spec =
-    tie.close (tie.spec Inv-loop μ-loop (λ c κs. c .before .pre .room) loop-holds step-requires
+    tie.close (tie.spec Inv-loop μ-loop (λ c κs. search needs) loop-holds step-requires
     (λ c. let i = left-inside _ _ _ _ _ _ (c .before .before .loop .inv .0) in omega arith) field-requires
     (λ c κs. search needs) (λ c κs. search needs)
     (λ c. let i = left-inside _ _ _ _ _ _ (c .before .before .before .before .before .before .loop .inv .0) in
