@@ -47,37 +47,42 @@ fn owner_at(chart: &[i32], i: usize) -> Owner
 }
 
 // From the last row up: the row's next one is its owner's first so far, and it becomes the first.
-pub fn index_of(chart: &[i32]) -> [usize; INDEX]
+pub fn index_of(chart: &[i32]) -> [u16; INDEX]
     requires { ⌜ Ruled (now chart) ⌝ }
     ensures { λ r. ⌜ Indexed (chart-of (now (chart .entry))) r ⌝ }
 {
     let n = action_count(chart);
-    let mut index = [0; INDEX];
+    let mut index = [0u16; INDEX];
     let mut i = n;
     while 0 < i {
         i -= 1;
         let at = key_of(owner_at(chart, i));
         let first = index[at];
         index[OWNERS + i] = first;
-        index[at] = n - i;
+        let rows = n - i;
+        index[at] = rows as u16;
     }
     index
 }
 
 // The owner's first row; one past the rows where there is none.
-pub fn first_row(chart: &[i32], index: &[usize; INDEX], owner: Owner) -> usize
+pub fn first_row(chart: &[i32], index: &[u16; INDEX], owner: Owner) -> usize
     requires { ⌜ Prepared (now chart) (now index) × Fits owner ⌝ }
     ensures { λ r. ⌜ r ≡ row-from (chart-of (now (chart .entry))) owner 0 ⌝ }
 {
     let at = key_of(owner);
-    action_count(chart) - index[at]
+    let n = action_count(chart);
+    let rows = index[at] as usize;
+    n - rows
 }
 
 // The next row of the same owner after row i.
-pub fn next_row(chart: &[i32], index: &[usize; INDEX], i: usize) -> usize
+pub fn next_row(chart: &[i32], index: &[u16; INDEX], i: usize) -> usize
     requires { ⌜ Prepared (now chart) (now index) × (i < length (chart-of (now chart) .actions)) ⌝ }
     ensures { λ r. ⌜ r ≡ row-from (chart-of (now (chart .entry)))
         (getD (chart-of (now (chart .entry)) .actions) i no-action .owner) (suc i) ⌝ }
 {
-    action_count(chart) - index[OWNERS + i]
+    let n = action_count(chart);
+    let rows = index[OWNERS + i] as usize;
+    n - rows
 }

@@ -43,7 +43,7 @@ pub fn act_var(act: Act) -> usize
 // "An owner's actions run in line order"; the first refusal ends them.
 pub fn perform_all(
     chart: &[i32],
-    index: &[usize; INDEX],
+    index: &[u16; INDEX],
     arg: i32,
     owner: Owner,
     vars: &mut [i32; VARIABLES],
@@ -76,7 +76,7 @@ pub fn perform_all(
 // 01, "Firing": a state is entered, followed by its entry actions.
 pub fn enter(
     chart: &[i32],
-    index: &[usize; INDEX],
+    index: &[u16; INDEX],
     arg: i32,
     s: usize,
     active: &mut [bool; STATES],
@@ -110,7 +110,7 @@ pub fn enter(
 // 01, "Firing": a state is left and stored in its o parent's slot; its exit actions follow at once.
 pub fn leave(
     chart: &[i32],
-    index: &[usize; INDEX],
+    index: &[u16; INDEX],
     arg: i32,
     s: usize,
     active: &mut [bool; STATES],

@@ -24,7 +24,7 @@ ghost use Rattle.acts.specs.Index.{Prepared};
 // Below s everything by default.
 pub fn put_defaults(
     chart: &[i32],
-    index: &[usize; INDEX],
+    index: &[u16; INDEX],
     s: usize,
     left: usize,
     plan: &mut [i32],
@@ -49,7 +49,7 @@ pub fn put_defaults(
 }
 
 // How many instructions the default arm of b has.
-fn default_length(chart: &[i32], index: &[usize; INDEX], b: usize) -> usize
+fn default_length(chart: &[i32], index: &[u16; INDEX], b: usize) -> usize
     requires { ⌜ Prepared (now chart) (now index)
         × (b < length (chart-of (now chart) .states)) × Room (default-arm (chart-of (now chart)) b) 0 ⌝ }
     ensures { λ r. ⌜ r ≡ length (default-arm (chart-of (now (chart .entry))) b) ⌝ }
@@ -62,7 +62,7 @@ fn default_length(chart: &[i32], index: &[usize; INDEX], b: usize) -> usize
 // "for each proper descendant d of B, rising"
 fn put_stored_arm(
     chart: &[i32],
-    index: &[usize; INDEX],
+    index: &[u16; INDEX],
     b: usize,
     plan: &mut [i32],
     at: usize,
@@ -82,7 +82,7 @@ fn put_stored_arm(
 }
 
 // How many instructions the stored arm of b has.
-fn stored_length(chart: &[i32], index: &[usize; INDEX], b: usize) -> usize
+fn stored_length(chart: &[i32], index: &[u16; INDEX], b: usize) -> usize
     requires { ⌜ Prepared (now chart) (now index)
         × (b < length (chart-of (now chart) .states)) × Room (stored-arm (chart-of (now chart)) b) 0 ⌝ }
     ensures { λ r. ⌜ r ≡ length (stored-arm (chart-of (now (chart .entry))) b) ⌝ }
@@ -93,13 +93,7 @@ fn stored_length(chart: &[i32], index: &[usize; INDEX], b: usize) -> usize
 }
 
 // "SKIPFULL B over the default arm; the arm; SKIPEMPTY B over the stored arm; the arm"
-pub fn put_arms(
-    chart: &[i32],
-    index: &[usize; INDEX],
-    b: usize,
-    plan: &mut [i32],
-    at: usize,
-) -> usize
+pub fn put_arms(chart: &[i32], index: &[u16; INDEX], b: usize, plan: &mut [i32], at: usize) -> usize
     requires { ⌜ Prepared (now chart) (now index) × (b < length (chart-of (now chart) .states))
         × Room (arms (chart-of (now chart)) b) at ⌝ }
     ensures { λ r. ⌜ pen (now (plan .exit)) r ≡ emits (arms (chart-of (now (chart .entry))) b) (pen (now (plan .entry)) at) ⌝ }

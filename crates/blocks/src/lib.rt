@@ -38,7 +38,7 @@ ghost use Rattle.acts.specs.Index.{Prepared};
 ghost use Rattle.blocks.specs.Parts.{goal-code, move-code};
 
 // "for each state of the span, falling": those below s.
-fn put_exits(chart: &[i32], index: &[usize; INDEX], s: usize, plan: &mut [i32], at: usize) -> usize
+fn put_exits(chart: &[i32], index: &[u16; INDEX], s: usize, plan: &mut [i32], at: usize) -> usize
     requires { ⌜ Prepared (now chart) (now index) × (s < length (chart-of (now chart) .states))
         × Room (exits-code (chart-of (now chart)) (descendants (chart-of (now chart)) s)) at ⌝ }
     ensures { λ r. ⌜ pen (now (plan .exit)) r ≡ emits (exits-code (chart-of (now (chart .entry)))
@@ -56,7 +56,7 @@ fn put_exits(chart: &[i32], index: &[usize; INDEX], s: usize, plan: &mut [i32], 
 // Enters s, a child of p on the way to the goal; "After a history owner B and its entry actions", the arms.
 fn put_arrival(
     chart: &[i32],
-    index: &[usize; INDEX],
+    index: &[u16; INDEX],
     goal: Goal,
     p: usize,
     s: usize,
@@ -84,7 +84,7 @@ fn put_arrival(
 // Below s the way to the goal; components off it by default.
 fn put_towards(
     chart: &[i32],
-    index: &[usize; INDEX],
+    index: &[u16; INDEX],
     goal: Goal,
     s: usize,
     left: usize,
@@ -112,7 +112,7 @@ fn put_towards(
 // The states below the scope left, the transition's actions, the way to the goal.
 fn put_move(
     chart: &[i32],
-    index: &[usize; INDEX],
+    index: &[u16; INDEX],
     t: usize,
     goal: Goal,
     top: usize,
@@ -133,7 +133,7 @@ fn put_move(
 // The block of a transition; "In-place blocks hold only actions".
 pub fn put_block(
     chart: &[i32],
-    index: &[usize; INDEX],
+    index: &[u16; INDEX],
     t: usize,
     plan: &mut [i32],
     at: usize,
@@ -153,7 +153,7 @@ pub fn put_block(
 }
 
 // How many instructions the block of a transition has.
-pub fn block_length(chart: &[i32], index: &[usize; INDEX], t: usize) -> usize
+pub fn block_length(chart: &[i32], index: &[u16; INDEX], t: usize) -> usize
     requires { ⌜ Prepared (now chart) (now index)
         × (t < length (chart-of (now chart) .transitions)) × Room (block (chart-of (now chart)) t) 0 ⌝ }
     ensures { λ r. ⌜ r ≡ length (block (chart-of (now (chart .entry))) t) ⌝ }
@@ -164,7 +164,7 @@ pub fn block_length(chart: &[i32], index: &[usize; INDEX], t: usize) -> usize
 }
 
 // The root and its defaults.
-pub fn put_start(chart: &[i32], index: &[usize; INDEX], plan: &mut [i32], at: usize) -> usize
+pub fn put_start(chart: &[i32], index: &[u16; INDEX], plan: &mut [i32], at: usize) -> usize
     requires { ⌜ Prepared (now chart) (now index) × Room (start-block (chart-of (now chart))) at ⌝ }
     ensures { λ r. ⌜ pen (now (plan .exit)) r ≡ emits (start-block (chart-of (now (chart .entry)))) (pen (now (plan .entry)) at) ⌝ }
 {

@@ -23,13 +23,7 @@ ghost use Rattle.emitter.specs.Pen.{pen, emits, Room};
 ghost use Rattle.acts.specs.Index.{Prepared};
 
 // "SKIPOUT s k+1, OUT s, the actions"
-pub fn put_exit(
-    chart: &[i32],
-    index: &[usize; INDEX],
-    s: usize,
-    plan: &mut [i32],
-    at: usize,
-) -> usize
+pub fn put_exit(chart: &[i32], index: &[u16; INDEX], s: usize, plan: &mut [i32], at: usize) -> usize
     requires { ⌜ Prepared (now chart) (now index)
         × (s < length (chart-of (now chart) .states)) × Room (exit-code (chart-of (now chart)) s) at ⌝ }
     ensures { λ r. ⌜ pen (now (plan .exit)) r ≡ emits (exit-code (chart-of (now (chart .entry))) s) (pen (now (plan .entry)) at) ⌝ }
@@ -44,7 +38,7 @@ pub fn put_exit(
 // "IN, entry actions"
 pub fn put_enter(
     chart: &[i32],
-    index: &[usize; INDEX],
+    index: &[u16; INDEX],
     s: usize,
     plan: &mut [i32],
     at: usize,
@@ -60,7 +54,7 @@ pub fn put_enter(
 // "Default actions where due, IN, entry actions": s is a child of p, which goes on so.
 pub fn put_visit(
     chart: &[i32],
-    index: &[usize; INDEX],
+    index: &[u16; INDEX],
     next: Next,
     p: usize,
     s: usize,
@@ -83,7 +77,7 @@ pub fn put_visit(
 // "SKIPOUT p past all of d; SKIPNOT p d k+1 if p is kind o; IN d; its actions"
 pub fn put_stored(
     chart: &[i32],
-    index: &[usize; INDEX],
+    index: &[u16; INDEX],
     d: usize,
     plan: &mut [i32],
     at: usize,

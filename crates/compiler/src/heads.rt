@@ -79,7 +79,7 @@ fn put_head(
 // The heads of all transitions, whose blocks follow one another behind the start block.
 pub fn put_heads(
     chart: &[i32],
-    index: &[usize; INDEX],
+    index: &[u16; INDEX],
     order: &[usize; TRANSITIONS],
     count: usize,
     start: usize,

@@ -38,7 +38,7 @@ ghost use Rattle.compiler.specs.Plans.{In-order, Compiles};
 // "the blocks in head order"
 fn put_blocks(
     chart: &[i32],
-    index: &[usize; INDEX],
+    index: &[u16; INDEX],
     order: &[usize; TRANSITIONS],
     count: usize,
     plan: &mut [i32],
@@ -60,7 +60,7 @@ fn put_blocks(
 // "the start block, then the blocks in head order, no gaps"
 fn put_code(
     chart: &[i32],
-    index: &[usize; INDEX],
+    index: &[u16; INDEX],
     order: &[usize; TRANSITIONS],
     count: usize,
     plan: &mut [i32],
@@ -75,7 +75,7 @@ fn put_code(
 }
 
 // How many instructions the start block has.
-fn start_length(chart: &[i32], index: &[usize; INDEX]) -> usize
+fn start_length(chart: &[i32], index: &[u16; INDEX]) -> usize
     requires { ⌜ Prepared (now chart) (now index) ⌝ }
     ensures { λ r. ⌜ r ≡ count-of (start-block (chart-of (now (chart .entry)))) ⌝ }
 {
@@ -87,7 +87,7 @@ fn start_length(chart: &[i32], index: &[usize; INDEX]) -> usize
 // How many instructions there are in all.
 fn code_length(
     chart: &[i32],
-    index: &[usize; INDEX],
+    index: &[u16; INDEX],
     order: &[usize; TRANSITIONS],
     count: usize,
 ) -> usize

@@ -18,7 +18,7 @@ ghost use Rattle.emitter.specs.Pen.{pen, emits, Room};
 // The actions of an owner.
 pub fn put_acts(
     chart: &[i32],
-    index: &[usize; INDEX],
+    index: &[u16; INDEX],
     owner: Owner,
     plan: &mut [i32],
     at: usize,
@@ -39,7 +39,7 @@ pub fn put_acts(
 }
 
 // How many actions an owner has: what they come to in a slice without room.
-pub fn act_count(chart: &[i32], index: &[usize; INDEX], owner: Owner) -> usize
+pub fn act_count(chart: &[i32], index: &[u16; INDEX], owner: Owner) -> usize
     requires { ⌜ Prepared (now chart) (now index) × Fits owner ⌝ }
     ensures { λ r. ⌜ r ≡ length (code-acts (chart-of (now (chart .entry))) owner) ⌝ }
 {

@@ -32,7 +32,7 @@ ghost use Rattle.firing.specs.Moving.{moving};
 // The states below the scope are left, then the transition's actions, then the way down to the goal.
 fn move_to(
     chart: &[i32],
-    index: &[usize; INDEX],
+    index: &[u16; INDEX],
     arg: i32,
     t: usize,
     goal: Goal,
@@ -92,7 +92,7 @@ fn move_to(
 // 01, "Firing": the transition t is taken; top and end are what choosing found out of it.
 pub fn fire(
     chart: &[i32],
-    index: &[usize; INDEX],
+    index: &[u16; INDEX],
     arg: i32,
     t: usize,
     top: usize,

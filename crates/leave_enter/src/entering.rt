@@ -38,7 +38,7 @@ ghost use Rattle.tree.specs.Courses.{way-by, course-way, course-visit, arrival,
 // before it".
 fn visit(
     chart: &[i32],
-    index: &[usize; INDEX],
+    index: &[u16; INDEX],
     arg: i32,
     next: Next,
     p: usize,
@@ -69,7 +69,7 @@ fn visit(
 // Enters s, a child of p, on this course, with 14 where a restore meets an empty slot below its owner.
 fn arrive(
     chart: &[i32],
-    index: &[usize; INDEX],
+    index: &[u16; INDEX],
     arg: i32,
     course: Course,
     next: Next,
@@ -123,7 +123,7 @@ fn arrive(
 // Below s, which is in, everything that is entered on this course: each child that is due, and then what is below it.
 pub fn descend(
     chart: &[i32],
-    index: &[usize; INDEX],
+    index: &[u16; INDEX],
     arg: i32,
     course: Course,
     s: usize,

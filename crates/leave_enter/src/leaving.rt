@@ -17,7 +17,7 @@ ghost use Rattle.widget.specs.View.{all-lent, Did};
 // "The active states of the span are left, highest number first": those below s, which are the numbers that follow it up to below end.
 pub fn leave_below(
     chart: &[i32],
-    index: &[usize; INDEX],
+    index: &[u16; INDEX],
     arg: i32,
     s: usize,
     end: usize,

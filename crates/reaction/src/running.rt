@@ -31,7 +31,7 @@ ghost use Rattle.reaction.specs.Ready.{Ready};
 // One step with the event, then null steps.
 fn react(
     chart: &[i32],
-    index: &[usize; INDEX],
+    index: &[u16; INDEX],
     event: usize,
     arg: i32,
     active: &mut [bool; STATES],

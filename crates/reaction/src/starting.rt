@@ -46,7 +46,7 @@ pub fn first_values(chart: &[i32]) -> [i32; VARIABLES]
 // "enters the root and its defaults .., then makes null steps".
 fn begin(
     chart: &[i32],
-    index: &[usize; INDEX],
+    index: &[u16; INDEX],
     active: &mut [bool; STATES],
     slots: &mut [i32; STATES],
     vars: &mut [i32; VARIABLES],

@@ -22,7 +22,7 @@ ghost use Rattle.reaction.specs.Ready.{Ready, Fires};
 // "They fire in that order": the chosen, one after the other.
 fn fire_all(
     chart: &[i32],
-    index: &[usize; INDEX],
+    index: &[u16; INDEX],
     arg: i32,
     count: usize,
     picks: &[u16; PICKS],
@@ -74,7 +74,7 @@ fn fire_all(
 // One step with an event and its argument.
 pub fn step(
     chart: &[i32],
-    index: &[usize; INDEX],
+    index: &[u16; INDEX],
     event: usize,
     arg: i32,
     active: &mut [bool; STATES],
@@ -110,7 +110,7 @@ pub fn step(
 // "null steps follow: trigger 0, argument 0, all chosen fire, until none is enabled"; 12 where a 33rd is needed.
 pub fn settle(
     chart: &[i32],
-    index: &[usize; INDEX],
+    index: &[u16; INDEX],
     active: &mut [bool; STATES],
     slots: &mut [i32; STATES],
     vars: &mut [i32; VARIABLES],

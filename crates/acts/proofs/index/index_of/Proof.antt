@@ -46,8 +46,8 @@ key-low c =
           (omega (arith, at-loop .loop .inv .within)) _ (c .before .owner-at .ensures)),
     )
 
-sub-index : tie.Need-sub-index Inv-loop μ-loop
-sub-index c =
+sub-rows : tie.Need-sub-rows Inv-loop μ-loop
+sub-rows c =
     omega (arith, at-loop-from-key-of c .loop .inv .within, at-loop-from-key-of c .before .action-count .ensures)
 
 loop-again : tie.Need-loop-again Inv-loop μ-loop
@@ -72,5 +72,13 @@ index-of-spec = tie.close (tie.spec Inv-loop μ-loop (λ c κs. search needs) lo
       at-loop-from-key-of c .loop .inv .size,
       actions-most
           (start-from-key-of c .args .chart .now),
-    )) sub-index (λ c. omega (arith, key-low c, at-loop-from-key-of c .loop .inv .size))
+    ))
+    sub-rows
+    (λ c. omega (
+      arith,
+      at-loop-from-key-of c .loop .inv .within,
+      at-loop-from-key-of c .before .action-count .ensures,
+      actions-most
+          (start-from-key-of c .args .chart .now),
+    )) (λ c. omega (arith, key-low c, at-loop-from-key-of c .loop .inv .size))
     (λ c. omega (arith, key-low c, at-loop-from-key-of c .loop .inv .size)) (λ c. search needs) loop-again returns)

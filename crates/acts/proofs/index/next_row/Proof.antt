@@ -11,6 +11,10 @@ sub-result c =
     let top = c .before .before in
     next-read _ _ (top .pre .0 .indexed) _ (c .before .action-count .ensures) _ (top .pre .1) .0
 
+cast-rows : tie.Need-cast-rows
+cast-rows c =
+    omega (arith, sub-result c, c .before .action-count .ensures, actions-most (c .before .before .args .chart .now))
+
 returns : tie.Need-returns
 returns c =
     let top = c .before .before in
@@ -24,4 +28,4 @@ next-row-spec =
       c .before .pre .1,
       actions-most (c .before .args .chart .now),
       c .before .pre .0 .indexed .size,
-    )) sub-result returns)
+    )) cast-rows sub-result returns)
