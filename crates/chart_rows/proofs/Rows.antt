@@ -155,7 +155,8 @@ module _ (c : Chart) where
 module _ (v : List ℤ) (i : ℕ) where
   pub state-at : i < length (chart-of v .states) → state-row (chart-of v) i ≡ state-by (take STATE-ROW (drop (STATES-AT + i * STATE-ROW) v))
   unfolding state-row chart-of chart-by rows-of
-  state-at h = row-at state-by (size-by STATES (num v (place (counted s-record)))) STATE-ROW STATES-AT v i no-state (rw (states-count v) at h)
+  state-at h =
+      row-at state-by (size-by STATES (num v (place (counted s-record)))) STATE-ROW STATES-AT v i no-state (rw (states-count v) at h)
 
   pub parent-at : i < length (chart-of v .states) → parent-of (chart-of v) i ≡ ref-or-none (getD v (STATES-AT + i * STATE-ROW) (pos 0))
   unfolding parent-of state-by
@@ -179,12 +180,15 @@ module _ (v : List ℤ) (i : ℕ) where
   pub trans-at : i < length (chart-of v .transitions)
       → trans-row (chart-of v) i ≡ trans-by (take TRANS-ROW (drop (TRANSITIONS-AT + i * TRANS-ROW) v))
   unfolding trans-row chart-of chart-by rows-of
-  trans-at h = row-at trans-by (size-by TRANSITIONS (num v (place (counted t-record)))) TRANS-ROW TRANSITIONS-AT v i no-trans (rw (transitions-count v) at h)
+  trans-at h =
+      row-at trans-by (size-by TRANSITIONS (num v (place (counted t-record)))) TRANS-ROW TRANSITIONS-AT v i no-trans
+      (rw (transitions-count v) at h)
 
   pub action-at : i < length (chart-of v .actions)
       → getD (chart-of v .actions) i no-action ≡ action-by (take ACT-ROW (drop (ACTIONS-AT + i * ACT-ROW) v))
   unfolding chart-of chart-by rows-of
-  action-at h = row-at action-by (size-by ACTIONS (num v (place (counted a-record)))) ACT-ROW ACTIONS-AT v i no-action (rw (actions-count v) at h)
+  action-at h =
+      row-at action-by (size-by ACTIONS (num v (place (counted a-record)))) ACT-ROW ACTIONS-AT v i no-action (rw (actions-count v) at h)
 
 -- a row field by field, from the place where it begins
 module _ (v : List ℤ) (b : ℕ) where

@@ -88,5 +88,5 @@ returns-2 c =
 
 pub values-fit-spec : {M : Type 1} → statement M
 values-fit-spec = tie.close (tie.spec Inv-loop μ-loop (λ c κs. search needs) loop-holds (λ c. omega (arith, within c))
-    (λ c. omega (arith, within c)) (λ c κs. search needs) returns (λ c. omega (arith, within (in-loop-from-else1 c))) (λ c. omega arith) loop-again
-    (λ c κs. search needs) returns-2)
+    (λ c. omega (arith, within c)) (λ c κs. search needs) returns (λ c. omega (arith, within (in-loop-from-else1 c)))
+    (λ c. omega arith) loop-again (λ c κs. search needs) returns-2)
