@@ -48,19 +48,29 @@ states n = ended (text-of-row s-record 0
     (ABSENT ∷ pos 111 ∷ pos 1 ∷ []) ∷ map-from (text-of-row s-record) 1 (replicate (n - 1) (pos 0 ∷ pos 98 ∷ ABSENT ∷ [])))
 
 -- in the order: an empty text; its E line missing; a last line without LF; an empty last line; 32 and 33 events; 1 before 2 on
--- one line; a leading zero; as many states as there may be (01: 64), one more, and one more of the wrong form; -1 as a parent,
--- and "-"; h-1 as a target
+-- one line; a leading zero; -1 as a parent, and "-"; h-1 as a target
 some-faults : faults (
     [] ∷ states 2 ∷ (states 2 ++ bytes "E\t0") ∷ (states 2 ++ bytes "E\t0\n\n") ∷ (states 2 ++ bytes "E\t32\n")
     ∷ (states 2 ++ bytes "E\t33\n") ∷ (states 2 ++ bytes "V\t0\t1000000001\t01\t0\n") ∷ (states 2 ++ bytes "E\t01\n")
-    ∷ (states STATES ++ bytes "E\t0\n") ∷ (states (suc STATES) ++ bytes "E\t0\n")
-    ∷ (states STATES ++ bytes "S\t" ++ numeral (pos STATES) ++ bytes "\t0\tb\t0\n")
     ∷ (states 1 ++ bytes "S\t1\t-1\tb\t-\nE\t0\n") ∷ (states 1 ++ bytes "S\t1\t-\tb\t-\nE\t0\n")
     ∷ (states 2 ++ bytes "E\t1\nT\t0\t1\t1\t-\t-\t-\th-1\n") ∷ []
     )
     ≡ (1 ∷ 1 ∷ []) ∷ (1 ∷ 3 ∷ []) ∷ (1 ∷ 3 ∷ []) ∷ (1 ∷ 4 ∷ []) ∷ (0 ∷ 0 ∷ []) ∷ (2 ∷ 3 ∷ [])
-    ∷ (1 ∷ 3 ∷ []) ∷ (1 ∷ 3 ∷ []) ∷ (0 ∷ 0 ∷ []) ∷ (2 ∷ suc STATES ∷ [])
-    ∷ (1 ∷ suc STATES ∷ []) ∷ (3 ∷ 2 ∷ []) ∷ (1 ∷ 2 ∷ [])
+    ∷ (1 ∷ 3 ∷ []) ∷ (1 ∷ 3 ∷ []) ∷ (3 ∷ 2 ∷ []) ∷ (1 ∷ 2 ∷ [])
     ∷ (3 ∷ 6 ∷ []) ∷ []
 unfolding all-open fault-of faults states
 some-faults = refl
+
+-- as many states as there may be (01: 64), one more, and one more of the wrong form; each by itself, since a longer text takes many steps
+all-states-read : faults ((states STATES ++ bytes "E\t0\n") ∷ []) ≡ (0 ∷ 0 ∷ []) ∷ []
+unfolding all-open fault-of faults states
+all-states-read = refl
+
+one-state-more : faults ((states (suc STATES) ++ bytes "E\t0\n") ∷ []) ≡ (2 ∷ suc STATES ∷ []) ∷ []
+unfolding all-open fault-of faults states
+one-state-more = refl
+
+one-wrong-more : faults ((states STATES ++ bytes "S\t" ++ numeral (pos STATES) ++ bytes "\t0\tb\t0\n") ∷ [])
+    ≡ (1 ∷ suc STATES ∷ []) ∷ []
+unfolding all-open fault-of faults states
+one-wrong-more = refl
