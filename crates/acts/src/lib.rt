@@ -1,5 +1,7 @@
 // An owner's actions, and entering and leaving one state with them (01, "Chart text" and "Firing"), over the lent chart.
 // Each function has one promise: what it leaves behind is what the definition of the same name gives.
+#![tactic(auto)]
+
 pub mod index;
 
 ghost use Rattle.std.specs.Prelude.{◌≡◌, ◌≤◌, ◌<◌, length};

@@ -1,5 +1,7 @@
 // The blocks (01, "A block"): the states left, the way to a target or to the owner of a history, the block of a transition, and the
 // start block.
+#![tactic(auto)]
+
 pub mod arms;
 pub mod kids;
 pub mod pieces;

@@ -1,6 +1,8 @@
 // The engine for a host that is not Rattle (docs/HOST.md): entry points on numbers and slices. The answer is the result; the place given
 // with it and the count of entries, bytes or numbers go into `report`. A widget is lent as numbers (crate saved), and a refused call
 // leaves them as they were. In the order: charts, texts and plans; the calls on a widget over its chart; those over a plan.
+#![tactic(auto)]
+
 ghost use Rattle.promises.specs.Host.{HostChecked, HostRead, HostWrote, HostCompiled, HostExamined, HostUnstarted};
 ghost use Rattle.promises.specs.Host.{HostStarted, HostRan, HostPosted, HostDiscarded};
 ghost use Rattle.promises.specs.Host.{HostPlanStarted, HostPlanRan, HostPlanPosted, HostPlanDiscarded, HostReplayed};

@@ -4,6 +4,8 @@
 // place and count of entries; for calls_N also the entries and the state after it (module show). Then the same over the plan that the chart
 // compiles to. A case whose chart is refused prints `refused`. The file `stdout` has what must be printed: for each case its name and its
 // expected lines; then its name with ` by its plan` and the lines again, those of a case saved_N that begin with P, with R for P.
+#![tactic(auto)]
+
 mod by_plan;
 mod parse;
 mod saved;

@@ -2,6 +2,8 @@
 // functions on, so that a host sees one door; they are a crate of their own so that an edit here proves again only what charts
 // stand on. A chart is a value in lent numbers, and no function here asks anything of what it is lent; checked has the calls for
 // a chart that was checked once.
+#![tactic(auto)]
+
 pub mod checked;
 
 ghost use Rattle.promises.specs.Promises.{Checked, Read, Wrote, Unstarted, Started, Ran, Posted, Discarded};

@@ -1,6 +1,8 @@
 // The chart as a lent slice of numbers at fixed places, read by accessors. Each equals a definition of the crate meaning
 // over `chart_of` on every input: a place that the chart does not have reads as the definitions say, so that no caller
 // has to show that what it asks for is there.
+#![tactic(auto)]
+
 pub mod decode;
 pub mod kinds;
 pub mod layout;

@@ -1,4 +1,6 @@
 // Which transitions a step fires (01, "Enabled", "Chosen"): the guards, the span of a transition as a range, and the chooser.
+#![tactic(auto)]
+
 ghost use Rattle.std.specs.Prelude.{◌≡◌, [], ◌<◌, ◌≤◌, length};
 ghost use Rattle.sizes.specs.Sizes.{STATES as states, TRANSITIONS as transitions};
 ghost use Rattle.meaning.specs.Tree.{trans_row};
@@ -25,7 +27,7 @@ pub const ENDS_AT: usize = 2 * TRANSITIONS;
 pub const PICKS: usize = 3 * TRANSITIONS;
 
 // The numbers from first up to below end; the top is the state below which a firing leaves and enters: the scope, in place the source.
-#[derive(Drop)]
+#[derive(Clone, Copy)]
 pub struct Span {
     pub top: usize,
     pub first: usize,

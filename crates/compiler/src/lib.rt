@@ -1,5 +1,7 @@
 // The plan's compiler (01, "The plan"): six numbers, the variables, the heads, the code. How long the plan will be is known before any
 // number of it is written.
+#![tactic(auto)]
+
 pub mod heads;
 pub mod order;
 

@@ -19,7 +19,7 @@ use sizes::MOST;
 const POSTED: i32 = MOST + 1;
 
 // A field under way: nothing yet, a minus alone, 0 alone, digits of a value, digits behind a minus, or what can be no number.
-#[derive(Drop)]
+#[derive(Clone, Copy)]
 pub enum Digits {
     Start,
     Minus,
@@ -30,7 +30,7 @@ pub enum Digits {
 }
 
 // A line under way: in its event, in its argument, or past two fields.
-#[derive(Drop)]
+#[derive(Clone, Copy)]
 pub enum Scan {
     Event(Digits),
     Argument(Digits, Digits),

@@ -1,6 +1,8 @@
 // Instructions written into a lent slice (01, "The plan"). A place may lie past the end of the slice: nothing is stored there, and the
 // place counts on. So each contract is one equation with no condition, the room is asked once, and a length is learnt by writing into
 // a slice that has no room.
+#![tactic(auto)]
+
 pub mod actions;
 
 ghost use Rattle.std.specs.Prelude.{◌≡◌, [], ◌∷◌, ◌<◌, ◌+◌, set, pos};

@@ -1,5 +1,7 @@
 // How a call that makes a reaction ends, over a chart or over a plan (01, "Answer numbers"): refused, with the state as it was and the lent
 // trace zeroed; or done, with the state after it, the count of entries, and 0 past the last entry.
+#![tactic(auto)]
+
 ghost use Rattle.std.specs.Prelude.{◌≡◌, ◌≤◌, length};
 ghost use Rattle.meaning.specs.Calls.{called, lent, outcome, as_found as refusal};
 ghost use Rattle.widget.specs.View.{all_lent, went as gone};

@@ -3,6 +3,8 @@
 // has checked a chart once finds in checked the same calls without the check. Plans are made and examined in plans, and run in
 // planned; examined is for a plan that was examined once. What is handed on here stands in chart_engine and plan_engine, each
 // with its proofs and edits.
+#![tactic(auto)]
+
 pub use chart_engine::{check, checked, discard, post, read, run, start, unstarted, write};
 pub use chart_rows::layout::VALUE;
 pub use meaning::plan::Compiled;

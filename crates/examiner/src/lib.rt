@@ -1,5 +1,7 @@
 // The examination of a plan (01, "A plan is well formed when"). Any numbers may be lent: nothing is trusted before it was
 // tested, counts first, and numbers past the plan's end are ignored. Each function equals a definition of the crate meaning.
+#![tactic(auto)]
+
 mod fits;
 mod heads;
 mod instructions;

@@ -19,7 +19,7 @@ use numerals::number;
 use sizes::EVENTS;
 
 // The mark, how many numbers are stated, and these: the value, and where there are two the letter in front of it.
-#[derive(Drop)]
+#[derive(Clone, Copy)]
 pub struct Said {
     pub mark: usize,
     pub width: usize,

@@ -1,5 +1,7 @@
 // Lines and fields of the text (01, "Chart text"): where a part ends, where a field stands, how many fields a line has. A line is
 // the part of the text from `from` up to `to`; each function walks it at most once for each field before the one it asks for.
+#![tactic(auto)]
+
 pub mod cells;
 
 ghost use Rattle.std.specs.Prelude.{◌≡◌, List, [], ◌∷◌, ◌+◌, ◌-◌, ◌<◌, ◌≤◌, length, get_or};

@@ -1,4 +1,6 @@
 // Files that the programs read: the text of chart.txt; and what the programs lend.
+#![tactic(auto)]
+
 ghost use Rattle.io.specs.Counts.{IsPrefixLen};
 
 use sizes::TEXT;

@@ -1,5 +1,7 @@
 // Firing one transition (01, "Firing"): entry 1 of the trace, the active states of the span left, the transition's actions,
 // and the way down to the target or the history; a reaction in place leaves and enters nothing.
+#![tactic(auto)]
+
 ghost use Rattle.std.specs.Prelude.{◌≡◌, suc, ◌+◌, ◌≤◌, ◌<◌, length};
 ghost use Rattle.sizes.specs.Sizes.{TRANSITIONS as transitions};
 ghost use Rattle.queue.specs.Numbers.{QUEUE_NUMBERS as all};

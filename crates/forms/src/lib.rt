@@ -1,5 +1,7 @@
 // The grammar of chart text (meaning, specs/Grammar.antt) as one table, which the reader walks. An entry is a field that ends its form (.),
 // a field with more behind it (>), or a choice (|): of the form at the next entry, or of the one so many entries behind that.
+#![tactic(auto)]
+
 ghost use Rattle.std.specs.Prelude.{◌≡◌, ◌-◌, ◌<◌, ◌≤◌, length, get_or};
 ghost use Rattle.meaning.specs.Grammar.{width, form, record_by};
 ghost use Rattle.forms.specs.Table.{ENTRIES as entries, steps, fields, skips, field_of, form_at};

@@ -1,5 +1,7 @@
 // One line of the text (01, "Chart text"), read by the form of its record in the table of forms: the line's mark, 0, 1 or 2, and where it
 // is 0 the row that the line states, stored at its place in the chart's numbers.
+#![tactic(auto)]
+
 pub mod marks;
 
 ghost use Rattle.std.specs.Prelude.{◌≡◌, [], ◌+◌, ◌*◌, ◌-◌, ◌<◌, ◌≤◌, length};

@@ -1,5 +1,7 @@
 // The calls on a widget over a plan, on any numbers, any state and any lent trace (01, "The plan"): the plan is examined
 // first, and each call on a plan that was examined stands in a module of its own.
+#![tactic(auto)]
+
 pub mod running;
 pub mod starting;
 pub mod waiting;

@@ -11,7 +11,7 @@ pub enum Kind {
 }
 
 // guard sign (=, <, >)
-#[derive(Drop)]
+#[derive(Clone, Copy)]
 pub enum Sign {
     Equal,
     Less,
@@ -19,14 +19,14 @@ pub enum Sign {
 }
 
 // "The three guard fields are all - or none is": variable, sign, constant.
-#[derive(Drop)]
+#[derive(Clone, Copy)]
 pub enum Guard {
     Always,
     Compares(usize, Sign, i32),
 }
 
 // A state, the history of a state, or a reaction in place.
-#[derive(Drop)]
+#[derive(Clone, Copy)]
 pub enum Target {
     To(usize),
     History(usize),
@@ -34,7 +34,7 @@ pub enum Target {
 }
 
 // Acts s, a, k, q, o: set, add, take, send, tell.
-#[derive(Drop)]
+#[derive(Clone, Copy)]
 pub enum Act {
     SetTo(usize, i32),
     AddTo(usize, i32),
@@ -69,7 +69,7 @@ pub struct VarRow {
 }
 
 // T, number, source, trigger, guard, target.
-#[derive(Drop)]
+#[derive(Clone, Copy)]
 pub struct TransRow {
     pub source: usize,
     pub trigger: usize,

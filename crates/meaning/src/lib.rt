@@ -1,4 +1,6 @@
 // The types that the definitions of document 01 speak of. There is no code here: specs/ says what 01 says.
+#![tactic(auto)]
+
 pub mod answers;
 pub mod bytes;
 pub mod chart;
@@ -8,7 +10,7 @@ use queue::Queue;
 use sizes::{STATES, VARIABLES};
 
 // A widget's state (01, "One reaction"): an empty slot is -1; places not in use hold false, -1, 0, and 0 with 0.
-#[derive(Drop)]
+#[derive(Clone, Copy)]
 pub struct State {
     pub started: bool,
     pub active: [bool; STATES],
@@ -18,14 +20,14 @@ pub struct State {
 }
 
 // An answer number of 01 and the place given with it.
-#[derive(Drop)]
+#[derive(Clone, Copy)]
 pub struct Answer {
     pub number: usize,
     pub place: usize,
 }
 
 // What a call on a widget gives: the answer, the state after it, and how many trace entries it wrote.
-#[derive(Drop)]
+#[derive(Clone, Copy)]
 pub struct Called {
     pub answer: Answer,
     pub state: State,

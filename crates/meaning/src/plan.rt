@@ -30,7 +30,7 @@ pub struct Head {
 }
 
 // A plan's first six numbers: states, variables, events, heads, instructions, start block length.
-#[derive(Drop)]
+#[derive(Clone, Copy)]
 pub struct Counts {
     pub states: usize,
     pub vars: usize,

@@ -1,6 +1,8 @@
 // Signed numbers without tears: exact sums, values held to a range, tests of equality and range, and
 // numbers as places. Each function equals a definition of specs/ on every input, so that the crates
 // above go by those definitions and meet no signed conversion of their own.
+#![tactic(auto)]
+
 ghost use Rattle.std.specs.Prelude.{◌≡◌, pos, ◌+ℤ◌, ◌<◌};
 ghost use Rattle.std.specs.Int.Signed.{lt_z};
 ghost use Rattle.numbers.specs.Equal.{eq_z};

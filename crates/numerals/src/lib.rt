@@ -1,5 +1,7 @@
 // Numbers of the text (01, "Chart text"), read from a part of a slice: decimal, of any length. The value is held at one past the
 // range, so that no number of digits overflows, and each byte is looked at once.
+#![tactic(auto)]
+
 ghost use Rattle.std.specs.Prelude.{◌≡◌, ◌+◌, ◌*◌, ◌-◌, ◌<◌, ◌≤◌, length};
 ghost use Rattle.std.proofs.Math.Seq.{slice};
 ghost use Rattle.sizes.specs.Sizes.{MOST as Most};

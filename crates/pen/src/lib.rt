@@ -1,6 +1,8 @@
 // Writing into a lent slice of bytes: one byte, a number without a sign, a number. Each function takes the next place and hands back
 // the one after it; where the slice has no room left the place lies one past its length from then on, and nothing more is written.
 // So each contract is one equation with no condition, and a caller tells once, at the end, whether all of it had room.
+#![tactic(auto)]
+
 ghost use Rattle.std.specs.Prelude.{◌≡◌, nat_abs};
 ghost use Rattle.meaning.specs.Number.{digits, numeral};
 ghost use Rattle.pen.specs.Pen.{pen, put_byte, put_all};

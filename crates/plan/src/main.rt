@@ -1,6 +1,8 @@
 // The plan program (01, "The plan"), for whoever ships widgets: reads chart.txt, a missing one as empty, and writes its plan: one line for
 // the six counts, one for each variable, head and instruction, numbers parted by single spaces; or `R`, answer and place where the text or
 // the chart is refused. It decides nothing itself: what a text and a chart give is said by the engine.
+#![tactic(auto)]
+
 use console::{LF, put, put_digits, put_numeral};
 use engine::{Answer, VALUE};
 use files::{LENT, PLAN, chart_text};

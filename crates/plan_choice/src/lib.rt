@@ -1,6 +1,8 @@
 // Which heads of a plan a step fires (01, "The machine chooses by heads alone, in their order"): the heads are read where
 // they stand in the lent numbers, and the chosen are their numbers, in the order in which they fire. Only those of the step's trigger
 // are looked at, which an index finds.
+#![tactic(auto)]
+
 pub mod links;
 
 ghost use Rattle.std.specs.Prelude.{◌≡◌, ◌+◌, ◌≤◌, ◌<◌, pos, length, get_or};

@@ -1,5 +1,7 @@
 // The plan machine's test for answer 6 (01, "Answer numbers"): root active, each slot -1 or a state of the plan, variables,
 // queue and unused places as a started widget has them. It equals the definition on every state.
+#![tactic(auto)]
+
 ghost use Rattle.std.specs.Prelude.{◌≡◌, ◌≤◌, take};
 ghost use Rattle.sizes.specs.Sizes.{STATES as most};
 ghost use Rattle.meaning.specs.Lists.{every};

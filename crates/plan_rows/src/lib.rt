@@ -1,5 +1,7 @@
 // The plan as a lent slice of numbers, read by accessors (01, "The plan"). The counts are read from any numbers; a row is
 // read only where it is there whole, which its caller shows. Each accessor equals a definition of the crate meaning.
+#![tactic(auto)]
+
 pub mod decode;
 pub mod layout;
 

@@ -4,6 +4,8 @@
 // and of each line, whatever the answer. `replay` stops at the first refusal, where a line of another form is answer 1, and
 // writes one line at the end: how many events were done, how many transitions their runs took, and the answer that stopped it, if
 // any; and every 100,000 events a line of progress on standard error.
+#![tactic(auto)]
+
 ghost use Rattle.std.specs.Prelude.{◌≤◌, length};
 ghost use Rattle.promises.specs.Promises.{Planned};
 

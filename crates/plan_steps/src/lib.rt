@@ -1,5 +1,7 @@
 // Steps of the plan machine (01, "One reaction" and "The plan"): a head fires, all chosen heads fire, one step, null steps.
 // What is lent is what the chart's runner works on, and the picks: the heads that the current step fires.
+#![tactic(auto)]
+
 ghost use Rattle.std.specs.Prelude.{◌≡◌, ◌≤◌, ◌<◌, length};
 ghost use Rattle.sizes.specs.Sizes.{TRANSITIONS as transitions};
 ghost use Rattle.meaning.specs.Steps.{each};

@@ -3,6 +3,8 @@
 // it must give: the program prints the name; answer and count of compiling it; `same` or `differs`, number by number; and the
 // answer with one number less lent than the plan has. A file that cannot be opened prints a dash. The file `stdout` has what must
 // be printed: the table of damaged plans in its order, plans at the edge of each rule, then charts, K of 01 among them.
+#![tactic(auto)]
+
 mod charts;
 mod lines;
 

@@ -1,4 +1,6 @@
 // What each public function promises: specs/ has one definition each. The one struct here is what a replay gives.
+#![tactic(auto)]
+
 use meaning::{Answer, State};
 
 // A replay: the answer that stopped it or 0, the state after it, how many events were done, and the entries of the last run.

@@ -2,6 +2,8 @@
 // removes the front one". Append and remove are methods that take the queue and hand it back; each
 // equals a definition of specs/Queue on every queue, legal or not. A place not in use holds 0 with 0. Inside a reaction the
 // queue is lent as numbers: lent.
+#![tactic(auto)]
+
 pub mod lent;
 
 ghost use Rattle.std.specs.Prelude.{◌≡◌};
@@ -13,13 +15,13 @@ use sizes::QUEUE;
 const LAST: usize = QUEUE - 1;
 
 // A waiting event with its argument.
-#[derive(Drop)]
+#[derive(Clone, Copy)]
 pub struct Item {
     pub event: i32,
     pub arg: i32,
 }
 
-#[derive(Drop)]
+#[derive(Clone, Copy)]
 pub struct Queue {
     pub len: usize,
     pub items: [Item; QUEUE],

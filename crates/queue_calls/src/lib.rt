@@ -1,5 +1,7 @@
 // The calls that make no reaction (01, "One reaction"), on a chart that passes the rules: post and discard, with the test for
 // answer 6 in full.
+#![tactic(auto)]
+
 pub mod answers;
 pub mod own;
 

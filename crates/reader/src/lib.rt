@@ -1,5 +1,7 @@
 // "The reader walks the text line by line" (01): a struct of the text and a position in it. It is opened once; `walk` holds it, and moves
 // its position on from line to line. What is done with one line is in scan.rt, over plain slices and numbers.
+#![tactic(auto)]
+
 pub mod order;
 pub mod read;
 pub mod scan;

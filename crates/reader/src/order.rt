@@ -18,7 +18,7 @@ use numbers::number;
 use sizes::{ACTIONS, STATES, TRANSITIONS, VARIABLES};
 
 // How many records of each kind were read.
-#[derive(Drop)]
+#[derive(Clone, Copy)]
 pub struct Turns {
     pub states: usize,
     pub vars: usize,

@@ -1,4 +1,6 @@
 // The replay program, for whoever looks at a recorded session: what its events did, in one line.
+#![tactic(auto)]
+
 fn main() {
     plan_session::run(false);
 }

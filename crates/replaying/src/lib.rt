@@ -2,6 +2,8 @@
 // is examined once and the tests for 7 and 6 are made once; that this is what the single calls give is a theorem of
 // plan_invariants. A refused run must leave the state after its event's post. No copy is kept for that: the events that were done
 // are done once more from the first state, so that an event which is not refused pays nothing.
+#![tactic(auto)]
+
 pub mod course;
 pub mod turns;
 

@@ -1,5 +1,7 @@
 // The rules' check (01, "Chart rules, in order"): R0 to R7 are tried in order and the first that fails is named. No
 // function requires anything of the chart that is lent: a slice too short, or with wrong counts, fails R0.
+#![tactic(auto)]
+
 pub mod records;
 pub mod states;
 pub mod value;

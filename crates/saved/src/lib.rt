@@ -1,6 +1,8 @@
 // A widget's state as lent numbers at fixed places (docs/HOST.md): the started mark, an active mark for each state, a slot for each state,
 // the variables, the queue's length, and event and argument of each of its places. Numbers that state no widget are loaded as one that
 // every call refuses, so that nothing is asked of what is lent.
+#![tactic(auto)]
+
 ghost use Rattle.std.specs.Prelude.{◌≡◌, map, ◌+◌, ◌≤◌, length, take, drop, replicate, pos, ◌∷◌};
 ghost use Rattle.std.proofs.Math.Seq.{paste};
 ghost use Rattle.sizes.specs.Sizes.{STATES as states, STATE_NUMBERS as all};

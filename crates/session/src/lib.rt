@@ -2,6 +2,8 @@
 // each line. The widget and the line under way go by value, and a whole line hands the widget on: the bytes inside a line change the line
 // under way only. What is printed is written into a lent slice, and what the engine writes of a call into lent numbers, with room for 1,000
 // entries, the same for the whole session.
+#![tactic(auto)]
+
 ghost use Rattle.std.specs.Prelude.{◌≡◌, length};
 ghost use Rattle.meaning.specs.Rules.{Ruled};
 ghost use Rattle.meaning.specs.Value.{VALUE, chart_of};

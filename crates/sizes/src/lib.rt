@@ -1,4 +1,6 @@
 // The sizes of document 01, "Sizes": one name each, and no other place in the code has the number.
+#![tactic(auto)]
+
 pub const LEAST_STATES: usize = 2;
 
 pub const STATES: usize = 64;

@@ -1,4 +1,6 @@
 // What every entry point does at its end: the answer told in numbers, the widget's numbers kept or written.
+#![tactic(auto)]
+
 ghost use Rattle.std.specs.Prelude.{◌≡◌};
 ghost use Rattle.promises.specs.Host.{Told, Ends, Stops, too_few};
 

@@ -2,6 +2,8 @@
 // text's name, the answer and the place that reading it gives, and whether an accepted text is written back byte for byte: `same`,
 // `differs`, or `-` for a refused one. A file that cannot be opened prints three dashes. The file `stdout` has what must be printed:
 // the table of vectors in its order, then texts that it lacks: 65 states, 128 transitions, 257 actions, and 01's chart K.
+#![tactic(auto)]
+
 ghost use Rattle.std.specs.Prelude.{◌≤◌};
 
 use engine::VALUE;

@@ -2,6 +2,8 @@
 // parts; what it prints is collected and written whenever there might not be room for one more report. It reads and writes, and decides
 // nothing itself: what a text and the bytes of a part do is said by the functions that it calls. A line may have any length, and the input
 // any size.
+#![tactic(auto)]
+
 ghost use Rattle.std.specs.Prelude.{◌≡◌, ◌+◌, ◌≤◌, length};
 ghost use Rattle.meaning.specs.Value.{chart_of};
 ghost use Rattle.meaning.specs.Program.{ROOM as Room, do_line};

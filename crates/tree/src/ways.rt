@@ -17,7 +17,7 @@ use numbers::{Place, place_of};
 use sizes::STATES;
 
 // How an o state goes on: with one child, with its default, or not at all.
-#[derive(Drop)]
+#[derive(Clone, Copy)]
 pub enum Next {
     OnTo(usize),
     Defaults,
@@ -25,7 +25,7 @@ pub enum Next {
 }
 
 // Where a descent leads: to a target, or to the owner of a history and no further.
-#[derive(Drop)]
+#[derive(Clone, Copy)]
 pub enum Goal {
     Target(usize),
     Owner(usize),
@@ -60,7 +60,7 @@ pub fn aimed(goal: Goal) -> usize
 }
 
 // How a descent goes on below a state: by default, by the slots, or towards a goal.
-#[derive(Drop)]
+#[derive(Clone, Copy)]
 pub enum Course {
     Defaults,
     Slots,

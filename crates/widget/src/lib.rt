@@ -1,6 +1,8 @@
 // The effects of a reaction on a widget's lent arrays (01, "One reaction"): the trace buffer, the acts, leaving and
 // entering one state. The chart's runner and the plan machine share these functions, and each is promised in one form:
 // what it leaves behind is what the definition's step gives. What a function does not touch may be anything.
+#![tactic(auto)]
+
 pub mod fits;
 
 ghost use Rattle.std.specs.Prelude.{◌≡◌, [], ◌∷◌, ◌++◌, ◌-◌, ◌≤◌, ◌<◌, length, take, replicate, pos};

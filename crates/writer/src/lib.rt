@@ -1,4 +1,6 @@
 // The writer (01, "Chart text"): the text of a chart that passes the rules, in a lent slice; 13 where it is too long for the slice.
+#![tactic(auto)]
+
 pub mod cells;
 pub mod rows;
 
