@@ -43,6 +43,8 @@ climb_under c s (suc f) (suc n) e =
 
 pub under_climb : (c : Chart) → Ordered c → (s f d : ℕ) → d ≤ f → Under c s d → has s (climb c f d) ≡ true
 unfolding climb has
+under_climb c o s zero zero h u = elim u [ ]
+under_climb c o s (suc f) zero h u = elim u [ ]
 under_climb c o s zero (suc n) h u = absurd (omega arith)
 under_climb c o s (suc f) (suc n) h (child e) = or_left (eqb s (parent_of c (suc n))) _ (eq-eqb _ _ (sym e))
 under_climb c o s (suc f) (suc n) h (deeper u) =

@@ -30,6 +30,8 @@ descendants_range c h s l = range c h.ordered s l
 towards_climb : (c : Chart) → Ordered c → (s f d : ℕ) → d ≤ f → Under c s d
     → (is_child c s (first_that (is_child c s) (d ∷ climb c f d)) ≡ true) × (first_that (is_child c s) (d ∷ climb c f d) ≤ d)
 unfolding climb first_that
+towards_climb c o s zero zero l u = elim u [ ]
+towards_climb c o s (suc f) zero l u = elim u [ ]
 towards_climb c o s zero (suc n) l u = absurd (omega arith)
 towards_climb c o s (suc f) (suc n) l (child e) = rw (parent_child c s n e) (parent_child c s n e, omega arith)
 towards_climb c o s (suc f) (suc n) l (deeper u) =
