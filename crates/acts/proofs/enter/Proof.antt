@@ -1,6 +1,6 @@
 -- `enter` marks a state as entered, then performs its entry actions. Assumes nothing.
 use mir.Facts.{to_z-of_z}
-use Rattle.acts.proofs.Marking.{entered-stop, entered_on}
+use Rattle.acts.proofs.Marking.{entered_stop, entered_on}
 use borrow.Author.Rules.{rules}
 use Rattle.acts.proofs.enter.Statement.{statement}
 use Rattle.acts.proofs.enter.Tie as tie
@@ -9,7 +9,7 @@ abbrev else1-from-trace2 : tie.After-trace2 → tie.Else1
 else1-from-trace2 c = c.before.before.before.before.before
 
 returns : tie.Need-returns
-returns c = entered-stop _ _ _ c.before.before.before.mark_entered.ensures c.if1.true
+returns c = entered_stop _ _ _ c.before.before.before.mark_entered.ensures c.if1.true
 
 returns-2 : tie.Need-returns-2
 returns-2 c =

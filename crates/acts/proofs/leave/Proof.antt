@@ -1,6 +1,6 @@
 -- `leave` marks a state as left, then performs its exit actions. Assumes nothing.
 use mir.Facts.{to_z-of_z}
-use Rattle.acts.proofs.Marking.{o_parent_in, left-stop, left_on}
+use Rattle.acts.proofs.Marking.{o_parent_in, left_stop, left_on}
 use borrow.Author.Rules.{rules}
 use Rattle.acts.proofs.leave.Statement.{statement}
 use Rattle.acts.proofs.leave.Tie as tie
@@ -21,7 +21,7 @@ mark-left-requires c κs = (
 
 returns : tie.Need-returns
 returns c =
-    left-stop _ _ _ c.before.before.before.before.before.before.before.o_parent.ensures
+    left_stop _ _ _ c.before.before.before.before.before.before.before.o_parent.ensures
     c.before.before.before.mark_left.ensures c.if1.true
 
 returns-2 : tie.Need-returns-2

@@ -10,7 +10,7 @@ use lib.ListN.{length}
 use Rattle.meaning.specs.declared.chart.Owner.{Owner}
 use Rattle.meaning.specs.Value.{chart_of}
 use Rattle.acts.specs.Index.{row_from}
-use Rattle.acts.proofs.Acting.{Acting, acting-begin, acting-stop, acting-on, acting-later, acting-end, row_named}
+use Rattle.acts.proofs.Acting.{Acting, acting_begin, acting_stop, acting_on, acting_later, acting_end, row_named}
 use Rattle.acts.proofs.perform_all.Statement.{statement}
 use Rattle.acts.proofs.perform_all.Tie as tie
 
@@ -23,7 +23,7 @@ abbrev decreases-loop : tie.decreases-loop
 decreases-loop chart index arg vars₀ queue₀ trace₀ at n i₀ went₀ vars queue trace i went = n - i
 
 loop-holds : tie.Need-loop-init invariant-loop decreases-loop
-loop-holds c = (refl, λ o e. acting-begin _ e c.before.before.requires.1)
+loop-holds c = (refl, λ o e. acting_begin _ e c.before.before.requires.1)
 
 perform-requires : tie.Need-perform-requires invariant-loop decreases-loop
 perform-requires c κs =
@@ -44,7 +44,7 @@ returns c =
     let k = test.before in
     let top = k.before.before.before in
     rw (to_z-of_z top.ranges.arg) at
-    (acting-stop (k.loop.invariant.1 top.args.owner k.before.first_row.ensures)
+    (acting_stop (k.loop.invariant.1 top.args.owner k.before.first_row.ensures)
     (omega (arith, test.loop-test.true, k.before.before.action_count.ensures)) row.action_row.ensures
     var.before.act_var.ensures var.var_row.ensures c.before.before.before.perform.ensures c.if1.true)
 
@@ -60,7 +60,7 @@ loop-less c =
     let test = row.before in
     let k = test.before in
     let top = k.before.before.before in
-    let later = acting-later (k.loop.invariant.1 top.args.owner k.before.first_row.ensures)
+    let later = acting_later (k.loop.invariant.1 top.args.owner k.before.first_row.ensures)
     (omega (arith, test.loop-test.true, k.before.before.action_count.ensures)) row.action_row.ensures _ c.next_row.ensures in
     omega (arith, test.loop-test.true)
 
@@ -72,7 +72,7 @@ loop-again c =
     let k = test.before in
     let acted = c.before.before.before.before.perform.ensures in (
       acted.0.kept ∙ k.loop.invariant.0,
-      λ o e. acting-on (k.loop.invariant.1 o e)
+      λ o e. acting_on (k.loop.invariant.1 o e)
           (omega (arith, test.loop-test.true, k.before.before.action_count.ensures)) row.action_row.ensures
           var.before.act_var.ensures var.var_row.ensures acted c.before.if1.false _ c.next_row.ensures,
     )
@@ -82,7 +82,7 @@ returns-2 c =
     let k = c.before in
     let top = k.before.before.before in
     rw (to_z-of_z top.ranges.arg) at
-    (acting-end (k.loop.invariant.1 top.args.owner k.before.first_row.ensures)
+    (acting_end (k.loop.invariant.1 top.args.owner k.before.first_row.ensures)
     (omega (arith, c.loop-test.false, k.before.before.action_count.ensures)))
 
 pub perform-all-spec : {M : Type 1} → statement M

@@ -1,6 +1,6 @@
 -- `put_towards` puts each child that is due on the way to the goal, with what is below it. The measure is how many states are
 -- left. Assumes nothing.
-use Rattle.chart_rows.proofs.Rows.{states-most}
+use Rattle.chart_rows.proofs.Rows.{states_most}
 use mathlib.Core.Path.{◌∙◌, refl, sym}
 use Prim.Native.Nat.{◌-◌}
 use borrow.Author.Tests.{not-true, not-false}
@@ -9,7 +9,7 @@ use Rattle.tree.specs.Courses.{goal_way}
 use Rattle.tree.proofs.Among.{goal_child}
 use Rattle.blocks.proofs.KidsLeft.{goal_kids_left}
 use Rattle.blocks.specs.Parts.{goal_code}
-use Rattle.blocks.proofs.Descent.{Going, going-begin, going-skip, going-room, going-room-below, going_on, going-size, going_end}
+use Rattle.blocks.proofs.Descent.{Going, going_begin, going_skip, going_room, going_room_below, going_on, going_size, going_end}
 use borrow.Author.Rules.{rules}
 use native.Mathlib.Omega.{arith}
 use Prim.Native.Nat.{ℕ, ◌<◌}
@@ -137,7 +137,7 @@ put-towards-loop-holds :
     (t : ℕ) → put-towards-lts.Need-loop-init (put-towards-knows t) (put-towards-at t) put_towards.Post
     put-towards-Inv-loop put-towards-μ-loop
 put-towards-loop-holds t c =
-    going-begin _ _
+    going_begin _ _
     (goal_way (chart_of c.before.before.args.chart.now) c.before.before.args.goal) _ _ _ _ _ _ _
     refl (goal_kids_left _ c.before.before.args.goal _ _ _ _ c.before.next_of.result
     c.before.next_of.ensures c.kids_within.ensures)
@@ -150,7 +150,7 @@ put-towards-add-d t c =
       arith,
       c.before.before.loop-test.true,
       (kids-within-from-then1 t c).kids_within.ensures.within,
-      states-most (kids-within-from-then1 t c).before.before.args.chart.now,
+      states_most (kids-within-from-then1 t c).before.before.args.chart.now,
     )
 
 put-towards-loop-less :
@@ -162,7 +162,7 @@ put-towards-loop-again :
     (t : ℕ) → put-towards-lts.Need-loop-preserved (put-towards-knows t) (put-towards-at t) put_towards.Post
     put-towards-Inv-loop put-towards-μ-loop
 put-towards-loop-again t c =
-    going-skip _ _ _ _ _ _ _ _ _ _ c.before.before.before.loop.invariant
+    going_skip _ _ _ _ _ _ _ _ _ _ c.before.before.before.loop.invariant
     c.before.before.loop-test.true (sym c.before.is_child.ensures ∙ not-true _ c.if1.true)
 
 put-towards-put-arrival-requires :
@@ -176,7 +176,7 @@ put-towards-put-arrival-requires t c κs = (
     (in-loop-from-put-arrival-arg t c).before.before.kids_within.ensures.within,
     (in-loop-from-put-arrival-arg t c).loop-test.true,
   ),
-  going-room _ _ _ _ _ _ _ _ _ _ (in-loop-from-put-arrival-arg t c).before.loop.invariant
+  going_room _ _ _ _ _ _ _ _ _ _ (in-loop-from-put-arrival-arg t c).before.loop.invariant
       (in-loop-from-put-arrival-arg t c).loop-test.true
       (sym c.before.before.is_child.ensures ∙ not-false _ c.before.if1.false)
       (start-from-put-arrival-arg t c).requires.1.3,
@@ -217,7 +217,7 @@ put-towards-put-towards-requires t c κs = (
       (kids-within-from-put-towards-arg t c).kids_within.ensures.within,
       (in-loop-from-put-towards-arg t c).loop-test.true,
     ),
-    going-room-below _ _ _ _ _ _ _ _ _ _ (at-loop-from-put-towards-arg t c).loop.invariant
+    going_room_below _ _ _ _ _ _ _ _ _ _ (at-loop-from-put-towards-arg t c).loop.invariant
         (in-loop-from-put-towards-arg t c).loop-test.true
         (sym (else1-from-put-towards-arg t c).before.is_child.ensures ∙ not-false _
         (else1-from-put-towards-arg t c).if1.false) c.before.before.put_arrival.ensures
@@ -233,7 +233,7 @@ put-towards-add-d-2 t c =
       arith,
       (in-loop-from-plan2 t c).loop-test.true,
       (in-loop-from-plan2 t c).before.before.kids_within.ensures.within,
-      states-most (start-from-put-towards-arg t c.before.before).args.chart.now,
+      states_most (start-from-put-towards-arg t c.before.before).args.chart.now,
     )
 
 put-towards-loop-less-2 :
@@ -254,7 +254,7 @@ put-towards-loop-again-2 t c =
 put-towards-same-length :
     (t : ℕ) → put-towards-lts.Need-same-length (put-towards-knows t) (put-towards-at t) put_towards.Post
     put-towards-Inv-loop put-towards-μ-loop
-put-towards-same-length t c = omega (arith, going-size _ _ _ _ _ _ _ _ _ _ c.before.loop.invariant)
+put-towards-same-length t c = omega (arith, going_size _ _ _ _ _ _ _ _ _ _ c.before.loop.invariant)
 
 put-towards-returns :
     (t : ℕ) → put-towards-lts.Need-returns (put-towards-knows t) (put-towards-at t) put_towards.Post

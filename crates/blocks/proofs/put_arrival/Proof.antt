@@ -1,7 +1,7 @@
 -- `put_arrival` enters the state, and at the owner of a history puts the arms. Assumes nothing.
 use Rattle.emitter.proofs.Laws.{emits_at}
 use Rattle.meaning.specs.Value.{chart_of}
-use Rattle.blocks.proofs.Joining.{arrival-room, arrival-target, arrival-past, arrival-long, arrival-owner}
+use Rattle.blocks.proofs.Joining.{arrival_room, arrival_target, arrival_past, arrival_long, arrival_owner}
 use native.Mathlib.Omega.{arith}
 use borrow.Author.Rules.{rules}
 use Rattle.blocks.proofs.put_arrival.Statement.{statement}
@@ -33,21 +33,21 @@ put-visit-requires c κs = (
   c.before.before.requires.0,
   c.before.before.requires.1,
   c.before.before.requires.2,
-  arrival-room (chart_of c.before.before.args.chart.now) c.before.before.args.goal
+  arrival_room (chart_of c.before.before.args.chart.now) c.before.before.args.goal
       c.before.before.args.p c.before.before.args.s _ c.before.next_of.ensures
       c.before.before.args.at c.before.before.requires.3,
 )
 
 returns : tie.Need-returns
 returns c =
-    arrival-target (chart_of (start-from-enum-told c).args.chart.now) (start-from-enum-told c).args.goal
+    arrival_target (chart_of (start-from-enum-told c).args.chart.now) (start-from-enum-told c).args.goal
     (start-from-enum-told c).args.p (start-from-enum-told c).args.s _
     c.before.before.before.before.before.next_of.ensures _
     c.before.before.before.put_visit.ensures _ c.enum_told.given.1
 
 returns-2 : tie.Need-returns-2
 returns-2 c =
-    arrival-past (chart_of (start-from-then1 c).args.chart.now) (start-from-then1 c).args.goal
+    arrival_past (chart_of (start-from-then1 c).args.chart.now) (start-from-then1 c).args.goal
     (start-from-then1 c).args.p (start-from-then1 c).args.s _
     (put-visit-from-then1 c).before.before.next_of.ensures _ (put-visit-from-then1 c).put_visit.ensures
     _ c.before.before.goal.given.1 c.if1.true
@@ -60,7 +60,7 @@ put-arms-requires c κs = (
     arith,
     (start-from-put-arms-arg c).requires.3,
     emits_at _ _ _ (put-visit-from-put-arms-arg c).put_visit.ensures,
-    arrival-long (chart_of (start-from-put-arms-arg c).args.chart.now)
+    arrival_long (chart_of (start-from-put-arms-arg c).args.chart.now)
         (start-from-put-arms-arg c).args.goal (start-from-put-arms-arg c).args.p
         (start-from-put-arms-arg c).args.s _
         (put-visit-from-put-arms-arg c).before.before.next_of.ensures _
@@ -71,7 +71,7 @@ put-arms-requires c κs = (
 
 returns-3 : tie.Need-returns-3
 returns-3 c =
-    arrival-owner (chart_of (start-from-plan2 c).args.chart.now) (start-from-plan2 c).args.goal
+    arrival_owner (chart_of (start-from-plan2 c).args.chart.now) (start-from-plan2 c).args.goal
     (start-from-plan2 c).args.p (start-from-plan2 c).args.s _
     (put-visit-from-put-arms-arg c.before.before).before.before.next_of.ensures _
     (put-visit-from-put-arms-arg c.before.before).put_visit.ensures _

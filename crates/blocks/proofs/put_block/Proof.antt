@@ -1,10 +1,10 @@
 -- `put_block`: by where the transition leads. Assumes nothing.
 use mathlib.Core.Path.{ap}
 use lib.ListN.{length}
-use Rattle.chart_rows.proofs.Rows.{transitions-most}
+use Rattle.chart_rows.proofs.Rows.{transitions_most}
 use Rattle.meaning.specs.Value.{chart_of}
 use Rattle.blocks.proofs.Putting.{put_as}
-use Rattle.blocks.proofs.Joining.{goes-inside, block_goes, block-stays}
+use Rattle.blocks.proofs.Joining.{goes_inside, block_goes, block_stays}
 use native.Mathlib.Omega.{arith}
 use borrow.Author.Rules.{rules}
 use Rattle.blocks.proofs.put_block.Statement.{statement}
@@ -21,11 +21,11 @@ put-acts-requires c κs =
     let a = c.before.before.before in
     let start = start-from-aim-of a in (
       start.pre.0,
-      omega (arith, start.pre.1, transitions-most start.args.chart.now),
+      omega (arith, start.pre.1, transitions_most start.args.chart.now),
       omega (
         arith,
         start.pre.2,
-        ap length (block-stays (chart_of start.args.chart.now) start.args.t _ a.before.trans_row.ensures a.aim_of.ensures
+        ap length (block_stays (chart_of start.args.chart.now) start.args.t _ a.before.trans_row.ensures a.aim_of.ensures
             c.before.enum_told.given.1),
       ),
     )
@@ -35,7 +35,7 @@ returns c =
     let told = c.before.before.before in
     let a = told.before.before in
     let start = start-from-aim-of a in
-    put_as _ _ _ (block-stays (chart_of start.args.chart.now) start.args.t _ a.before.trans_row.ensures a.aim_of.ensures
+    put_as _ _ _ (block_stays (chart_of start.args.chart.now) start.args.t _ a.before.trans_row.ensures a.aim_of.ensures
     told.enum_told.given.1) c.before.put_acts.ensures
 
 put-move-requires : tie.Need-put-move-requires
@@ -44,7 +44,7 @@ put-move-requires c κs =
     let a = aim-of-from-scope s in
     let start = start-from-aim-of a in
     let given = s.before.before.before.aim.given.1 in
-    let x = goes-inside start.args.chart.now start.pre.0.ruled start.args.t start.pre.1 _ a.before.trans_row.ensures
+    let x = goes_inside start.args.chart.now start.pre.0.ruled start.args.t start.pre.1 _ a.before.trans_row.ensures
     a.aim_of.ensures given s.before.aimed.ensures s.scope.ensures in (
       start.pre.0,
       start.pre.1,

@@ -1,5 +1,5 @@
 -- `put_exits` puts every state below s, falling. Assumes nothing.
-use Rattle.chart_rows.proofs.Rows.{states-most}
+use Rattle.chart_rows.proofs.Rows.{states_most}
 use Prim.Native.Nat.{◌-◌, ◌≤◌, ◌<◌}
 use mathlib.Core.Path.{◌≡◌, refl}
 use Rattle.meaning.specs.Value.{chart_of}
@@ -7,7 +7,7 @@ use Rattle.meaning.specs.Compile.{exit_code, exits_code}
 use Rattle.meaning.specs.Tree.{descendants}
 use Rattle.tree.proofs.Passing.{sound}
 use Rattle.emitter.proofs.Laws.{same_size}
-use Rattle.blocks.proofs.Descent.{Falling, falling-begin, falling-room, falling-on, falling-end, end-inside}
+use Rattle.blocks.proofs.Descent.{Falling, falling_begin, falling_room, falling_on, falling_end, end_inside}
 use borrow.Author.Rules.{rules}
 use native.Mathlib.Omega.{arith}
 use Rattle.blocks.proofs.put_exits.Statement.{statement}
@@ -37,14 +37,14 @@ loop-holds : tie.Need-loop-init invariant-loop decreases-loop
 unfolding exits_code
 loop-holds c = (
   omega arith,
-  falling-begin (chart_of c.before.args.chart.now)
+  falling_begin (chart_of c.before.args.chart.now)
       (sound c.before.args.chart.now c.before.requires.0.ruled) c.before.args.s
       c.before.requires.1 (exit_code (chart_of c.before.args.chart.now)) _ _ _
       c.end_Below.ensures,
 )
 
 add-loop : tie.Need-overflow-add-loop invariant-loop decreases-loop
-add-loop c = omega (arith, c.before.before.requires.1, states-most c.before.before.args.chart.now)
+add-loop c = omega (arith, c.before.before.requires.1, states_most c.before.before.args.chart.now)
 
 put-exit-requires : tie.Need-put-exit-requires invariant-loop decreases-loop
 put-exit-requires c κs = (
@@ -53,7 +53,7 @@ put-exit-requires c κs = (
     arith,
     c.before.loop-test.true,
     c.before.before.loop.invariant.0,
-    end-inside (chart_of (start-from-put-exit-arg c).args.chart.now)
+    end_inside (chart_of (start-from-put-exit-arg c).args.chart.now)
         (sound (start-from-put-exit-arg c).args.chart.now
         (start-from-put-exit-arg c).requires.0.ruled) (start-from-put-exit-arg c).args.s
         (start-from-put-exit-arg c).requires.1
@@ -61,7 +61,7 @@ put-exit-requires c κs = (
         (start-from-put-exit-arg c).args.plan.now (start-from-put-exit-arg c).args.at _
         c.before.before.before.end_Below.ensures,
   ),
-  falling-room c.before.before.loop.invariant.1 (omega arith) (start-from-put-exit-arg c).requires.2,
+  falling_room c.before.before.loop.invariant.1 (omega arith) (start-from-put-exit-arg c).requires.2,
 )
 
 loop-less : tie.Need-loop-smaller invariant-loop decreases-loop
@@ -70,7 +70,7 @@ loop-less c = omega (arith, (in-loop-from-plan c).loop-test.true)
 loop-again : tie.Need-loop-preserved invariant-loop decreases-loop
 loop-again c = (
   omega (arith, (at-loop-from-plan c).loop.invariant.0),
-  falling-on (at-loop-from-plan c).loop.invariant.1 (omega (arith, (in-loop-from-plan c).loop-test.true))
+  falling_on (at-loop-from-plan c).loop.invariant.1 (omega (arith, (in-loop-from-plan c).loop-test.true))
       c.before.put_exit.ensures,
 )
 
@@ -78,7 +78,7 @@ same_length : tie.Need-same-length invariant-loop decreases-loop
 same_length c = omega (arith, same_size _ _ _ _ _ _ c.before.loop.invariant.1.owes)
 
 returns : tie.Need-returns invariant-loop decreases-loop
-returns c = falling-end c.before.loop.invariant.1 (omega (arith, c.loop-test.false))
+returns c = falling_end c.before.loop.invariant.1 (omega (arith, c.loop-test.false))
 
 pub put-exits-spec : {M : Type 1} → statement M
 put-exits-spec = tie.close (tie.spec invariant-loop

@@ -1,9 +1,9 @@
 -- `put_move`: the exits, the actions, the way to the goal. Assumes nothing.
-use Rattle.chart_rows.proofs.Rows.{transitions-most}
+use Rattle.chart_rows.proofs.Rows.{transitions_most}
 use Rattle.meaning.specs.Value.{chart_of}
 use Rattle.emitter.proofs.Laws.{put_both, emits_at}
 use Rattle.blocks.proofs.Putting.{put_as}
-use Rattle.blocks.proofs.Joining.{move-as, move-long}
+use Rattle.blocks.proofs.Joining.{move_as, move_long}
 use native.Mathlib.Omega.{arith}
 use borrow.Author.Rules.{rules}
 use Rattle.blocks.proofs.put_move.Statement.{statement}
@@ -37,7 +37,7 @@ put-exits-requires c κs = (
   omega (
     arith,
     c.before.before.requires.4,
-    move-long (chart_of c.before.before.args.chart.now) c.before.before.args.t
+    move_long (chart_of c.before.before.args.chart.now) c.before.before.args.t
         c.before.before.args.goal c.before.before.args.top
         c.before.state_count.result c.before.state_count.ensures,
   ),
@@ -49,13 +49,13 @@ put-acts-requires c κs = (
   omega (
     arith,
     (start-from-put-acts-arg c).requires.1,
-    transitions-most (start-from-put-acts-arg c).args.chart.now,
+    transitions_most (start-from-put-acts-arg c).args.chart.now,
   ),
   omega (
     arith,
     (start-from-put-acts-arg c).requires.4,
     emits_at _ _ _ c.before.before.put_exits.ensures,
-    move-long (chart_of (start-from-put-acts-arg c).args.chart.now)
+    move_long (chart_of (start-from-put-acts-arg c).args.chart.now)
         (start-from-put-acts-arg c).args.t (start-from-put-acts-arg c).args.goal
         (start-from-put-acts-arg c).args.top (state-count-from-put-acts-arg c).state_count.result
         (state-count-from-put-acts-arg c).state_count.ensures,
@@ -72,7 +72,7 @@ put-towards-requires c κs = (
     (start-from-put-towards-arg c).requires.4,
     emits_at _ _ _ c.before.before.before.before.before.put_exits.ensures,
     emits_at _ _ _ c.before.before.put_acts.ensures,
-    move-long (chart_of (start-from-put-towards-arg c).args.chart.now)
+    move_long (chart_of (start-from-put-towards-arg c).args.chart.now)
         (start-from-put-towards-arg c).args.t (start-from-put-towards-arg c).args.goal
         (start-from-put-towards-arg c).args.top
         (state-count-from-put-towards-arg c).state_count.result
@@ -82,7 +82,7 @@ put-towards-requires c κs = (
 
 returns : tie.Need-returns
 returns c =
-    put_as _ _ _ (move-as (chart_of (start-from-plan3 c).args.chart.now) (start-from-plan3 c).args.t
+    put_as _ _ _ (move_as (chart_of (start-from-plan3 c).args.chart.now) (start-from-plan3 c).args.t
     (start-from-plan3 c).args.goal (start-from-plan3 c).args.top
     (state-count-from-plan3 c).state_count.result (state-count-from-plan3 c).state_count.ensures)
     (put_both _ _ _ (put-acts-from-plan3 c).before.before.before.put_exits.ensures

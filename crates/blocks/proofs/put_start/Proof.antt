@@ -8,7 +8,7 @@ use Rattle.meaning.specs.Lists.{concat_map}
 use Rattle.tree.proofs.Passing.{sound}
 use Rattle.emitter.proofs.Laws.{put_both, emits_at}
 use Rattle.blocks.proofs.Putting.{put_as}
-use Rattle.blocks.proofs.Joining.{start-as}
+use Rattle.blocks.proofs.Joining.{start_as}
 use native.Mathlib.Omega.{arith}
 use borrow.Author.Rules.{rules}
 use Rattle.blocks.proofs.put_start.Statement.{statement}
@@ -30,7 +30,7 @@ put-enter-requires c κs = (
   omega (
     arith,
     c.before.before.requires.1,
-    ap length (start-as (chart_of c.before.before.args.chart.now)
+    ap length (start_as (chart_of c.before.before.args.chart.now)
         c.before.state_count.result c.before.state_count.ensures),
     length-append (enter_code (chart_of c.before.before.args.chart.now) 0)
         (concat_map (visit_code (chart_of c.before.before.args.chart.now))
@@ -51,7 +51,7 @@ put-defaults-requires c κs = (
     arith,
     (start-from-put-defaults-arg c).requires.1,
     emits_at _ _ _ c.before.before.put_enter.ensures,
-    ap length (start-as (chart_of (start-from-put-defaults-arg c).args.chart.now)
+    ap length (start_as (chart_of (start-from-put-defaults-arg c).args.chart.now)
         (state-count-from-put-defaults-arg c).state_count.result
         (state-count-from-put-defaults-arg c).state_count.ensures),
     length-append (enter_code (chart_of (start-from-put-defaults-arg c).args.chart.now) 0)
@@ -63,7 +63,7 @@ put-defaults-requires c κs = (
 
 returns : tie.Need-returns
 returns c =
-    put_as _ _ _ (start-as (chart_of (state-count-from-plan2 c).before.args.chart.now)
+    put_as _ _ _ (start_as (chart_of (state-count-from-plan2 c).before.args.chart.now)
     (state-count-from-plan2 c).state_count.result (state-count-from-plan2 c).state_count.ensures)
     (put_both _ _ _ c.before.before.before.before.put_enter.ensures c.before.put_defaults.ensures)
 

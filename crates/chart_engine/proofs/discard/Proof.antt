@@ -1,11 +1,11 @@
 -- `discard` checks the rules first. Assumes nothing.
-use Rattle.chart_engine.proofs.ByRules.{accepted, discard-3}
+use Rattle.chart_engine.proofs.ByRules.{accepted, discard_3}
 use borrow.Author.Rules.{rules}
 use Rattle.chart_engine.proofs.discard.Statement.{statement}
 use Rattle.chart_engine.proofs.discard.Tie as tie
 
 returns : tie.Need-returns
-returns c = discard-3 c.before.before.before.check.ensures c.before.if1.true c.refused.ensures
+returns c = discard_3 c.before.before.before.check.ensures c.before.if1.true c.refused.ensures
 
 discard-checked-requires : tie.Need-discard-checked-requires
 discard-checked-requires c κs = accepted c.before.before.check.ensures c.if1.false

@@ -1,12 +1,12 @@
 -- `post` checks the rules first. Assumes nothing.
 use mir.Facts.{to_z-of_z}
-use Rattle.chart_engine.proofs.ByRules.{accepted, post-3}
+use Rattle.chart_engine.proofs.ByRules.{accepted, post_3}
 use borrow.Author.Rules.{rules}
 use Rattle.chart_engine.proofs.post.Statement.{statement}
 use Rattle.chart_engine.proofs.post.Tie as tie
 
 returns : tie.Need-returns
-returns c = post-3 c.before.before.before.check.ensures c.before.if1.true c.refused.ensures
+returns c = post_3 c.before.before.before.check.ensures c.before.if1.true c.refused.ensures
 
 post-checked-requires : tie.Need-post-checked-requires
 post-checked-requires c κs = accepted c.before.before.check.ensures c.if1.false

@@ -1,12 +1,12 @@
 -- `run` checks the rules first. Assumes nothing.
-use Rattle.chart_engine.proofs.ByRules.{accepted, run-3}
+use Rattle.chart_engine.proofs.ByRules.{accepted, run_3}
 use borrow.Author.Rules.{rules}
 use Rattle.chart_engine.proofs.run.Statement.{statement}
 use Rattle.chart_engine.proofs.run.Tie as tie
 
 returns : tie.Need-returns
 returns c =
-    run-3 c.before.before.before.before.before.check.ensures c.before.before.before.if1.true
+    run_3 c.before.before.before.before.before.check.ensures c.before.before.before.if1.true
     c.before.refuse.ensures
 
 run-checked-requires : tie.Need-run-checked-requires

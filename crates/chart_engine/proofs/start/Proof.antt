@@ -1,12 +1,12 @@
 -- `start` checks the rules first. Assumes nothing.
-use Rattle.chart_engine.proofs.ByRules.{accepted, start-3}
+use Rattle.chart_engine.proofs.ByRules.{accepted, start_3}
 use borrow.Author.Rules.{rules}
 use Rattle.chart_engine.proofs.start.Statement.{statement}
 use Rattle.chart_engine.proofs.start.Tie as tie
 
 returns : tie.Need-returns
 returns c =
-    start-3 c.before.before.before.before.before.check.ensures c.before.before.before.if1.true
+    start_3 c.before.before.before.before.before.check.ensures c.before.before.before.if1.true
     c.before.refuse.ensures
 
 start-checked-requires : tie.Need-start-checked-requires

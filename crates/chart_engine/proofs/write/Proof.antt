@@ -1,14 +1,14 @@
 -- `write` checks the rules first. Assumes nothing.
 use native.Mathlib.Omega.{arith}
 use Rattle.chart_engine.proofs.ByRules.{accepted}
-use Rattle.chart_engine.proofs.TextKept.{write-3, writes}
+use Rattle.chart_engine.proofs.TextKept.{write_3, writes}
 use borrow.Author.Rules.{rules}
 use Rattle.chart_engine.proofs.write.Statement.{statement}
 use Rattle.chart_engine.proofs.write.Tie as tie
 
 returns : tie.Need-returns
 returns c =
-    write-3 c.before.before.before.before.before.before.check.ensures c.before.before.before.before.if1.true
+    write_3 c.before.before.before.before.before.before.check.ensures c.before.before.before.before.if1.true
     (omega arith) c.before.before.clear.ensures
 
 write-passed-requires : tie.Need-write-passed-requires

@@ -3,7 +3,7 @@ use mathlib.Core.Path.{sym, ◌∙◌}
 use native.Mathlib.Omega.{arith}
 use Rattle.meaning.specs.Value.{chart_of, ref_or_none}
 use Rattle.chart_rows.proofs.Said.{said_of}
-use Rattle.chart_rows.proofs.Rows.{states-most, parent-at, parent-none}
+use Rattle.chart_rows.proofs.Rows.{states_most, parent_at, parent_none}
 use borrow.Author.Rules.{rules}
 use Rattle.chart_rows.proofs.parent_of.Statement.{statement}
 use Rattle.chart_rows.proofs.parent_of.Tie as tie
@@ -12,17 +12,17 @@ abbrev start-from-ref-or-none : tie.After-ref-or-none → tie.Start
 start-from-ref-or-none c = c.before.before.before.before
 
 mul-number-at : tie.Need-overflow-mul-number-at
-mul-number-at c = omega (arith, states-most c.before.before.args.chart.now)
+mul-number-at c = omega (arith, states_most c.before.before.args.chart.now)
 
 add-number-at : tie.Need-overflow-add-number-at
-add-number-at c = omega (arith, states-most c.before.before.args.chart.now)
+add-number-at c = omega (arith, states_most c.before.before.args.chart.now)
 
 returns : tie.Need-returns
 returns c = said_of ref_or_none c.before.number_at.type-inv c.before.number_at.ensures c.ref_or_none.ensures
-    ∙ sym (parent-at (start-from-ref-or-none c).args.chart.now (start-from-ref-or-none c).args.s (omega arith))
+    ∙ sym (parent_at (start-from-ref-or-none c).args.chart.now (start-from-ref-or-none c).args.s (omega arith))
 
 returns-2 : tie.Need-returns-2
-returns-2 c = sym (parent-none (chart_of c.before.before.args.chart.now) c.before.before.args.s (omega arith))
+returns-2 c = sym (parent_none (chart_of c.before.before.args.chart.now) c.before.before.args.s (omega arith))
 
 pub parent-of-spec : {M : Type 1} → statement M
 parent-of-spec = tie.close

@@ -9,12 +9,12 @@ use borrow.Author.Rules.{rules}
 use Rattle.sizes.specs.Sizes.{STATES}
 use Rattle.meaning.specs.Value.{chart_of}
 use Rattle.meaning.specs.Reaction.{chosen}
-use Rattle.chart_rows.proofs.Rows.{states-most, transitions-most}
+use Rattle.chart_rows.proofs.Rows.{states_most, transitions_most}
 use Rattle.choice.specs.Choice.{seen}
-use Rattle.choice.proofs.Loop.{row_fits, row-enabled, up_to, Held, held_none}
-use Rattle.choice.proofs.All.{with-sources, chosen-all, none_left, source-off, source-begins, source-ends}
-use Rattle.choice.proofs.Turns.{Choosing, Turn, meant-aims, turn_of, choosing-passed, choosing-off}
-use Rattle.choice.proofs.Turns.{choosing-clash, choosing-room, choosing-noted}
+use Rattle.choice.proofs.Loop.{row_fits, row_enabled, up_to, Held, held_none}
+use Rattle.choice.proofs.All.{with_sources, chosen_all, none_left, source_off, source_begins, source_ends}
+use Rattle.choice.proofs.Turns.{Choosing, Turn, meant_aims, turn_of, choosing_passed, choosing_off}
+use Rattle.choice.proofs.Turns.{choosing_clash, choosing_room, choosing_noted}
 use Rattle.choice.proofs.choose.Statement.{statement}
 use Rattle.choice.proofs.choose.Tie as tie
 
@@ -34,7 +34,7 @@ decreases-transitions chart event active vars picks₀ n sources gone₀ count�
 
 abbrev invariant-sources : tie.invariant-sources
 invariant-sources chart event active vars picks₀ n sources gone₀ count₀ s₀ picks gone count s =
-    (with-sources (chart_of chart) event (seen active vars) s (take count picks) ≡ chosen (chart_of chart) event (seen active vars))
+    (with_sources (chart_of chart) event (seen active vars) s (take count picks) ≡ chosen (chart_of chart) event (seen active vars))
     × Held (chart_of chart) picks count gone × (s ≤ STATES)
 
 abbrev decreases-sources : tie.decreases-sources
@@ -65,9 +65,9 @@ start-from-span-of c = (transition-count-from-span-of c).before
 
 sources-holds : tie.Need-sources-init invariant-loop decreases-loop invariant-transitions decreases-transitions invariant-sources decreases-sources
 sources-holds c = (
-  rw c.state_count.ensures (chosen-all _ _ _),
+  rw c.state_count.ensures (chosen_all _ _ _),
   held_none _ _ c.before.before.before.requires.1,
-  omega (arith, c.state_count.ensures, states-most c.before.before.before.args.chart.now),
+  omega (arith, c.state_count.ensures, states_most c.before.before.before.args.chart.now),
 )
 
 array-read-if1 : tie.Need-array-read-if1 invariant-loop decreases-loop invariant-transitions decreases-transitions invariant-sources decreases-sources
@@ -76,7 +76,7 @@ array-read-if1 c = omega (arith, c.before.sources.invariant.2)
 sources-again : tie.Need-sources-preserved invariant-loop decreases-loop invariant-transitions decreases-transitions invariant-sources decreases-sources
 sources-again c =
     let w = c.before.before.sources in (
-      source-off _ _ _ w.s _ c.before.before.before.before.sources_of.result _
+      source_off _ _ _ w.s _ c.before.before.before.before.sources_of.result _
           c.before.before.before.before.sources_of.ensures (not-true _ c.if1.true) (omega arith) w.invariant.0,
       w.invariant.1,
       omega
@@ -87,7 +87,7 @@ transitions-holds : tie.Need-transitions-init invariant-loop decreases-loop inva
 transitions-holds c =
     let w = c.before.before.sources in
     record {
-      owes = source-begins _ _ _ w.s _ _ _ (omega arith) c.before.before.before.before.before.transition_count.ensures
+      owes = source_begins _ _ _ w.s _ _ _ (omega arith) c.before.before.before.before.before.transition_count.ensures
           w.invariant.0;
       held = w.invariant.1;
     }
@@ -95,7 +95,7 @@ transitions-holds c =
 sources-again-2 : tie.Need-sources-preserved-2 invariant-loop decreases-loop invariant-transitions decreases-transitions invariant-sources decreases-sources
 sources-again-2 c =
     let w = c.before.transitions.invariant in (
-      source-ends _ _ _ _ _ _ _ c.transitions-test.false w.owes,
+      source_ends _ _ _ _ _ _ _ c.transitions-test.false w.owes,
       w.held,
       omega
           (arith, c.before.before.before.before.sources.invariant.2),
@@ -110,7 +110,7 @@ row-meant-requires c κs = omega (
 
 transitions-again : tie.Need-transitions-preserved invariant-loop decreases-loop invariant-transitions decreases-transitions invariant-sources decreases-sources
 transitions-again c =
-    choosing-passed c.before.before.before.transitions.invariant c.before.before.transitions-test.true
+    choosing_passed c.before.before.before.transitions.invariant c.before.before.transitions-test.true
     c.before.row_meant.ensures (not-true _ c.if2.true)
 
 enabled-requires : tie.Need-enabled-requires invariant-loop decreases-loop invariant-transitions decreases-transitions invariant-sources decreases-sources
@@ -132,15 +132,15 @@ transitions-again-2 c =
       c.before.before.before.before.before.transitions-test.true,
       c.before.before.before.before.before.before.before.before.before.before.before.before.transition_count.ensures,
     ) in
-    choosing-off c.before.before.before.before.before.before.transitions.invariant
+    choosing_off c.before.before.before.before.before.before.transitions.invariant
     c.before.before.before.before.before.transitions-test.true
-    (row-enabled _ c.before.before.before.before.before.before.before.before.before.before.before.before.before.requires.0 _ _
+    (row_enabled _ c.before.before.before.before.before.before.before.before.before.before.before.before.before.requires.0 _ _
     c.before.before.trans_row.ensures l _ _ _ c.before.enabled.ensures ∙ not-true _ c.if3.true)
 
 span-of-requires : tie.Need-span-of-requires invariant-loop decreases-loop invariant-transitions decreases-transitions invariant-sources decreases-sources
 span-of-requires c κs = (
   c.before.before.before.before.before.before.before.before.before.before.before.before.before.requires.0,
-  meant-aims _ c.before.before.before.before.before.before.before.before.before.before.before.before.before.requires.0 _
+  meant_aims _ c.before.before.before.before.before.before.before.before.before.before.before.before.before.requires.0 _
       c.before.before.trans_row.ensures
       (omega (
         arith,
@@ -153,9 +153,9 @@ loop-holds : tie.Need-loop-init invariant-loop decreases-loop invariant-transiti
 loop-holds c = (refl, omega arith, λ y p q. absurd (omega arith))
 
 -- the row under way, enabled, with its span
-row-there : (c : At-span) → (at-transitions-from-span-of c).transitions.t < length
+row_there : (c : At-span) → (at-transitions-from-span-of c).transitions.t < length
     (chart_of (start-from-span-of c).args.chart.now).transitions
-row-there c = omega (
+row_there c = omega (
   arith,
   (row-meant-from-span-of c).before.transitions-test.true,
   (transition-count-from-span-of c).transition_count.ensures,
@@ -167,7 +167,7 @@ turn : (c : At-span)
     ((at-transitions-from-span-of c).before.before.before.sources.s - 1) (at-transitions-from-span-of c).transitions.t
     c.span_of.result
 turn c =
-    turn_of _ (start-from-span-of c).requires.0 _ (trans-row-from-span-of c).trans_row.ensures (row-there c) _ _
+    turn_of _ (start-from-span-of c).requires.0 _ (trans-row-from-span-of c).trans_row.ensures (row_there c) _ _
     (row-meant-from-span-of c).row_meant.ensures (not-false _ (trans-row-from-span-of c).before.if2.false)
     c.before.before.enabled.ensures (not-false _ c.before.if3.false) c.span_of.ensures
 
@@ -178,7 +178,7 @@ transitions-again-3 : tie.Need-transitions-preserved-3 invariant-loop decreases-
 transitions-again-3 c =
     let k = c.before.before.before in
     let w = c.before.before.loop.invariant in
-    rw w.0 (choosing-clash (at-transitions-from-span-of k).transitions.invariant
+    rw w.0 (choosing_clash (at-transitions-from-span-of k).transitions.invariant
     (row-meant-from-span-of k).before.transitions-test.true (turn k) _ w.1 c.before.loop-test.true c.if4.true)
 
 loop-again : tie.Need-loop-preserved invariant-loop decreases-loop invariant-transitions decreases-transitions invariant-sources decreases-sources
@@ -203,12 +203,12 @@ free c y p q = c.before.before.before.loop.invariant.2 y (omega (arith, q, c.bef
 note-requires : tie.Need-note-requires invariant-loop decreases-loop invariant-transitions decreases-transitions invariant-sources decreases-sources
 note-requires c κs =
     let k = span-of-from-mark-gone c.before in
-    let most = transitions-most (start-from-span-of k).args.chart.now in
+    let most = transitions_most (start-from-span-of k).args.chart.now in
     let w = (at-transitions-from-span-of k).transitions.inv in (
-      omega (arith, row-there k, most, c.before.before.before.before.loop.invariant.0),
+      omega (arith, row_there k, most, c.before.before.before.before.loop.invariant.0),
       omega (arith, (turn k).found.ends),
       (turn k).ends,
-      choosing-room w (row-meant-from-span-of k).before.transitions-test.taken (turn k) (free c.before) most,
+      choosing_room w (row-meant-from-span-of k).before.transitions-test.taken (turn k) (free c.before) most,
       w.held.size,
     )
 
@@ -219,8 +219,8 @@ transitions-again-4 : tie.Need-transitions-preserved-4 invariant-loop decreases-
 transitions-again-4 c =
     let m = c.before.before in
     let k = span-of-from-mark-gone m in
-    choosing-noted (at-transitions-from-span-of k).transitions.inv (row-meant-from-span-of k).before.transitions-test.taken (turn k)
-    (free m) (transitions-most (start-from-span-of k).args.chart.now) m.before.before.before.loop.invariant.0 c.note.ensures
+    choosing_noted (at-transitions-from-span-of k).transitions.inv (row-meant-from-span-of k).before.transitions-test.taken (turn k)
+    (free m) (transitions_most (start-from-span-of k).args.chart.now) m.before.before.before.loop.invariant.0 c.note.ensures
     m.mark_gone.ensures
 
 returns : tie.Need-returns invariant-loop decreases-loop invariant-transitions decreases-transitions invariant-sources decreases-sources

@@ -4,7 +4,7 @@ use Prim.Native.Nat.{◌+◌, ◌-◌, ◌≤◌, ◌<◌}
 use native.Mathlib.Omega.{arith}
 use mathlib.Core.Bool.{true}
 use Rattle.choice.specs.Span.{Goes}
-use Rattle.choice.proofs.Meets.{goes_none, goes-more, goes_end}
+use Rattle.choice.proofs.Meets.{goes_none, goes_more, goes_end}
 use Rattle.choice.proofs.mark_gone.Statement.{statement}
 use Rattle.choice.proofs.mark_gone.Tie as tie
 
@@ -25,7 +25,7 @@ loop-again : tie.Need-loop-preserved invariant-loop decreases-loop
 loop-again c =
     let w = c.before.before.loop.invariant in
     let p = c.before.before.before.requires in
-    (goes-more w.0 (omega (arith, p.1, p.2, w.0.long)) w.1, omega arith, omega arith)
+    (goes_more w.0 (omega (arith, p.1, p.2, w.0.long)) w.1, omega arith, omega arith)
 
 returns : tie.Need-returns invariant-loop decreases-loop
 returns c =

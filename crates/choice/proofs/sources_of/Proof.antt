@@ -8,7 +8,7 @@ use borrow.Author.Rules.{rules}
 use Rattle.sizes.specs.Sizes.{STATES}
 use Rattle.meaning.specs.Value.{chart_of}
 use Rattle.choice.proofs.Loop.{source_small}
-use Rattle.choice.proofs.Rows.{Marking, marking-other, marking-more}
+use Rattle.choice.proofs.Rows.{Marking, marking_other, marking_more}
 use Rattle.choice.proofs.sources_of.Statement.{statement}
 use Rattle.choice.proofs.sources_of.Tie as tie
 
@@ -27,7 +27,7 @@ trigger-at-requires c κs = omega arith
 loop-again : tie.Need-loop-preserved invariant-loop decreases-loop
 loop-again c =
     let w = c.before.before.before.loop.invariant in
-    (marking-other w.0 _ c.before.trigger_at.ensures c.if1.true, w.1, omega arith)
+    (marking_other w.0 _ c.before.trigger_at.ensures c.if1.true, w.1, omega arith)
 
 source-at-requires : tie.Need-source-at-requires invariant-loop decreases-loop
 source-at-requires c κs = omega arith
@@ -45,7 +45,7 @@ loop-again-2 c =
     let w = c.before.before.before.before.before.loop.invariant in
     let q = source_small _ c.before.before.before.before.before.before.before.requires _ _ c.before.source_at.ensures
     (omega arith) in (
-      marking-more w.0 _ c.before.source_at.ensures (omega (arith, q, w.1)),
+      marking_more w.0 _ c.before.source_at.ensures (omega (arith, q, w.1)),
       length-set
           c.before.before.before.before.before.loop.sources _ _ ∙ w.1,
       omega arith,

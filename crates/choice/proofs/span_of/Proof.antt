@@ -1,7 +1,7 @@
 -- `span_of` goes by where the target leads. Assumes nothing.
 use mathlib.Core.Path.{refl}
 use borrow.Author.Rules.{rules}
-use Rattle.choice.proofs.Aim.{top_inside, goes-spanned, stays-spanned}
+use Rattle.choice.proofs.Aim.{top_inside, goes_spanned, stays_spanned}
 use Rattle.choice.proofs.span_of.Statement.{statement}
 use Rattle.choice.proofs.span_of.Tie as tie
 
@@ -11,7 +11,7 @@ aim-of-from-scope c = c.before.before.before.before.before
 returns : tie.Need-returns
 returns c =
     let k = c.before.before.before in
-    stays-spanned _ k.before.requires.0 _ _ k.before.requires.1 k.aim_of.ensures c.before.enum_told.given.1 _ refl refl
+    stays_spanned _ k.before.requires.0 _ _ k.before.requires.1 k.aim_of.ensures c.before.enum_told.given.1 _ refl refl
     c.end_Below.ensures
 
 end-below-requires-2 : tie.Need-end-below-requires-2
@@ -26,7 +26,7 @@ end-below-requires-2 c κs =
 returns-2 : tie.Need-returns-2
 returns-2 c =
     let k = aim-of-from-scope c.before in
-    goes-spanned _ k.before.pre.0 _ _ k.before.pre.1 k.aim_of.ensures c.before.before.before.before.aim.given.1
+    goes_spanned _ k.before.pre.0 _ _ k.before.pre.1 k.aim_of.ensures c.before.before.before.before.aim.given.1
     c.before.before.aimed.ensures c.before.scope.ensures _ refl refl c.end-below2.ensures
 
 pub span-of-spec : {M : Type 1} → statement M

@@ -4,23 +4,23 @@ use native.Mathlib.Omega.{arith}
 use borrow.Author.Rules.{rules}
 use Rattle.numbers.specs.Reference.{ref}
 use Rattle.chart_rows.proofs.Said.{said_of}
-use Rattle.chart_rows.proofs.Rows.{transitions-most, trigger-said}
+use Rattle.chart_rows.proofs.Rows.{transitions_most, trigger_said}
 use Rattle.choice.proofs.trigger_at.Statement.{statement}
 use Rattle.choice.proofs.trigger_at.Tie as tie
 
 mul-number-at : tie.Need-overflow-mul-number-at
-mul-number-at c = omega (arith, transitions-most c.args.chart.now)
+mul-number-at c = omega (arith, transitions_most c.args.chart.now)
 
 add-number-at : tie.Need-overflow-add-number-at
-add-number-at c = omega (arith, transitions-most c.args.chart.now)
+add-number-at c = omega (arith, transitions_most c.args.chart.now)
 
 add-number-at-2 : tie.Need-overflow-add-number-at-2
-add-number-at-2 c = omega (arith, transitions-most c.args.chart.now)
+add-number-at-2 c = omega (arith, transitions_most c.args.chart.now)
 
 returns : tie.Need-returns
 returns c =
     said_of ref c.before.number_at.type-inv c.before.number_at.ensures c.reference.ensures
-    ∙ trigger-said c.before.before.args.chart.now c.before.before.args.t c.before.before.requires
+    ∙ trigger_said c.before.before.args.chart.now c.before.before.args.t c.before.before.requires
 
 pub trigger-at-spec : {M : Type 1} → statement M
 trigger-at-spec =

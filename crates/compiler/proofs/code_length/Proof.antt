@@ -1,6 +1,6 @@
 -- `code_length`: four numbers to an instruction. Assumes nothing.
 use Rattle.emitter.proofs.Laws.{emits_at}
-use Rattle.compiler.proofs.Bounds.{code-most}
+use Rattle.compiler.proofs.Bounds.{code_most}
 use native.Mathlib.Omega.{arith}
 use borrow.Author.Rules.{rules}
 use Rattle.compiler.proofs.code_length.Statement.{statement}
@@ -10,7 +10,7 @@ put-code-requires : tie.Need-put-code-requires
 put-code-requires c κs = (
   c.before.requires.0,
   c.before.requires.1,
-  omega (arith, code-most c.before.args.chart.now c.before.requires.0.ruled),
+  omega (arith, code_most c.before.args.chart.now c.before.requires.0.ruled),
 )
 
 returns : tie.Need-returns

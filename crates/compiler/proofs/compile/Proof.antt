@@ -1,5 +1,5 @@
 -- `compile`: what the rules refuse leaves 0; what they let pass is compiled. Assumes nothing.
-use Rattle.compiler.proofs.Whole.{passed, compiles-refused}
+use Rattle.compiler.proofs.Whole.{passed, compiles_refused}
 use native.Mathlib.Omega.{arith}
 use borrow.Author.Rules.{rules}
 use Rattle.compiler.proofs.compile.Statement.{statement}
@@ -22,7 +22,7 @@ returns c = c.before.compile_passed.ensures
 
 returns-2 : tie.Need-returns-2
 returns-2 c =
-    compiles-refused (start-from-plan2 c).args.chart.now (start-from-plan2 c).args.plan.now _
+    compiles_refused (start-from-plan2 c).args.chart.now (start-from-plan2 c).args.plan.now _
     c.before.before.before.before.before.check.ensures c.before.before.before.if1.false _
     c.before.clear_from.ensures
 

@@ -2,10 +2,10 @@
 use Prim.Native.Nat.{ℕ}
 use lib.ListN.{length-replicate}
 use Rattle.meaning.specs.Value.{chart_of}
-use Rattle.chart_rows.proofs.Rows.{vars-most}
-use Rattle.compiler.proofs.Bounds.{code-most}
-use Rattle.compiler.proofs.Heading.{order-long}
-use Rattle.compiler.proofs.Whole.{plan_long, whole-put, six_at, vars_at, heads_at, whole-fits, compiles-whole, compiles-over}
+use Rattle.chart_rows.proofs.Rows.{vars_most}
+use Rattle.compiler.proofs.Bounds.{code_most}
+use Rattle.compiler.proofs.Heading.{order_long}
+use Rattle.compiler.proofs.Whole.{plan_long, whole_put, six_at, vars_at, heads_at, whole_fits, compiles_whole, compiles_over}
 use native.Mathlib.Omega.{arith}
 use borrow.Author.Rules.{rules}
 use Rattle.compiler.proofs.compile_passed.Statement.{statement}
@@ -104,11 +104,11 @@ mul-length c =
     omega (
       arith,
       c.var_count.ensures,
-      vars-most (start-from-var-count c).args.chart.now,
+      vars_most (start-from-var-count c).args.chart.now,
       (order-of-from-var-count c).order_of.ensures.few,
-      order-long (order-of-from-var-count c).order_of.ensures,
+      order_long (order-of-from-var-count c).order_of.ensures,
       c.before.code_length.ensures,
-      code-most (start-from-var-count c).args.chart.now (start-from-var-count c).requires,
+      code_most (start-from-var-count c).args.chart.now (start-from-var-count c).requires,
       plan_long (chart_of (start-from-var-count c).args.chart.now),
     )
 
@@ -117,11 +117,11 @@ add-length c =
     omega (
       arith,
       c.var_count.ensures,
-      vars-most (start-from-var-count c).args.chart.now,
+      vars_most (start-from-var-count c).args.chart.now,
       (order-of-from-var-count c).order_of.ensures.few,
-      order-long (order-of-from-var-count c).order_of.ensures,
+      order_long (order-of-from-var-count c).order_of.ensures,
       c.before.code_length.ensures,
-      code-most (start-from-var-count c).args.chart.now (start-from-var-count c).requires,
+      code_most (start-from-var-count c).args.chart.now (start-from-var-count c).requires,
       plan_long (chart_of (start-from-var-count c).args.chart.now),
     )
 
@@ -130,11 +130,11 @@ mul-length-2 c =
     omega (
       arith,
       c.var_count.ensures,
-      vars-most (start-from-var-count c).args.chart.now,
+      vars_most (start-from-var-count c).args.chart.now,
       (order-of-from-var-count c).order_of.ensures.few,
-      order-long (order-of-from-var-count c).order_of.ensures,
+      order_long (order-of-from-var-count c).order_of.ensures,
       c.before.code_length.ensures,
-      code-most (start-from-var-count c).args.chart.now (start-from-var-count c).requires,
+      code_most (start-from-var-count c).args.chart.now (start-from-var-count c).requires,
       plan_long (chart_of (start-from-var-count c).args.chart.now),
     )
 
@@ -143,11 +143,11 @@ add-length-2 c =
     omega (
       arith,
       c.var_count.ensures,
-      vars-most (start-from-var-count c).args.chart.now,
+      vars_most (start-from-var-count c).args.chart.now,
       (order-of-from-var-count c).order_of.ensures.few,
-      order-long (order-of-from-var-count c).order_of.ensures,
+      order_long (order-of-from-var-count c).order_of.ensures,
       c.before.code_length.ensures,
-      code-most (start-from-var-count c).args.chart.now (start-from-var-count c).requires,
+      code_most (start-from-var-count c).args.chart.now (start-from-var-count c).requires,
       plan_long (chart_of (start-from-var-count c).args.chart.now),
     )
 
@@ -156,11 +156,11 @@ mul-length-3 c =
     omega (
       arith,
       c.var_count.ensures,
-      vars-most (start-from-var-count c).args.chart.now,
+      vars_most (start-from-var-count c).args.chart.now,
       (order-of-from-var-count c).order_of.ensures.few,
-      order-long (order-of-from-var-count c).order_of.ensures,
+      order_long (order-of-from-var-count c).order_of.ensures,
       c.before.code_length.ensures,
-      code-most (start-from-var-count c).args.chart.now (start-from-var-count c).requires,
+      code_most (start-from-var-count c).args.chart.now (start-from-var-count c).requires,
       plan_long (chart_of (start-from-var-count c).args.chart.now),
     )
 
@@ -169,33 +169,33 @@ add-length-3 c =
     omega (
       arith,
       c.var_count.ensures,
-      vars-most (start-from-var-count c).args.chart.now,
+      vars_most (start-from-var-count c).args.chart.now,
       (order-of-from-var-count c).order_of.ensures.few,
-      order-long (order-of-from-var-count c).order_of.ensures,
+      order_long (order-of-from-var-count c).order_of.ensures,
       c.before.code_length.ensures,
-      code-most (start-from-var-count c).args.chart.now (start-from-var-count c).requires,
+      code_most (start-from-var-count c).args.chart.now (start-from-var-count c).requires,
       plan_long (chart_of (start-from-var-count c).args.chart.now),
     )
 
 returns : tie.Need-returns
 returns c =
-    compiles-over (start-from-plan c).args.chart.now (start-from-plan c).args.plan.now
+    compiles_over (start-from-plan c).args.chart.now (start-from-plan c).args.plan.now
     (start-from-plan c).requires (omega (
       arith,
       c.before.before.before.if1.true,
       (var-count-from-plan c).var_count.ensures,
-      vars-most (start-from-plan c).args.chart.now,
+      vars_most (start-from-plan c).args.chart.now,
       (order-of-from-plan c).order_of.ensures.few,
-      order-long (order-of-from-plan c).order_of.ensures,
+      order_long (order-of-from-plan c).order_of.ensures,
       (var-count-from-plan c).before.code_length.ensures,
-      code-most (start-from-plan c).args.chart.now (start-from-plan c).requires,
+      code_most (start-from-plan c).args.chart.now (start-from-plan c).requires,
       plan_long (chart_of (start-from-plan c).args.chart.now),
     )) _ c.before.clear_from.ensures
 
 put-six-requires : tie.Need-put-six-requires
 put-six-requires c κs = (
   (start-from-var-count c.before.before).requires,
-  order-long (order-of-from-var-count c.before.before).order_of.ensures,
+  order_long (order-of-from-var-count c.before.before).order_of.ensures,
   c.before.before.before.code_length.ensures,
   c.before.before.before.before.before.before.start_length.ensures,
 )
@@ -223,11 +223,11 @@ put-heads-requires c κs = (
     vars_at (chart_of (start-from-put-heads-arg c).args.chart.now) _ _
         (put-vars-from-put-heads-arg c).put_vars.ensures,
     (var-count-from-put-heads-arg c).var_count.ensures,
-    vars-most (start-from-put-heads-arg c).args.chart.now,
+    vars_most (start-from-put-heads-arg c).args.chart.now,
     (order-of-from-put-heads-arg c).order_of.ensures.few,
-    order-long (order-of-from-put-heads-arg c).order_of.ensures,
+    order_long (order-of-from-put-heads-arg c).order_of.ensures,
     (var-count-from-put-heads-arg c).before.code_length.ensures,
-    code-most (start-from-put-heads-arg c).args.chart.now (start-from-put-heads-arg c).requires,
+    code_most (start-from-put-heads-arg c).args.chart.now (start-from-put-heads-arg c).requires,
     plan_long (chart_of (start-from-put-heads-arg c).args.chart.now),
   ),
 )
@@ -248,20 +248,20 @@ put-code-requires c κs = (
     heads_at (chart_of (start-from-put-code-arg c).args.chart.now) _ _ _
         c.before.before.before.before.put_heads.ensures,
     (var-count-from-put-code-arg c).var_count.ensures,
-    vars-most (start-from-put-code-arg c).args.chart.now,
+    vars_most (start-from-put-code-arg c).args.chart.now,
     (order-of-from-put-code-arg c).order_of.ensures.few,
-    order-long (order-of-from-put-code-arg c).order_of.ensures,
+    order_long (order-of-from-put-code-arg c).order_of.ensures,
     (var-count-from-put-code-arg c).before.code_length.ensures,
-    code-most (start-from-put-code-arg c).args.chart.now (start-from-put-code-arg c).requires,
+    code_most (start-from-put-code-arg c).args.chart.now (start-from-put-code-arg c).requires,
     plan_long (chart_of (start-from-put-code-arg c).args.chart.now),
   ),
 )
 
 clear-from-requires-2 : tie.Need-clear-from-requires-2
 clear-from-requires-2 c κs =
-    whole-fits (start-from-clear-from-arg2 c).args.chart.now
+    whole_fits (start-from-clear-from-arg2 c).args.chart.now
     (start-from-clear-from-arg2 c).args.plan.now _ _ _
-    (whole-put (chart_of (start-from-clear-from-arg2 c).args.chart.now) _
+    (whole_put (chart_of (start-from-clear-from-arg2 c).args.chart.now) _
     (code-length-from-clear-from-arg2 c).before.before.before.start_length.ensures _
     (put-six-from-clear-from-arg2 c).put_six.ensures
     (put-vars-from-put-code-arg c.before.before.before).put_vars.ensures
@@ -271,28 +271,28 @@ clear-from-requires-2 c κs =
       arith,
       (put-six-from-clear-from-arg2 c).before.before.if1.false,
       (put-six-from-clear-from-arg2 c).before.before.before.var_count.ensures,
-      vars-most (start-from-clear-from-arg2 c).args.chart.now,
+      vars_most (start-from-clear-from-arg2 c).args.chart.now,
       (order-of-from-clear-from-arg2 c).order_of.ensures.few,
-      order-long (order-of-from-clear-from-arg2 c).order_of.ensures,
+      order_long (order-of-from-clear-from-arg2 c).order_of.ensures,
       (code-length-from-clear-from-arg2 c).code_length.ensures,
-      code-most (start-from-clear-from-arg2 c).args.chart.now (start-from-clear-from-arg2 c).requires,
+      code_most (start-from-clear-from-arg2 c).args.chart.now (start-from-clear-from-arg2 c).requires,
       plan_long (chart_of (start-from-clear-from-arg2 c).args.chart.now),
     ))
 
 returns-2 : tie.Need-returns-2
 returns-2 c =
-    compiles-whole (start-from-plan6 c).args.chart.now (start-from-plan6 c).args.plan.now
+    compiles_whole (start-from-plan6 c).args.chart.now (start-from-plan6 c).args.plan.now
     (start-from-plan6 c).requires (omega (
       arith,
       (else1-from-plan6 c).if1.false,
       (else1-from-plan6 c).before.var_count.ensures,
-      vars-most (start-from-plan6 c).args.chart.now,
+      vars_most (start-from-plan6 c).args.chart.now,
       (order-of-from-plan6 c).order_of.ensures.few,
-      order-long (order-of-from-plan6 c).order_of.ensures,
+      order_long (order-of-from-plan6 c).order_of.ensures,
       (else1-from-plan6 c).before.before.code_length.ensures,
-      code-most (start-from-plan6 c).args.chart.now (start-from-plan6 c).requires,
+      code_most (start-from-plan6 c).args.chart.now (start-from-plan6 c).requires,
       plan_long (chart_of (start-from-plan6 c).args.chart.now),
-    )) _ _ _ (whole-put (chart_of (start-from-plan6 c).args.chart.now) _
+    )) _ _ _ (whole_put (chart_of (start-from-plan6 c).args.chart.now) _
     (else1-from-plan6 c).before.before.before.before.before.start_length.ensures _
     (put-six-from-clear-from-arg2 c.before.before).put_six.ensures
     (put-heads-from-plan6 c).before.before.before.before.before.put_vars.ensures

@@ -3,7 +3,7 @@ use Prim.Native.Nat.{◌-◌}
 use mathlib.Core.Path.{refl}
 use Rattle.meaning.specs.Value.{chart_of}
 use Rattle.emitter.proofs.Laws.{same_size}
-use Rattle.compiler.proofs.Heading.{Blocking, blocking-room, blocking-on, blocking-end, order_inside}
+use Rattle.compiler.proofs.Heading.{Blocking, blocking_room, blocking_on, blocking_end, order_inside}
 use native.Mathlib.Omega.{arith}
 use Rattle.compiler.proofs.put_blocks.Statement.{statement}
 use Rattle.compiler.proofs.put_blocks.Tie as tie
@@ -43,7 +43,7 @@ put-block-requires c κs = (
   order_inside (start-from-put-block-arg c).args.chart.now (start-from-put-block-arg c).requires.0.ruled
       (start-from-put-block-arg c).requires.1 (at-loop-from-put-block-arg c).loop.j
       c.before.before.loop-test.true,
-  blocking-room (start-from-put-block-arg c).requires.1 (at-loop-from-put-block-arg c).loop.invariant
+  blocking_room (start-from-put-block-arg c).requires.1 (at-loop-from-put-block-arg c).loop.invariant
       c.before.before.loop-test.true (start-from-put-block-arg c).requires.2,
 )
 
@@ -55,14 +55,14 @@ loop-less c = omega (arith, (in-loop-from-plan c).loop-test.true)
 
 loop-again : tie.Need-loop-preserved invariant-loop decreases-loop
 loop-again c =
-    blocking-on (start-from-plan c).requires.1 (in-loop-from-plan c).before.loop.invariant
+    blocking_on (start-from-plan c).requires.1 (in-loop-from-plan c).before.loop.invariant
     (in-loop-from-plan c).loop-test.true c.before.put_block.ensures
 
 same_length : tie.Need-same-length invariant-loop decreases-loop
 same_length c = omega (arith, same_size _ _ _ _ _ _ c.before.loop.invariant.owes)
 
 returns : tie.Need-returns invariant-loop decreases-loop
-returns c = blocking-end c.before.before.requires.1 c.before.loop.invariant c.loop-test.false
+returns c = blocking_end c.before.before.requires.1 c.before.loop.invariant c.loop-test.false
 
 pub put-blocks-spec : {M : Type 1} → statement M
 put-blocks-spec = tie.close (tie.spec invariant-loop

@@ -2,7 +2,7 @@
 use Rattle.meaning.specs.Value.{chart_of}
 use Rattle.meaning.specs.Compile.{code_of}
 use Rattle.emitter.proofs.Laws.{put_both, emits_at}
-use Rattle.compiler.proofs.Bounds.{code-long}
+use Rattle.compiler.proofs.Bounds.{code_long}
 use native.Mathlib.Omega.{arith}
 use borrow.Author.Rules.{rules}
 use Rattle.compiler.proofs.put_code.Statement.{statement}
@@ -14,7 +14,7 @@ start-from-put-blocks-arg c = c.before.before.before.before
 put-start-requires : tie.Need-put-start-requires
 put-start-requires c κs = (
   c.before.requires.0,
-  omega (arith, c.before.requires.2, code-long c.before.args.chart.now c.before.requires.0.ruled),
+  omega (arith, c.before.requires.2, code_long c.before.args.chart.now c.before.requires.0.ruled),
 )
 
 put-blocks-requires : tie.Need-put-blocks-requires
@@ -25,7 +25,7 @@ put-blocks-requires c κs = (
     arith,
     (start-from-put-blocks-arg c).requires.2,
     emits_at _ _ _ c.before.before.put_start.ensures,
-    code-long (start-from-put-blocks-arg c).args.chart.now
+    code_long (start-from-put-blocks-arg c).args.chart.now
         (start-from-put-blocks-arg c).requires.0.ruled,
   ),
 )

@@ -1,11 +1,11 @@
 -- `put_six` puts three numbers and three. Assumes nothing.
 use Rattle.numbers.proofs.Laws.{back32}
 use Rattle.meaning.specs.Value.{chart_of}
-use Rattle.chart_rows.proofs.Rows.{states-most, vars-most}
+use Rattle.chart_rows.proofs.Rows.{states_most, vars_most}
 use Rattle.acts.proofs.Acting.{events_most}
 use Rattle.emitter.proofs.Laws.{puts_at}
-use Rattle.compiler.proofs.Bounds.{order-few, code-most, start-few}
-use Rattle.compiler.proofs.Whole.{six-put}
+use Rattle.compiler.proofs.Bounds.{order_few, code_most, start_few}
+use Rattle.compiler.proofs.Whole.{six_put}
 use native.Mathlib.Omega.{arith}
 use borrow.Author.Rules.{rules}
 use Rattle.compiler.proofs.put_six.Statement.{statement}
@@ -28,7 +28,7 @@ number-requires c κs =
     omega (
       arith,
       c.before.before.before.state_count.ensures,
-      states-most c.before.before.before.before.args.chart.now,
+      states_most c.before.before.before.before.args.chart.now,
     )
 
 number-requires-2 : tie.Need-number-requires-2
@@ -36,7 +36,7 @@ number-requires-2 c κs =
     omega (
       arith,
       c.before.before.before.var_count.ensures,
-      vars-most c.before.before.before.before.before.args.chart.now,
+      vars_most c.before.before.before.before.before.args.chart.now,
     )
 
 number-requires-3 : tie.Need-number-requires-3
@@ -52,7 +52,7 @@ number-requires-4 c κs =
     omega (
       arith,
       (start-from-put-three-arg2 c).requires.1,
-      order-few (start-from-put-three-arg2 c).args.chart.now (start-from-put-three-arg2 c).requires.0,
+      order_few (start-from-put-three-arg2 c).args.chart.now (start-from-put-three-arg2 c).requires.0,
     )
 
 number-requires-5 : tie.Need-number-requires-5
@@ -60,7 +60,7 @@ number-requires-5 c κs =
     omega (
       arith,
       (start-from-number4 c).requires.2,
-      code-most (start-from-number4 c).args.chart.now (start-from-number4 c).requires.0,
+      code_most (start-from-number4 c).args.chart.now (start-from-number4 c).requires.0,
     )
 
 number-requires-6 : tie.Need-number-requires-6
@@ -68,7 +68,7 @@ number-requires-6 c κs =
     omega (
       arith,
       (start-from-number5 c).requires.3,
-      start-few (start-from-number5 c).args.chart.now (start-from-number5 c).requires.0,
+      start_few (start-from-number5 c).args.chart.now (start-from-number5 c).requires.0,
     )
 
 put-three-requires-2 : tie.Need-put-three-requires-2
@@ -76,7 +76,7 @@ put-three-requires-2 c κs = omega (arith, puts_at _ _ _ c.before.before.before.
 
 returns : tie.Need-returns
 returns c =
-    six-put (chart_of c.before.before.before.before.before.before.before.before.before.before.before.before.before.before.before.args.chart.now) _ _ _ _ _ _
+    six_put (chart_of c.before.before.before.before.before.before.before.before.before.before.before.before.before.before.before.args.chart.now) _ _ _ _ _ _
     c.before.before.before.before.before.before.before.before.before.before.before.before.before.before.state_count.ensures
     c.before.before.before.before.before.before.before.before.before.before.before.before.before.var_count.ensures
     c.before.before.before.before.before.before.before.before.before.before.before.before.event_count.ensures

@@ -4,8 +4,8 @@ use Rattle.meaning.specs.Value.{chart_of}
 use mir.Facts.{to_z-of_z}
 use mir.Syntax.{w32}
 use mir.Val.{SFits}
-use Rattle.chart_rows.proofs.Rows.{vars-most}
-use Rattle.compiler.proofs.Heading.{Ranging, ranging_begin, ranging-on, ranging-end, same_sized}
+use Rattle.chart_rows.proofs.Rows.{vars_most}
+use Rattle.compiler.proofs.Heading.{Ranging, ranging_begin, ranging_on, ranging_end, same_sized}
 use borrow.Author.Rules.{rules}
 use native.Mathlib.Omega.{arith}
 use Rattle.compiler.proofs.put_vars.Statement.{statement}
@@ -44,7 +44,7 @@ put-three-requires c κs =
       (in-loop-from-struct-told3 c).before.loop.invariant.placed,
       (in-loop-from-struct-told3 c).loop-test.true,
       (in-loop-from-struct-told3 c).before.before.var_count.ensures,
-      vars-most (start-from-struct-told3 c).args.chart.now,
+      vars_most (start-from-struct-told3 c).args.chart.now,
       (start-from-struct-told3 c).requires,
     )
 
@@ -54,7 +54,7 @@ add-v c =
       arith,
       (in-loop-from-plan c).loop-test.true,
       (var-count-from-plan c).var_count.ensures,
-      vars-most (var-count-from-plan c).before.args.chart.now,
+      vars_most (var-count-from-plan c).before.args.chart.now,
     )
 
 loop-less : tie.Need-loop-smaller invariant-loop decreases-loop
@@ -65,7 +65,7 @@ loop-again c =
     let fl : SFits w32 (var-row-from-plan c).var_row.result.low = search rules in
     let fh : SFits w32 (var-row-from-plan c).var_row.result.high = search rules in
     let ff : SFits w32 (var-row-from-plan c).var_row.result.first = search rules in
-    ranging-on (in-loop-from-plan c).before.loop.invariant
+    ranging_on (in-loop-from-plan c).before.loop.invariant
     (omega (arith, (in-loop-from-plan c).loop-test.true, (var-count-from-plan c).var_count.ensures)) _
     (var-row-from-plan c).var_row.ensures
     (rw (to_z-of_z fl, to_z-of_z fh, to_z-of_z ff) at c.before.put_three.ensures)
@@ -74,7 +74,7 @@ same_length : tie.Need-same-length invariant-loop decreases-loop
 same_length c = omega (arith, same_sized _ _ _ _ _ _ c.before.loop.invariant.owes)
 
 returns : tie.Need-returns invariant-loop decreases-loop
-returns c = ranging-end c.before.loop.invariant (omega (arith, c.loop-test.false, c.before.before.var_count.ensures))
+returns c = ranging_end c.before.loop.invariant (omega (arith, c.loop-test.false, c.before.before.var_count.ensures))
 
 pub put-vars-spec : {M : Type 1} → statement M
 put-vars-spec = tie.close (tie.spec invariant-loop decreases-loop

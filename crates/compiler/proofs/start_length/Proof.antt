@@ -1,13 +1,13 @@
 -- `start_length`: four numbers to an instruction. Assumes nothing.
 use Rattle.emitter.proofs.Laws.{emits_at}
-use Rattle.compiler.proofs.Bounds.{start-few}
+use Rattle.compiler.proofs.Bounds.{start_few}
 use native.Mathlib.Omega.{arith}
 use borrow.Author.Rules.{rules}
 use Rattle.compiler.proofs.start_length.Statement.{statement}
 use Rattle.compiler.proofs.start_length.Tie as tie
 
 put-start-requires : tie.Need-put-start-requires
-put-start-requires c κs = (c.before.requires, omega (arith, start-few c.before.args.chart.now c.before.requires.ruled))
+put-start-requires c κs = (c.before.requires, omega (arith, start_few c.before.args.chart.now c.before.requires.ruled))
 
 returns : tie.Need-returns
 returns c = omega (arith, emits_at _ _ _ c.before.put_start.ensures)

@@ -1,6 +1,6 @@
 -- `finish` gives the outcome of the steps. Assumes nothing.
 use mathlib.Core.Path.{refl}
-use Rattle.ends.proofs.Ending.{ends-no, ends_on}
+use Rattle.ends.proofs.Ending.{ends_no, ends_on}
 use borrow.Author.Rules.{rules}
 use Rattle.ends.proofs.finish.Statement.{statement}
 use Rattle.ends.proofs.finish.Tie as tie
@@ -9,7 +9,7 @@ abbrev else1-from-held : tie.After-held → tie.Else1
 else1-from-held c = c.before.before.before.before.before
 
 returns : tie.Need-returns
-returns c = ends-no _ _ _ _ _ c.before.before.before.if1.true c.before.refuse.ensures
+returns c = ends_no _ _ _ _ _ c.before.before.before.if1.true c.before.refuse.ensures
 
 returns-2 : tie.Need-returns-2
 returns-2 c =

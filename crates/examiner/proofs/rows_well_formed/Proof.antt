@@ -1,7 +1,7 @@
 -- `rows_well_formed` tests variables, heads, blocks, instructions. Assumes nothing.
 use mathlib.Core.Path.{◌∙◌}
 use Rattle.rules.proofs.Tests.{refuted, held}
-use Rattle.plan_rows.proofs.Verdict.{rows-vars, rows-heads, rows-blocks, rows_code}
+use Rattle.plan_rows.proofs.Verdict.{rows_vars, rows_heads, rows_blocks, rows_code}
 use borrow.Author.Rules.{rules}
 use Rattle.examiner.proofs.rows_well_formed.Statement.{statement}
 use Rattle.examiner.proofs.rows_well_formed.Tie as tie
@@ -9,13 +9,13 @@ use Rattle.examiner.proofs.rows_well_formed.Tie as tie
 returns : tie.Need-returns
 returns c =
     let a = c.before.before.args in
-    rows-vars a.plan.now a.k (refuted c.before.vars_keep.ensures c.if1.true)
+    rows_vars a.plan.now a.k (refuted c.before.vars_keep.ensures c.if1.true)
 
 returns-2 : tie.Need-returns-2
 returns-2 c =
     let v = c.before.before.before in
     let a = v.before.args in
-    rows-heads a.plan.now a.k (held v.vars_keep.ensures c.before.before.if1.false)
+    rows_heads a.plan.now a.k (held v.vars_keep.ensures c.before.before.if1.false)
     (refuted c.before.heads_fit.ensures c.if2.true)
 
 returns-3 : tie.Need-returns-3
@@ -23,7 +23,7 @@ returns-3 c =
     let h = c.before.before.before in
     let v = h.before.before in
     let a = v.before.args in
-    rows-blocks a.plan.now a.k (held v.vars_keep.ensures h.before.if1.false)
+    rows_blocks a.plan.now a.k (held v.vars_keep.ensures h.before.if1.false)
     (held h.heads_fit.ensures c.before.before.if2.false)
     (refuted c.before.blocks_fill.ensures c.if3.true)
 

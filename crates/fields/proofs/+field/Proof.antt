@@ -1,6 +1,6 @@
 -- `fields::field` meets its contract: each way out is a law of the files beside. Assumes nothing.
 use borrow.Author.Rules.{rules}
-use Rattle.fields.proofs.FieldLaws.{field-first, field-none, field_next}
+use Rattle.fields.proofs.FieldLaws.{field_first, field_none, field_next}
 use Prim.Native.Nat.{ℕ, ◌<◌}
 use borrow.Fn.Kinds.{In}
 use borrow.Fn.PlainCycle.{Measures, is, falls, and}
@@ -29,10 +29,10 @@ field-knows t = (
 )
 
 field-returns : (t : ℕ) → field-lts.Need-returns (field-knows t) (field_at t) field.Post
-field-returns t c = field-first _ _ _ _ c.before.stop.ensures _ c.if1.true
+field-returns t c = field_first _ _ _ _ c.before.stop.ensures _ c.if1.true
 
 field-returns-2 : (t : ℕ) → field-lts.Need-returns-2 (field-knows t) (field_at t) field.Post
-field-returns-2 t c = field-none _ _ _ _ c.before.before.stop.ensures _ c.before.if1.false c.if2.true
+field-returns-2 t c = field_none _ _ _ _ c.before.before.stop.ensures _ c.before.if1.false c.if2.true
 
 field-returns-3 : (t : ℕ) → field-lts.Need-returns-3 (field-knows t) (field_at t) field.Post
 field-returns-3 t c =

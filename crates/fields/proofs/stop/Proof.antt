@@ -1,7 +1,7 @@
 -- `fields::stop` meets its contract: the loop keeps what is named in its invariant. Assumes nothing.
 use borrow.Author.Rules.{rules}
 use Prim.Native.Nat.{◌-◌}
-use Rattle.fields.proofs.SplitLaws.{Sought, sought_start, sought_more, stop-found, stop-none}
+use Rattle.fields.proofs.SplitLaws.{Sought, sought_start, sought_more, stop_found, stop_none}
 use Rattle.fields.proofs.stop.Statement.{statement}
 use Rattle.fields.proofs.stop.Tie as tie
 
@@ -17,7 +17,7 @@ loop-holds c = sought_start _ _ _ _ c.requires.0
 returns : tie.Need-returns invariant-loop decreases-loop
 returns c =
     let l = c.before.before in
-    stop-found _ _ _ _ _ l.before.loop.invariant l.before.before.requires.1 l.loop-test.true c.if1.true
+    stop_found _ _ _ _ _ l.before.loop.invariant l.before.before.requires.1 l.loop-test.true c.if1.true
 
 loop-again : tie.Need-loop-preserved invariant-loop decreases-loop
 loop-again c =
@@ -25,7 +25,7 @@ loop-again c =
     sought_more _ _ _ _ _ l.before.loop.invariant l.before.before.requires.1 l.loop-test.true c.if1.false
 
 returns-2 : tie.Need-returns-2 invariant-loop decreases-loop
-returns-2 c = stop-none _ _ _ _ _ c.before.loop.invariant c.before.before.requires.1 c.loop-test.false
+returns-2 c = stop_none _ _ _ _ _ c.before.loop.invariant c.before.before.requires.1 c.loop-test.false
 
 pub stop-spec : {M : Type 1} → statement M
 stop-spec =

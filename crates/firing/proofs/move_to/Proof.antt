@@ -1,6 +1,6 @@
 -- `move_to` leaves the span, performs the transition's actions, and goes down to the goal. Assumes nothing.
 use mir.Facts.{to_z-of_z}
-use Rattle.firing.proofs.Taking.{moved-stop, moved-stop-acts, moved_on, left_led}
+use Rattle.firing.proofs.Taking.{moved_stop, moved_stop_acts, moved_on, left_led}
 use borrow.Author.Rules.{rules}
 use Rattle.firing.proofs.move_to.Statement.{statement}
 use Rattle.firing.proofs.move_to.Tie as tie
@@ -28,13 +28,13 @@ start-from-trace3 c = start-from-descend-arg5 c.before.before
 
 returns : tie.Need-returns
 returns c =
-    moved-stop _ _ _ (start-from-then1 c).args.goal _
+    moved_stop _ _ _ (start-from-then1 c).args.goal _
     (rw (to_z-of_z (start-from-then1 c).ranges.arg) at c.before.before.before.leave_below.ensures)
     c.if1.true
 
 returns-2 : tie.Need-returns-2
 returns-2 c =
-    moved-stop-acts _ _ _ (start-from-then2 c).args.goal _
+    moved_stop_acts _ _ _ (start-from-then2 c).args.goal _
     (rw (to_z-of_z (start-from-then2 c).ranges.arg) at
     (else1-from-then2 c).before.before.before.leave_below.ensures) (else1-from-then2 c).if1.false
     (rw (to_z-of_z (start-from-then2 c).ranges.arg) at c.before.before.before.perform_all.ensures)

@@ -7,8 +7,8 @@ use borrow.Fn.Kinds.{In}
 use borrow.Fn.PlainCycle.{Measures, is, falls, and}
 use Rattle.fields.specs.Said.{said}
 use Rattle.forms.specs.Table.{ENTRIES}
-use Rattle.lines.proofs.LineLaws.{past-taken, first_taken, second-taken, ends-early, field-wrong, more-not, more-put, goes_on}
-use Rattle.lines.proofs.LineLaws.{last-not, last-put}
+use Rattle.lines.proofs.LineLaws.{past_taken, first_taken, second_taken, ends_early, field_wrong, more_not, more_put, goes_on}
+use Rattle.lines.proofs.LineLaws.{last_not, last_put}
 use Rattle.lines.proofs.line_by.Reads as line_by
 use Rattle.lines.proofs.line_by.Kinds as line-by-kinds
 use Rattle.lines.proofs.+line_by.Lts-line_by as line-by-lts
@@ -146,7 +146,7 @@ step-from-chart4 t c = (read-field-from-chart4 t c).before.before.before.before
 
 returns : (t : ℕ) → line-by-lts.Need-returns (line-by-knows t) (line-by-at t) line_by.Post
 returns t c =
-    past-taken _ _ _ _ _ c.if1.true
+    past_taken _ _ _ _ _ c.if1.true
 
 returns-2 : (t : ℕ) → line-by-lts.Need-returns-2 (line-by-knows t) (line-by-at t) line_by.Post
 returns-2 t c =
@@ -156,7 +156,7 @@ returns-2 t c =
 
 returns-3 : (t : ℕ) → line-by-lts.Need-returns-3 (line-by-knows t) (line-by-at t) line_by.Post
 returns-3 t c =
-    second-taken _ _ _ _ _ (then2-from-chart2 t c).before.before.if1.false _ _
+    second_taken _ _ _ _ _ (then2-from-chart2 t c).before.before.if1.false _ _
     (then2-from-chart2 t c).if2.true
     (then2-from-chart2 t c).before.step.ensures _ (else3-from-chart2 t c).before.before.line_by.ensures
     _ _ _ (else3-from-chart2 t c).if3.false
@@ -165,7 +165,7 @@ returns-3 t c =
 
 returns-4 : (t : ℕ) → line-by-lts.Need-returns-4 (line-by-knows t) (line-by-at t) line_by.Post
 returns-4 t c =
-    ends-early _ _ (stop-from-then5 t c).before.before.before.if1.false _ _ (stop-from-then5 t c).before.before.step.ensures
+    ends_early _ _ (stop-from-then5 t c).before.before.before.if1.false _ _ (stop-from-then5 t c).before.before.step.ensures
     c.before.before.before.field.ensures _ _ _ _ _ (stop-from-then5 t c).stop.ensures _ _ c.before.before.read_field.ensures
     c.before.if4.true
     c.if5.true
@@ -173,7 +173,7 @@ returns-4 t c =
 returns-5 : (t : ℕ) → line-by-lts.Need-returns-5 (line-by-knows t) (line-by-at t) line_by.Post
 unfolding said
 returns-5 t c =
-    field-wrong _ _ (step-from-then6 t c).before.if1.false _ _ (step-from-then6 t c).step.ensures
+    field_wrong _ _ (step-from-then6 t c).before.if1.false _ _ (step-from-then6 t c).step.ensures
     (read-field-from-then6 t c).before.field.ensures _ _ _ _ _
     (read-field-from-then6 t c).before.before.stop.ensures _ _
     (read-field-from-then6 t c).read_field.ensures
@@ -184,7 +184,7 @@ returns-5 t c =
 returns-6 : (t : ℕ) → line-by-lts.Need-returns-6 (line-by-knows t) (line-by-at t) line_by.Post
 unfolding said
 returns-6 t c =
-    more-not _ _ (stop-from-then7 t c).before.before.before.if1.false _ _
+    more_not _ _ (stop-from-then7 t c).before.before.before.if1.false _ _
     (stop-from-then7 t c).before.before.step.ensures
     (else5-from-then7 t c).before.before.before.field.ensures _ _ _ _ _
     (stop-from-then7 t c).stop.ensures _ _ (else5-from-then7 t c).before.before.read_field.ensures
@@ -198,7 +198,7 @@ returns-6 t c =
 returns-7 : (t : ℕ) → line-by-lts.Need-returns-7 (line-by-knows t) (line-by-at t) line_by.Post
 unfolding said
 returns-7 t c =
-    more-put _ _ (step-from-chart4 t c).before.if1.false _ _ (step-from-chart4 t c).step.ensures
+    more_put _ _ (step-from-chart4 t c).before.if1.false _ _ (step-from-chart4 t c).step.ensures
     (read-field-from-chart4 t c).before.field.ensures _ _ _ _ _
     (read-field-from-chart4 t c).before.before.stop.ensures _ _
     (read-field-from-chart4 t c).read_field.ensures
@@ -221,7 +221,7 @@ returns-8 t c =
 returns-9 : (t : ℕ) → line-by-lts.Need-returns-9 (line-by-knows t) (line-by-at t) line_by.Post
 unfolding said
 returns-9 t c =
-    last-not _ _ (step-from-then9 t c).before.if1.false _ _ (step-from-then9 t c).step.ensures
+    last_not _ _ (step-from-then9 t c).before.if1.false _ _ (step-from-then9 t c).step.ensures
     (read-field-from-then9 t c).before.field.ensures _ _ _ _ _
     (read-field-from-then9 t c).before.before.stop.ensures _ _
     (read-field-from-then9 t c).read_field.ensures
@@ -233,7 +233,7 @@ returns-9 t c =
 returns-10 : (t : ℕ) → line-by-lts.Need-returns-10 (line-by-knows t) (line-by-at t) line_by.Post
 unfolding said
 returns-10 t c =
-    last-put _ _ (stop-from-chart5 t c).before.before.before.if1.false _ _
+    last_put _ _ (stop-from-chart5 t c).before.before.before.if1.false _ _
     (stop-from-chart5 t c).before.before.step.ensures
     (else8-from-chart5 t c).before.before.before.field.ensures _ _ _ _ _
     (stop-from-chart5 t c).stop.ensures _ _ (else8-from-chart5 t c).before.before.read_field.ensures

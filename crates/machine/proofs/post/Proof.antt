@@ -3,7 +3,7 @@ use mathlib.Core.Path.{◌≡◌, refl, sym, ap, ◌∙◌}
 use mir.Facts.{to_z-of_z}
 use borrow.Author.Rules.{rules}
 use Rattle.meaning.specs.Calls.{called}
-use Rattle.machine.proofs.Gates.{was-examined, post-5, post_is}
+use Rattle.machine.proofs.Gates.{was_examined, post_5, post_is}
 use Rattle.machine.proofs.post.Statement.{statement}
 use Rattle.machine.proofs.post.Tie as tie
 
@@ -14,12 +14,12 @@ returns : tie.Need-returns
 returns c =
     let a = c.before.before.before.before.args in
     c.refused.ensures ∙ ap called
-    (sym (post-5 a.plan.now c.before.before.before.examine.ensures a.state
+    (sym (post_5 a.plan.now c.before.before.before.examine.ensures a.state
     c.before.if1.true a.event a.arg))
 
 post-examined-requires : tie.Need-post-examined-requires
 post-examined-requires c κs =
-    was-examined c.before.before.before.before.args.plan.now
+    was_examined c.before.before.before.before.args.plan.now
     c.before.before.before.examine.ensures c.before.if1.false c.counts.ensures
 
 returns-2 : tie.Need-returns-2

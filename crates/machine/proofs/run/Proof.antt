@@ -1,7 +1,7 @@
 -- `run` examines the plan first. Assumes nothing.
 use borrow.Author.Rules.{rules}
 use Rattle.ends.proofs.Ending.{ends_as}
-use Rattle.machine.proofs.Gates.{was-examined, run-5, run_is}
+use Rattle.machine.proofs.Gates.{was_examined, run_5, run_is}
 use Rattle.machine.proofs.run.Statement.{statement}
 use Rattle.machine.proofs.run.Tie as tie
 
@@ -14,12 +14,12 @@ examine-from-trace c = c.before.before.before.before.before
 returns : tie.Need-returns
 returns c =
     let a = (examine-from-trace c).before.args in
-    ends_as a.trace.now (run-5 a.plan.now (examine-from-trace c).examine.ensures a.state
+    ends_as a.trace.now (run_5 a.plan.now (examine-from-trace c).examine.ensures a.state
     c.before.before.before.if1.true _) c.before.refuse.ensures
 
 run-examined-requires : tie.Need-run-examined-requires
 run-examined-requires c κs =
-    was-examined (examine-from-run-examined-arg c).before.args.plan.now
+    was_examined (examine-from-run-examined-arg c).before.args.plan.now
     (examine-from-run-examined-arg c).examine.ensures c.before.before.if1.false
     c.before.counts.ensures
 

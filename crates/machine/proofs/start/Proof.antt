@@ -1,7 +1,7 @@
 -- `start` examines the plan first. Assumes nothing.
 use borrow.Author.Rules.{rules}
 use Rattle.ends.proofs.Ending.{ends_as}
-use Rattle.machine.proofs.Gates.{was-examined, start-5, start_is}
+use Rattle.machine.proofs.Gates.{was_examined, start_5, start_is}
 use Rattle.machine.proofs.start.Statement.{statement}
 use Rattle.machine.proofs.start.Tie as tie
 
@@ -14,12 +14,12 @@ examine-from-trace c = c.before.before.before.before.before
 returns : tie.Need-returns
 returns c =
     let a = (examine-from-trace c).before.args in
-    ends_as a.trace.now (start-5 a.plan.now (examine-from-trace c).examine.ensures a.state
+    ends_as a.trace.now (start_5 a.plan.now (examine-from-trace c).examine.ensures a.state
     c.before.before.before.if1.true _) c.before.refuse.ensures
 
 start-examined-requires : tie.Need-start-examined-requires
 start-examined-requires c κs =
-    was-examined (examine-from-start-examined-arg c).before.args.plan.now
+    was_examined (examine-from-start-examined-arg c).before.args.plan.now
     (examine-from-start-examined-arg c).examine.ensures c.before.before.if1.false
     c.before.counts.ensures
 

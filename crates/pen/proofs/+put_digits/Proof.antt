@@ -1,5 +1,5 @@
 -- `put_digits` writes `digits`. The measure of the recursion is the number. Assumes nothing.
-use Rattle.pen.proofs.Laws.{digits-put-one, digits-put-more}
+use Rattle.pen.proofs.Laws.{digits_put_one, digits_put_more}
 use borrow.Author.Rules.{rules}
 use Prim.Native.Nat.{ℕ, ◌<◌}
 use borrow.Fn.Kinds.{In}
@@ -31,12 +31,12 @@ put-digits-knows t = (
 )
 
 put-digits-returns : (t : ℕ) → put-digits-lts.Need-returns (put-digits-knows t) (put-digits-at t) put_digits.Post
-put-digits-returns t c = digits-put-one _ _ _ c.before.before.before.before.if1.true c.before.before.put.ensures
+put-digits-returns t c = digits_put_one _ _ _ c.before.before.before.before.if1.true c.before.before.put.ensures
 
 put-digits-returns-2 : (t : ℕ) → put-digits-lts.Need-returns-2 (put-digits-knows t) (put-digits-at t) put_digits.Post
 put-digits-returns-2 t c =
     let p = c.before.before.before.before.before.before in
-    digits-put-more _ _ _ _ p.before.before.if1.false p.put_digits.ensures c.before.before.put2.ensures
+    digits_put_more _ _ _ _ p.before.before.if1.false p.put_digits.ensures c.before.before.put2.ensures
 
 pub +put-digits-spec : {M : Type 1} → statement M
 +put-digits-spec =

@@ -1,6 +1,6 @@
 -- `put_numeral` writes `numeral`: a minus where the number is below 0, and the digits of its size. Assumes nothing.
 use mir.Facts.{to_z-of_z}
-use Rattle.pen.proofs.Laws.{numeral-minus, numeral-plain}
+use Rattle.pen.proofs.Laws.{numeral_minus, numeral_plain}
 use borrow.Author.Rules.{rules}
 use Rattle.pen.proofs.put_numeral.Statement.{statement}
 use Rattle.pen.proofs.put_numeral.Tie as tie
@@ -19,7 +19,7 @@ start-from-slice-known3 c = (put-from-slice-known3 c).before.before.before.befor
 
 returns : tie.Need-returns
 returns c =
-    numeral-minus _ _ _ _ (rw (to_z-of_z (start-from-slice-known3 c).ranges.v) at
+    numeral_minus _ _ _ _ (rw (to_z-of_z (start-from-slice-known3 c).ranges.v) at
     (put-from-slice-known3 c).before.before.before.size.ensures) _
     (rw (to_z-of_z (start-from-slice-known3 c).ranges.v) at
     (put-from-slice-known3 c).before.before.if1.true) (put-from-slice-known3 c).put.ensures
@@ -27,7 +27,7 @@ returns c =
 
 returns-2 : tie.Need-returns-2
 returns-2 c =
-    numeral-plain _ _ _ _
+    numeral_plain _ _ _ _
     (rw (to_z-of_z (start-from-slice-known4 c).ranges.v) at (else1-from-slice-known4 c).before.size.ensures)
     (rw (to_z-of_z (start-from-slice-known4 c).ranges.v) at (else1-from-slice-known4 c).if1.false)
     c.before.before.put-digits2.ensures

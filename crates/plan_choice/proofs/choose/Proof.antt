@@ -13,12 +13,12 @@ use Rattle.choice.specs.Choice.{seen}
 use Rattle.choice.proofs.Loop.{up_to}
 use Rattle.plan_choice.specs.Heads.{head_at, head_of, Examined, Chose}
 use Rattle.plan_choice.specs.Links.{SOURCES, STARTS, Linked}
-use Rattle.plan_choice.proofs.Facts.{counts-sized, head-whole, head-names, head-spanned}
+use Rattle.plan_choice.proofs.Facts.{counts_sized, head_whole, head_names, head_spanned}
 use Rattle.plan_choice.proofs.Lining.{examined_own}
-use Rattle.plan_choice.proofs.Filling.{starts-within}
-use Rattle.plan_choice.proofs.Loop.{Turning, turn-begin, turn-few, turn-names, turn-source, turn-head, turn-off}
-use Rattle.plan_choice.proofs.Loop.{turn-clash, turn-take}
-use Rattle.plan_choice.proofs.Loop.{turn_end, chose-foreign}
+use Rattle.plan_choice.proofs.Filling.{starts_within}
+use Rattle.plan_choice.proofs.Loop.{Turning, turn_begin, turn_few, turn_names, turn_source, turn_head, turn_off}
+use Rattle.plan_choice.proofs.Loop.{turn_clash, turn_take}
+use Rattle.plan_choice.proofs.Loop.{turn_end, chose_foreign}
 use Rattle.plan_choice.proofs.choose.Statement.{statement}
 use Rattle.plan_choice.proofs.choose.Tie as tie
 
@@ -80,27 +80,27 @@ module _ (c : tie.In-heads invariant-loop decreases-loop invariant-heads decreas
   begun = begins c.before.before.before.before
 
   few : c.before.heads.i < TRANSITIONS
-  few = turn-few (own here) begun (linked here) small c.before.heads.invariant c.heads-test.true
+  few = turn_few (own here) begun (linked here) small c.before.heads.invariant c.heads-test.true
 
   names : get_or here.args.links.now c.before.heads.i 0 < (counts_of here.args.plan.now).heads
-  names = turn-names (own here) begun (linked here) small c.before.heads.invariant c.heads-test.true
+  names = turn_names (own here) begun (linked here) small c.before.heads.invariant c.heads-test.true
 
   sourced : get_or here.args.links.now (SOURCES + c.before.heads.i) 0
       ≡ (head_of here.args.plan.now (heads_at (counts_of here.args.plan.now))
       (get_or here.args.links.now c.before.heads.i 0)).source
-  sourced = turn-source (own here) begun (linked here) small c.before.heads.invariant c.heads-test.true
+  sourced = turn_source (own here) begun (linked here) small c.before.heads.invariant c.heads-test.true
 
   whole : c.before.before.before.before.heads_at.result + get_or here.args.links.now c.before.heads.i 0 * HEAD_ROW + HEAD_ROW
       ≤ length here.args.plan.now
-  whole = let q = head-whole (own here) _ names in omega (arith, q, begun)
+  whole = let q = head_whole (own here) _ names in omega (arith, q, begun)
 
   named : (get_or here.args.links.now (SOURCES + c.before.heads.i) 0 < STATES)
-  named = omega (arith, sourced, (head-names (own here) _ names).0)
+  named = omega (arith, sourced, (head_names (own here) _ names).0)
 
   room : c.before.heads.count < TRANSITIONS
   room =
-      let w = turn-head (own here) begun (linked here) small c.before.heads.invariant c.heads-test.true in
-      omega (arith, w.done.few, names, (counts-sized (own here)).heads)
+      let w = turn_head (own here) begun (linked here) small c.before.heads.invariant c.heads-test.true in
+      omega (arith, w.done.few, names, (counts_sized (own here)).heads)
 
   held : length c.before.heads.picks ≡ TRANSITIONS
   held = c.before.heads.invariant.walk.done.size
@@ -111,10 +111,10 @@ module _ (c : tie.In-heads invariant-loop decreases-loop invariant-heads decreas
 -- ---- the answers
 
 returns : tie.Need-returns invariant-loop decreases-loop invariant-heads decreases-heads
-returns c = chose-foreign c.before.requires.0 c.before.requires.1 c.if1.true
+returns c = chose_foreign c.before.requires.0 c.before.requires.1 c.if1.true
 
 heads-at-requires : tie.Need-heads-at-requires invariant-loop decreases-loop invariant-heads decreases-heads
-heads-at-requires c κs = counts-sized c.before.requires.0
+heads-at-requires c κs = counts_sized c.before.requires.0
 
 add-i : tie.Need-overflow-add-i invariant-loop decreases-loop invariant-heads decreases-heads
 add-i c = omega (arith, c.before.if1.false)
@@ -129,7 +129,7 @@ cast-i : tie.Need-overflow-cast-i invariant-loop decreases-loop invariant-heads 
 cast-i c =
     let d = c.before.before.before in
     let l = c.before.before.if1.false in
-    omega (arith, starts-within d.requires.0 d.requires.2 d.args.event (omega (arith, l)), (counts-sized d.requires.0).heads)
+    omega (arith, starts_within d.requires.0 d.requires.2 d.args.event (omega (arith, l)), (counts_sized d.requires.0).heads)
 
 add-end : tie.Need-overflow-add-end invariant-loop decreases-loop invariant-heads decreases-heads
 add-end c = omega (arith, c.before.before.if1.false)
@@ -150,13 +150,13 @@ cast-end c =
     let z : STARTS + d.args.event + 1 ≡ STARTS + suc d.args.event = omega arith in
     let q : get_or d.args.links.now (STARTS + d.args.event + 1) 0 ≤ d.args.k.heads =
     subst (λ y. get_or d.args.links.now y 0 ≤ d.args.k.heads) (sym z)
-    (starts-within d.requires.0 d.requires.2 (suc d.args.event) (omega (arith, l))) in
-    omega (arith, q, (counts-sized d.requires.0).heads)
+    (starts_within d.requires.0 d.requires.2 (suc d.args.event) (omega (arith, l))) in
+    omega (arith, q, (counts_sized d.requires.0).heads)
 
 heads-holds : tie.Need-heads-init invariant-loop decreases-loop invariant-heads decreases-heads
 heads-holds c =
     let d = c.before.before.before.before in
-    turn-begin (own d) (begins c.before.before) (linked d) c.before.before.before.if1.false d.requires.1
+    turn_begin (own d) (begins c.before.before) (linked d) c.before.before.before.if1.false d.requires.1
 
 mul-h : tie.Need-overflow-mul-h invariant-loop decreases-loop invariant-heads decreases-heads
 mul-h c = omega (arith, few c)
@@ -165,7 +165,7 @@ element-copy-out-h : tie.Need-element-copy-out-h invariant-loop decreases-loop i
 element-copy-out-h c = omega (arith, few c, (start-from-in-heads c).requires.2.size)
 
 cast-h : tie.Need-overflow-cast-h invariant-loop decreases-loop invariant-heads decreases-heads
-cast-h c = omega (arith, names c.before, (counts-sized (own (start-from-in-heads c.before))).heads)
+cast-h c = omega (arith, names c.before, (counts_sized (own (start-from-in-heads c.before))).heads)
 
 add-source : tie.Need-overflow-add-source invariant-loop decreases-loop invariant-heads decreases-heads
 add-source c = omega (arith, few c.before)
@@ -182,7 +182,7 @@ cast-source c = omega (arith, named (in-heads-from-source c))
 mul_at : tie.Need-overflow-mul-at invariant-loop decreases-loop invariant-heads decreases-heads
 mul_at c =
     let d = in-heads-from-source c in
-    omega (arith, names d, (counts-sized (own (start-from-in-heads d))).heads)
+    omega (arith, names d, (counts_sized (own (start-from-in-heads d))).heads)
 
 add_at : tie.Need-overflow-add-at invariant-loop decreases-loop invariant-heads decreases-heads
 add_at c = omega (arith, whole (in-heads-from-source c))
@@ -193,8 +193,8 @@ add-i-2 c = omega (arith, few (in-heads-from-source c))
 enabled-requires : tie.Need-enabled-requires invariant-loop decreases-loop invariant-heads decreases-heads
 enabled-requires c κs =
     let d = in-heads-from-source c in
-    let n = head-names (own (start-from-in-heads d)) _ (names d) in
-    rw (begun d) (head-whole (own (start-from-in-heads d)) _ (names d), named d, n.1, sourced d)
+    let n = head_names (own (start-from-in-heads d)) _ (names d) in
+    rw (begun d) (head_whole (own (start-from-in-heads d)) _ (names d), named d, n.1, sourced d)
 
 heads-less : tie.Need-heads-smaller invariant-loop decreases-loop invariant-heads decreases-heads
 heads-less c = omega (arith, (in-heads-from-then2 c).heads-test.true)
@@ -202,7 +202,7 @@ heads-less c = omega (arith, (in-heads-from-then2 c).heads-test.true)
 heads-again : tie.Need-heads-preserved invariant-loop decreases-loop invariant-heads decreases-heads
 heads-again c =
     let d = in-heads-from-then2 c in
-    turn-off (own (here d)) (begun d) (linked (here d)) (small d) d.before.heads.inv d.heads-test.taken
+    turn_off (own (here d)) (begun d) (linked (here d)) (small d) d.before.heads.inv d.heads-test.taken
     c.before.enabled.ensures (not-true _ c.if2.true)
 
 loop-holds : tie.Need-loop-init invariant-loop decreases-loop invariant-heads decreases-heads
@@ -219,12 +219,12 @@ element-copy-out-pick c =
 mul-meet : tie.Need-overflow-mul-meet invariant-loop decreases-loop invariant-heads decreases-heads
 mul-meet c =
     let d = in-heads-from-in-loop c.before in
-    omega (arith, picked_of d _ c.before.loop-test.true, (counts-sized (own (here d))).heads)
+    omega (arith, picked_of d _ c.before.loop-test.true, (counts_sized (own (here d))).heads)
 
 add-meet : tie.Need-overflow-add-meet invariant-loop decreases-loop invariant-heads decreases-heads
 add-meet c =
     let d = in-heads-from-in-loop c.before in
-    let q = head-whole (own (here d)) _ (picked_of d _ c.before.loop-test.true) in
+    let q = head_whole (own (here d)) _ (picked_of d _ c.before.loop-test.true) in
     omega (arith, q, begun d)
 
 meet-requires : tie.Need-meet-requires invariant-loop decreases-loop invariant-heads decreases-heads
@@ -232,7 +232,7 @@ meet-requires c κs =
     let d = in-heads-from-in-loop c.before in
     let x = own (here d) in
     let l = picked_of d _ c.before.loop-test.true in
-    rw (begun d) (head-whole x _ (names d), head-whole x _ l, head-spanned x _ (names d), head-spanned x _ l)
+    rw (begun d) (head_whole x _ (names d), head_whole x _ l, head_spanned x _ (names d), head_spanned x _ l)
 
 heads-less-2 : tie.Need-heads-smaller-2 invariant-loop decreases-loop invariant-heads decreases-heads
 heads-less-2 c = omega (arith, (in-heads-from-then3 c).heads-test.true)
@@ -240,7 +240,7 @@ heads-less-2 c = omega (arith, (in-heads-from-then3 c).heads-test.true)
 heads-again-2 : tie.Need-heads-preserved-2 invariant-loop decreases-loop invariant-heads decreases-heads
 heads-again-2 c =
     let d = in-heads-from-then3 c in
-    turn-clash (own (here d)) (begun d) (linked (here d)) (small d) d.before.heads.inv d.heads-test.taken
+    turn_clash (own (here d)) (begun d) (linked (here d)) (small d) d.before.heads.inv d.heads-test.taken
     c.before.before.before.before.before.before.enabled.ensures
     (not-false _ c.before.before.before.before.before.if2.false) _
     c.before.before.before.loop-test.true (sym c.before.meet.ensures ∙ c.if3.true)
@@ -270,7 +270,7 @@ heads-less-3 c = omega (arith, (in-heads-from-loop c).heads-test.true)
 heads-again-3 : tie.Need-heads-preserved-3 invariant-loop decreases-loop invariant-heads decreases-heads
 heads-again-3 c =
     let d = in-heads-from-loop c in
-    turn-take (own (here d)) (begun d) (linked (here d)) (small d) d.before.heads.inv d.heads-test.taken
+    turn_take (own (here d)) (begun d) (linked (here d)) (small d) d.before.heads.inv d.heads-test.taken
     c.before.before.before.enabled.ensures (not-false _ c.before.before.if2.false)
     (λ j q. c.before.loop.invariant.1 j (omega arith))
 

@@ -3,7 +3,7 @@ use mathlib.Core.Path.{◌≡◌, refl, sym, ◌∙◌, subst}
 use borrow.Author.Tests.{not-true, not-false}
 use borrow.Author.Rules.{rules}
 use Rattle.choice.specs.Choice.{Reads}
-use Rattle.plan_choice.proofs.Tests.{source_is, guard-is, off_source, on_guard}
+use Rattle.plan_choice.proofs.Tests.{source_is, guard_is, off_source, on_guard}
 use Rattle.plan_choice.proofs.enabled.Statement.{statement}
 use Rattle.plan_choice.proofs.enabled.Tie as tie
 
@@ -20,7 +20,7 @@ returns-2 c =
     let s = c.before.before.before.before in
     on_guard s.args.plan.now s.args.at _ _ (s.requires.3 ∙ sym (source_is s.args.plan.now s.args.at))
     (not-false _ c.before.before.if1.false)
-    (c.before.guard_at.ensures ∙ sym (guard-is s.args.plan.now s.args.at)) refl c.guard_true.ensures
+    (c.before.guard_at.ensures ∙ sym (guard_is s.args.plan.now s.args.at)) refl c.guard_true.ensures
 
 pub enabled-spec : {M : Type 1} → statement M
 enabled-spec =

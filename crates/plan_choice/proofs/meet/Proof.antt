@@ -1,7 +1,7 @@
 -- `meet` compares the spans of two heads where they stand. Assumes nothing.
 use native.Mathlib.Omega.{arith}
 use borrow.Author.Rules.{rules}
-use Rattle.plan_choice.proofs.Tests.{first_is, last-is, apart, meeting}
+use Rattle.plan_choice.proofs.Tests.{first_is, last_is, apart, meeting}
 use Rattle.plan_choice.proofs.meet.Statement.{statement}
 use Rattle.plan_choice.proofs.meet.Tie as tie
 
@@ -9,7 +9,7 @@ abbrev known-from-known4 : tie.After-known4 → tie.After-known
 known-from-known4 c = c.before.before.before.before
 
 known-requires : tie.Need-known-requires
-known-requires c κs = (omega (arith, c.requires.1), omega (arith, c.requires.3.1, last-is c.args.plan.now c.args.other))
+known-requires c κs = (omega (arith, c.requires.1), omega (arith, c.requires.3.1, last_is c.args.plan.now c.args.other))
 
 known-requires-2 : tie.Need-known-requires-2
 known-requires-2 c κs =
@@ -24,7 +24,7 @@ known-requires-3 c κs =
 known-requires-4 : tie.Need-known-requires-4
 known-requires-4 c κs =
     let s = c.before.before.before.before in
-    (omega (arith, s.requires.0), omega (arith, s.requires.2.1, last-is s.args.plan.now s.args.at))
+    (omega (arith, s.requires.0), omega (arith, s.requires.2.1, last_is s.args.plan.now s.args.at))
 
 returns : tie.Need-returns
 returns c =

@@ -18,11 +18,11 @@ use Rattle.widget.specs.Acts.{Below}
 use Rattle.widget.specs.View.{all_lent}
 use Rattle.plan_code.specs.Code.{Row, Names, Varied}
 use Rattle.plan_code.proofs.Executing.{enters, leaves, left_slots, sets, adds, takes, sends, tells}
-use Rattle.plan_code.proofs.Executing.{skips-out, skips-empty, skips-full, skips-not}
-use Rattle.plan_code.proofs.Reading.{is-in, is-out, is-skip-out, is-skip-empty, is-skip-full, is-skip-not}
-use Rattle.plan_code.proofs.Reading.{is_set, is-add, is-take, is-send, is-tell}
-use Rattle.plan_code.proofs.Reading.{in-names, out-names, skip-out-names, skip-empty-names, skip-full-names, skip-not-names}
-use Rattle.plan_code.proofs.Reading.{set-names, add-names, take-names, send-names}
+use Rattle.plan_code.proofs.Executing.{skips_out, skips_empty, skips_full, skips_not}
+use Rattle.plan_code.proofs.Reading.{is_in, is_out, is_skip_out, is_skip_empty, is_skip_full, is_skip_not}
+use Rattle.plan_code.proofs.Reading.{is_set, is_add, is_take, is_send, is_tell}
+use Rattle.plan_code.proofs.Reading.{in_names, out_names, skip_out_names, skip_empty_names, skip_full_names, skip_not_names}
+use Rattle.plan_code.proofs.Reading.{set_names, add_names, take_names, send_names}
 use Rattle.plan_code.proofs.exec.Statement.{statement}
 use Rattle.plan_code.proofs.exec.Tie as tie
 
@@ -45,19 +45,19 @@ names n j l h = (omega (arith, (its-row n).whole, l), h)
 known-requires : tie.Need-known-requires
 known-requires c κs =
     let n = c.before in
-    names n 1 (omega arith) (omega (arith, in-names (its-row n) (says n c.match.keys1)))
+    names n 1 (omega arith) (omega (arith, in_names (its-row n) (says n c.match.keys1)))
 
 mark-entered-requires : tie.Need-mark-entered-requires
 mark-entered-requires c κs =
     let m = c.before.before.before in
     let n = m.before in
-    (rw c.before.before.known.ensures (in-names (its-row n) (says n m.match.keys1)), n.before.requires.2)
+    (rw c.before.before.known.ensures (in_names (its-row n) (says n m.match.keys1)), n.before.requires.2)
 
 known-requires-2 : tie.Need-known-requires-2
 known-requires-2 c κs =
     let m = c.before.before in
     let n = m.before in
-    names n 1 (omega arith) (omega (arith, (out-names (its-row n) (says n m.match.keys2)).0))
+    names n 1 (omega arith) (omega (arith, (out_names (its-row n) (says n m.match.keys2)).0))
 
 mark-left-requires : tie.Need-mark-left-requires
 mark-left-requires c κs =
@@ -65,7 +65,7 @@ mark-left-requires c κs =
     let m = i.before.before.before in
     let n = m.before in
     let r = i.before.before.read in
-    let o = out-names (its-row n) (says n m.match.keys2) in (
+    let o = out_names (its-row n) (says n m.match.keys2) in (
       subst (Below STATES) (sym (said_of place_of r.type-inv r.ensures i.before.place_of.ensures)) o.1,
       rw i.known2.ensures o.0,
       n.before.requires.2,
@@ -77,7 +77,7 @@ returns c =
     let m = i.before in
     let n = m.before in
     let a = n.before.args in
-    enters c.onward.ensures (is-in (its-row n) i.known.ensures (says n m.match.keys1))
+    enters c.onward.ensures (is_in (its-row n) i.known.ensures (says n m.match.keys1))
     (c.before.before.mark_entered.ensures.1
     (all_lent a.active.now a.slots.now a.vars.now a.queue.now a.trace.now)) refl
 
@@ -89,7 +89,7 @@ returns-2 c =
     let a = n.before.args in
     let r = i.before.before.read in
     leaves c.onward2.ensures
-    (is-out (its-row n) i.known2.ensures (says n m.match.keys2)
+    (is_out (its-row n) i.known2.ensures (says n m.match.keys2)
     (said_of place_of r.type-inv r.ensures i.before.place_of.ensures))
     (c.before.before.mark_left.ensures.1
     (all_lent a.active.now a.slots.now a.vars.now a.queue.now a.trace.now))
@@ -101,79 +101,79 @@ known-requires-3 : tie.Need-known-requires-3
 known-requires-3 c κs =
     let m = c.before in
     let n = m.before in
-    names n 1 (omega arith) (omega (arith, (skip-out-names (its-row n) (says n m.match.keys3)).0))
+    names n 1 (omega arith) (omega (arith, (skip_out_names (its-row n) (says n m.match.keys3)).0))
 
 is-active-requires : tie.Need-is-active-requires
 is-active-requires c κs =
     let m = c.before.before in
     let n = m.before in
-    rw c.known3.ensures (skip-out-names (its-row n) (says n m.match.keys3)).0
+    rw c.known3.ensures (skip_out_names (its-row n) (says n m.match.keys3)).0
 
 unless-requires : tie.Need-unless-requires
 unless-requires c κs =
     let m = c.before.before.before in
     let n = m.before in
-    names n 2 (omega arith) (omega (arith, (skip-out-names (its-row n) (says n m.match.keys3)).1))
+    names n 2 (omega arith) (omega (arith, (skip_out_names (its-row n) (says n m.match.keys3)).1))
 
 known-requires-4 : tie.Need-known-requires-4
 known-requires-4 c κs =
     let m = c.before in
     let n = m.before in
-    names n 1 (omega arith) (omega (arith, (skip-empty-names (its-row n) (says n m.match.keys4)).0))
+    names n 1 (omega arith) (omega (arith, (skip_empty_names (its-row n) (says n m.match.keys4)).0))
 
 slot-requires : tie.Need-slot-requires
 slot-requires c κs =
     let m = c.before.before in
     let n = m.before in
-    rw c.known4.ensures (skip-empty-names (its-row n) (says n m.match.keys4)).0
+    rw c.known4.ensures (skip_empty_names (its-row n) (says n m.match.keys4)).0
 
 unless-requires-2 : tie.Need-unless-requires-2
 unless-requires-2 c κs =
     let m = c.before.before.before.before in
     let n = m.before in
-    names n 2 (omega arith) (omega (arith, (skip-empty-names (its-row n) (says n m.match.keys4)).1))
+    names n 2 (omega arith) (omega (arith, (skip_empty_names (its-row n) (says n m.match.keys4)).1))
 
 known-requires-5 : tie.Need-known-requires-5
 known-requires-5 c κs =
     let m = c.before in
     let n = m.before in
-    names n 1 (omega arith) (omega (arith, (skip-full-names (its-row n) (says n m.match.keys5)).0))
+    names n 1 (omega arith) (omega (arith, (skip_full_names (its-row n) (says n m.match.keys5)).0))
 
 slot-requires-2 : tie.Need-slot-requires-2
 slot-requires-2 c κs =
     let m = c.before.before in
     let n = m.before in
-    rw c.known5.ensures (skip-full-names (its-row n) (says n m.match.keys5)).0
+    rw c.known5.ensures (skip_full_names (its-row n) (says n m.match.keys5)).0
 
 unless-requires-3 : tie.Need-unless-requires-3
 unless-requires-3 c κs =
     let m = c.before.before.before.before in
     let n = m.before in
-    names n 2 (omega arith) (omega (arith, (skip-full-names (its-row n) (says n m.match.keys5)).1))
+    names n 2 (omega arith) (omega (arith, (skip_full_names (its-row n) (says n m.match.keys5)).1))
 
 known-requires-6 : tie.Need-known-requires-6
 known-requires-6 c κs =
     let m = c.before in
     let n = m.before in
-    names n 1 (omega arith) (omega (arith, (skip-not-names (its-row n) (says n m.match.keys6)).0))
+    names n 1 (omega arith) (omega (arith, (skip_not_names (its-row n) (says n m.match.keys6)).0))
 
 slot-requires-3 : tie.Need-slot-requires-3
 slot-requires-3 c κs =
     let m = c.before.before in
     let n = m.before in
-    rw c.known6.ensures (skip-not-names (its-row n) (says n m.match.keys6)).0
+    rw c.known6.ensures (skip_not_names (its-row n) (says n m.match.keys6)).0
 
 known-requires-7 : tie.Need-known-requires-7
 known-requires-7 c κs =
     let m = c.before.before.before in
     let n = m.before in
-    names n 2 (omega arith) (omega (arith, (skip-not-names (its-row n) (says n m.match.keys6)).1))
+    names n 2 (omega arith) (omega (arith, (skip_not_names (its-row n) (says n m.match.keys6)).1))
 
 unless-requires-4 : tie.Need-unless-requires-4
 unless-requires-4 c κs =
     let m = c.before.before.before.before.before in
     let n = m.before in
-    names n 3 (omega arith) (omega (arith, (skip-not-names (its-row n) (says n m.match.keys6)).2))
+    names n 3 (omega arith) (omega (arith, (skip_not_names (its-row n) (says n m.match.keys6)).2))
 
 returns-3 : tie.Need-returns-3
 returns-3 c =
@@ -181,8 +181,8 @@ returns-3 c =
     let m = i.before.before in
     let n = m.before in
     let e = says n m.match.keys3 in
-    skips-out c.unless.ensures n.before.requires.2 (skip-out-names (its-row n) e).1
-    (is-skip-out (its-row n) i.known3.ensures e) c.before.is_active.ensures
+    skips_out c.unless.ensures n.before.requires.2 (skip_out_names (its-row n) e).1
+    (is_skip_out (its-row n) i.known3.ensures e) c.before.is_active.ensures
 
 returns-4 : tie.Need-returns-4
 returns-4 c =
@@ -191,8 +191,8 @@ returns-4 c =
     let n = m.before in
     let e = says n m.match.keys4 in
     let s = c.before.before.slot in
-    let k = skip-empty-names (its-row n) e in
-    skips-empty c.unless2.ensures n.before.requires.2 k.1 (is-skip-empty (its-row n) i.known4.ensures e)
+    let k = skip_empty_names (its-row n) e in
+    skips_empty c.unless2.ensures n.before.requires.2 k.1 (is_skip_empty (its-row n) i.known4.ensures e)
     (rw i.known4.ensures k.0) n.before.requires.1
     (said_of (λ z. is_filled (place_of z)) s.type-inv s.ensures c.before.filled.ensures)
 
@@ -203,8 +203,8 @@ returns-5 c =
     let n = m.before in
     let e = says n m.match.keys5 in
     let s = c.before.before.slot2 in
-    let k = skip-full-names (its-row n) e in
-    skips-full c.unless3.ensures n.before.requires.2 k.1 (is-skip-full (its-row n) i.known5.ensures e)
+    let k = skip_full_names (its-row n) e in
+    skips_full c.unless3.ensures n.before.requires.2 k.1 (is_skip_full (its-row n) i.known5.ensures e)
     (rw i.known5.ensures k.0) n.before.requires.1 refl
     (said_of (λ z. is_filled (place_of z)) s.type-inv s.ensures c.before.filled2.ensures)
 
@@ -216,9 +216,9 @@ returns-6 c =
     let n = m.before in
     let e = says n m.match.keys6 in
     let s = d.before.slot3 in
-    let k = skip-not-names (its-row n) e in
-    skips-not c.unless4.ensures n.before.requires.2 k.2
-    (is-skip-not (its-row n) i.known6.ensures e d.known7.ensures) (rw i.known6.ensures k.0) n.before.requires.1
+    let k = skip_not_names (its-row n) e in
+    skips_not c.unless4.ensures n.before.requires.2 k.2
+    (is_skip_not (its-row n) i.known6.ensures e d.known7.ensures) (rw i.known6.ensures k.0) n.before.requires.1
     (said_of (λ z. holds_it d.known7.result (place_of z)) s.type-inv s.ensures c.before.holds.ensures)
 
 -- ---- SET, ADD, TAKE, SEND, TELL
@@ -230,40 +230,40 @@ varied : (n : tie.After-named)
 varied n v = names n 1 (omega arith) (omega (arith, (sized n.before.args.plan.now).vars, v.1))
 
 known-requires-8 : tie.Need-known-requires-8
-known-requires-8 c κs = let n = c.before in varied n (set-names (its-row n) (says n c.match.keys7))
+known-requires-8 c κs = let n = c.before in varied n (set_names (its-row n) (says n c.match.keys7))
 
 set-requires : tie.Need-set-requires
 set-requires c κs =
     let i = c.before.before.before in
     let n = i.before.before in
-    (rw i.known8.ensures (set-names (its-row n) (says n i.before.match.keys7)), n.before.requires.2)
+    (rw i.known8.ensures (set_names (its-row n) (says n i.before.match.keys7)), n.before.requires.2)
 
 known-requires-9 : tie.Need-known-requires-9
-known-requires-9 c κs = let n = c.before in varied n (add-names (its-row n) (says n c.match.keys8))
+known-requires-9 c κs = let n = c.before in varied n (add_names (its-row n) (says n c.match.keys8))
 
 add-to-requires : tie.Need-add-to-requires
 add-to-requires c κs =
     let i = c.before.before.before in
     let n = i.before.before in
-    (rw i.known9.ensures (add-names (its-row n) (says n i.before.match.keys8)), n.before.requires.2)
+    (rw i.known9.ensures (add_names (its-row n) (says n i.before.match.keys8)), n.before.requires.2)
 
 known-requires-10 : tie.Need-known-requires-10
-known-requires-10 c κs = let n = c.before in varied n (take-names (its-row n) (says n c.match.keys9))
+known-requires-10 c κs = let n = c.before in varied n (take_names (its-row n) (says n c.match.keys9))
 
 set-requires-2 : tie.Need-set-requires-2
 set-requires-2 c κs =
     let i = c.before.before in
     let n = i.before.before in
-    (rw i.known10.ensures (take-names (its-row n) (says n i.before.match.keys9)), n.before.requires.2)
+    (rw i.known10.ensures (take_names (its-row n) (says n i.before.match.keys9)), n.before.requires.2)
 
 known-requires-11 : tie.Need-known-requires-11
-known-requires-11 c κs = let n = c.before in names n 1 (omega arith) (send-names (its-row n) (says n c.match.keys10))
+known-requires-11 c κs = let n = c.before in names n 1 (omega arith) (send_names (its-row n) (says n c.match.keys10))
 
 send-requires : tie.Need-send-requires
 send-requires c κs =
     let i = c.before.before.before in
     let n = i.before.before in
-    (rw i.known11.ensures (send-names (its-row n) (says n i.before.match.keys10)), n.before.requires.2)
+    (rw i.known11.ensures (send_names (its-row n) (says n i.before.match.keys10)), n.before.requires.2)
 
 returns-7 : tie.Need-returns-7
 returns-7 c =
@@ -284,7 +284,7 @@ returns-8 c =
     let n = i.before.before in
     let a = n.before.args in
     adds c.onward4.ensures i.known9.result r.read3.result
-    (is-add (its-row n) i.known9.ensures (says n i.before.match.keys8) r.read3.ensures)
+    (is_add (its-row n) i.known9.ensures (says n i.before.match.keys8) r.read3.ensures)
     (rw (back32 r.read3.result r.read3.type-inv) at
     (c.before.before.add_to.ensures.1
     (all_lent a.active.now a.slots.now a.vars.now a.queue.now a.trace.now))) refl
@@ -294,7 +294,7 @@ returns-9 c =
     let i = c.before.before.before.before.before in
     let n = i.before.before in
     let a = n.before.args in
-    takes c.onward5.ensures i.known10.result (is-take (its-row n) i.known10.ensures (says n i.before.match.keys9))
+    takes c.onward5.ensures i.known10.result (is_take (its-row n) i.known10.ensures (says n i.before.match.keys9))
     (rw (to_z-of_z n.before.ranges.arg) at
     (c.before.before.set2.ensures.1
     (all_lent a.active.now a.slots.now a.vars.now a.queue.now a.trace.now))) refl
@@ -306,7 +306,7 @@ returns-10 c =
     let n = i.before.before in
     let a = n.before.args in
     sends c.onward6.ensures i.known11.result r.read4.result
-    (is-send (its-row n) i.known11.ensures (says n i.before.match.keys10) r.read4.ensures)
+    (is_send (its-row n) i.known11.ensures (says n i.before.match.keys10) r.read4.ensures)
     (rw (back32 r.read4.result r.read4.type-inv) at
     (c.before.before.send.ensures.1
     (all_lent a.active.now a.slots.now a.vars.now a.queue.now a.trace.now))) refl
@@ -319,7 +319,7 @@ returns-11 c =
     let a = n.before.args in
     let o = rw n.named.ensures at m.match.rest in
     tells c.onward7.ensures r.read5.result
-    (is-tell (its-row n) o.0.0.0.0.0.0.0.0.0.1 o.0.0.0.0.0.0.0.0.1 o.0.0.0.0.0.0.0.1
+    (is_tell (its-row n) o.0.0.0.0.0.0.0.0.0.1 o.0.0.0.0.0.0.0.0.1 o.0.0.0.0.0.0.0.1
     o.0.0.0.0.0.0.1 o.0.0.0.0.0.1 o.0.0.0.0.1 o.0.0.0.1 o.0.0.1 o.0.1 o.1 r.read5.ensures)
     (rw (back32 r.read5.result r.read5.type-inv) at
     (c.before.before.tell.ensures.1

@@ -9,11 +9,11 @@ use mir.Val.{Fits}
 use Rattle.sizes.specs.Sizes.{INSTRUCTIONS, STATES}
 use Rattle.numbers.specs.Reference.{ref}
 use Rattle.numbers.proofs.Laws.{same_bits}
-use Rattle.meaning.specs.declared.plan.Instr.TheVariants.{SkipOut as skip-out}
+use Rattle.meaning.specs.declared.plan.Instr.TheVariants.{SkipOut as skip_out}
 use Rattle.meaning.specs.WellFormed.{INSTR_ROW}
 use Rattle.plan_code.specs.Code.{Passed, Row, instr_from}
-use Rattle.plan_code.proofs.Reading.{is-skip-out, skip-out-names}
-use Rattle.plan_code.proofs.Skipping.{rest-near, here-row, passed-begin, passed-active, passed-idle}
+use Rattle.plan_code.proofs.Reading.{is_skip_out, skip_out_names}
+use Rattle.plan_code.proofs.Skipping.{rest_near, here_row, passed_begin, passed_active, passed_idle}
 use Rattle.plan_code.proofs.pass_skips.Statement.{statement}
 use Rattle.plan_code.proofs.pass_skips.Tie as tie
 
@@ -26,16 +26,16 @@ decreases-loop plan from end active row₀ row = end - row
 abbrev In-loop : Type 0
 In-loop = tie.In-loop invariant-loop decreases-loop
 
-abbrev at-start : In-loop → tie.Start invariant-loop decreases-loop
-at-start c = c.before.before
+abbrev at_start : In-loop → tie.Start invariant-loop decreases-loop
+at_start c = c.before.before
 
 -- the row is there
-its-row : (c : In-loop) → Row (at-start c).args.plan.now c.before.loop.row
-its-row c = here-row (at-start c).requires c.before.loop.invariant c.loop-test.true
+its-row : (c : In-loop) → Row (at_start c).args.plan.now c.before.loop.row
+its-row c = here_row (at_start c).requires c.before.loop.invariant c.loop-test.true
 
 -- a row that is passed over ends at a place of 64 bits
 further : (c : In-loop) (n : ℕ) → n ≤ INSTRUCTIONS → Fits w64 (c.before.loop.row + (1 + n) * INSTR_ROW)
-further c n l = omega (arith, rest-near (at-start c).requires, c.loop-test.true, l)
+further c n l = omega (arith, rest_near (at_start c).requires, c.loop-test.true, l)
 
 read-requires : tie.Need-read-requires invariant-loop decreases-loop
 read-requires c κs = omega (arith, (its-row c).whole)
@@ -53,17 +53,17 @@ in-loop x = x.before.before
 
 -- a number of its row
 abbrev nth : Skips → ℕ → ℤ
-nth x j = get_or (at-start (in-loop x)).args.plan.now ((in-loop x).before.loop.row + j) (pos 0)
+nth x j = get_or (at_start (in-loop x)).args.plan.now ((in-loop x).before.loop.row + j) (pos 0)
 
 code : (x : Skips) → ref (nth x 0) ≡ 3
 code x =
     ap ref (sym x.before.read.ensures ∙ same_bits x.before.read.result (pos 3) x.before.read.ok (omega arith) x.if1.left)
 
 asks : (x : Skips) → ref (nth x 1) < STATES
-asks x = (skip-out-names (its-row (in-loop x)) (code x)).0
+asks x = (skip_out_names (its-row (in-loop x)) (code x)).0
 
 over : (x : Skips) → ref (nth x 2) ≤ INSTRUCTIONS
-over x = (skip-out-names (its-row (in-loop x)) (code x)).1
+over x = (skip_out_names (its-row (in-loop x)) (code x)).1
 
 known-requires : tie.Need-known-requires invariant-loop decreases-loop
 known-requires c κs = (omega (arith, (its-row (in-loop c)).whole), omega (arith, asks c))
@@ -73,15 +73,15 @@ element-copy-out-if2 c = omega (arith, asks c.before, c.known.ensures)
 
 -- its row says so
 says : (x : tie.After-known invariant-loop decreases-loop)
-    → instr_from (at-start (in-loop x.before)).args.plan.now (in-loop x.before).before.loop.row
-    ≡ skip-out x.known.result (ref (nth x.before 2))
-says x = is-skip-out (its-row (in-loop x.before)) x.known.ensures (code x.before)
+    → instr_from (at_start (in-loop x.before)).args.plan.now (in-loop x.before).before.loop.row
+    ≡ skip_out x.known.result (ref (nth x.before 2))
+says x = is_skip_out (its-row (in-loop x.before)) x.known.ensures (code x.before)
 
 returns-2 : tie.Need-returns-2 invariant-loop decreases-loop
 returns-2 c =
     let x = c.before.before in
     let i = in-loop x.before in
-    passed-active (at-start i).pre i.before.loop.inv i.loop-test.taken (says x) c.if2.true
+    passed_active (at_start i).pre i.before.loop.inv i.loop-test.taken (says x) c.if2.true
 
 known-requires-2 : tie.Need-known-requires-2 invariant-loop decreases-loop
 known-requires-2 c κs =
@@ -108,10 +108,10 @@ loop-again : tie.Need-loop-preserved invariant-loop decreases-loop
 loop-again c =
     let x = c.before.before.before in
     let i = in-loop x.before in
-    passed-idle (at-start i).pre i.before.loop.inv i.loop-test.taken (says x) c.known2.ensures c.before.if2.false
+    passed_idle (at_start i).pre i.before.loop.inv i.loop-test.taken (says x) c.known2.ensures c.before.if2.false
 
 pub pass-skips-spec : {M : Type 1} → statement M
-pass-skips-spec = tie.close (tie.spec invariant-loop decreases-loop (λ c. passed-begin) (λ c. omega (arith, further c 0 (omega arith)))
+pass-skips-spec = tie.close (tie.spec invariant-loop decreases-loop (λ c. passed_begin) (λ c. omega (arith, further c 0 (omega arith)))
     read-requires returns (λ c. omega (arith, further (in-loop c) 0 (omega arith)))
     known-requires element-copy-out-if2 (λ c. further (in-loop c.before.before.before) 0 (omega arith))
     returns-2 (λ c. omega (arith, further (in-loop c.before.before.before) 0 (omega arith)))

@@ -11,10 +11,10 @@ use mir.Val.{Fits, to_z}
 use borrow.Author.Rules.{rules}
 use Rattle.meaning.specs.WellFormed.{INSTR_ROW, counts_of, code_at, plan_by}
 use Rattle.widget.specs.View.{all_lent}
-use Rattle.plan_choice.proofs.Facts.{counts-sized}
+use Rattle.plan_choice.proofs.Facts.{counts_sized}
 use Rattle.plan_code.specs.Code.{Row, instr_from}
-use Rattle.plan_code.proofs.Named.{block_near, instr-whole, in_code, instr-is, instr-runs}
-use Rattle.plan_code.proofs.Walk.{Standing, walking-begin, walking-end, walking-stop, standing_on, standing-past, block_by}
+use Rattle.plan_code.proofs.Named.{block_near, instr_whole, in_code, instr_is, instr_runs}
+use Rattle.plan_code.proofs.Walk.{Standing, walking_begin, walking_end, walking_stop, standing_on, standing_past, block_by}
 use Rattle.plan_code.proofs.run_block.Statement.{statement}
 use Rattle.plan_code.proofs.run_block.Tie as tie
 
@@ -26,15 +26,15 @@ invariant-loop plan start len arg active₀ slots₀ vars₀ queue₀ trace₀ a
 abbrev decreases-loop : tie.decreases-loop
 decreases-loop plan start len arg active₀ slots₀ vars₀ queue₀ trace₀ at base end row₀ next₀ active slots vars queue trace row next = end - row
 
-abbrev at-start : tie.In-loop invariant-loop decreases-loop → tie.Start invariant-loop decreases-loop
-at-start c = c.before.before.before.before.before
+abbrev at_start : tie.In-loop invariant-loop decreases-loop → tie.Start invariant-loop decreases-loop
+at_start c = c.before.before.before.before.before
 
 -- from an instruction that was run, back to the turn of the loop
 abbrev in-loop : tie.After-exec invariant-loop decreases-loop → tie.In-loop invariant-loop decreases-loop
 in-loop e = e.before.before.before.before.before.before
 
 code-at-requires : tie.Need-code-at-requires invariant-loop decreases-loop
-code-at-requires c κs = counts-sized c.requires.0.examined
+code-at-requires c κs = counts_sized c.requires.0.examined
 
 -- ---- before the loop: where the rows of the block begin and end
 
@@ -84,58 +84,58 @@ pass-skips-requires c κs =
 loop-holds : tie.Need-loop-init invariant-loop decreases-loop
 loop-holds c =
     let s = c.before.before.before in
-    standing-past (record { i = s.args.start; here = refl; walking = walking-begin s.requires.2 }) refl
+    standing_past (record { i = s.args.start; here = refl; walking = walking_begin s.requires.2 }) refl
     (begins c.before.before) c.pass_skips.ensures
 
 -- ---- a turn
 
 module _ (c : tie.In-loop invariant-loop decreases-loop) where
   abbrev ns : List ℤ
-  ns = (at-start c).args.plan.now
+  ns = (at_start c).args.plan.now
 
-  within : c.before.loop.invariant.i < (at-start c).args.start + (at-start c).args.len
+  within : c.before.loop.invariant.i < (at_start c).args.start + (at_start c).args.len
   within = omega (arith, c.before.loop.invariant.here, c.loop-test.true)
 
   its-code : c.before.loop.invariant.i < length (plan_by ns).code
-  its-code = in_code (at-start c).requires.0 (at_code c).code_at.ensures _ c.before.loop.invariant.walking.onward within
+  its-code = in_code (at_start c).requires.0 (at_code c).code_at.ensures _ c.before.loop.invariant.walking.onward within
 
   its-instr : get_or (plan_by ns).code c.before.loop.invariant.i (instr_from ns c.before.loop.row)
       ≡ instr_from ns c.before.loop.row
   its-instr =
-      instr-is (at-start c).requires.0 (at_code c).code_at.ensures _ c.before.loop.invariant.walking.onward within
+      instr_is (at_start c).requires.0 (at_code c).code_at.ensures _ c.before.loop.invariant.walking.onward within
       (ap (instr_from ns) c.before.loop.invariant.here)
 
   its-row : Row ns c.before.loop.row
   its-row =
-      let b = (at-start c).requires.0 in
+      let b = (at_start c).requires.0 in
       let p = (at_code c).code_at.ensures in
       let w = c.before.loop.invariant.walking.onward in
       record {
         formed = b.examined.formed;
-        whole = omega (arith, c.before.loop.invariant.here, instr-whole b p _ w within);
-        runs = instr-runs b p _ w within (ap (instr_from ns) c.before.loop.invariant.here);
+        whole = omega (arith, c.before.loop.invariant.here, instr_whole b p _ w within);
+        runs = instr_runs b p _ w within (ap (instr_from ns) c.before.loop.invariant.here);
       }
 
 exec-requires : tie.Need-exec-requires invariant-loop decreases-loop
 exec-requires c κs =
     let i = c.before.before.before.before.before in
     let w = i.before.loop.invariant.walking in
-    (its-row i, w.slotted ∙ (at-start i).requires.1, w.owes.fits)
+    (its-row i, w.slotted ∙ (at_start i).requires.1, w.owes.fits)
 
 returns : tie.Need-returns invariant-loop decreases-loop
 returns c =
     let e = c.before.before.before in
     let i = in-loop e in
-    let a = (at-start i).args in
+    let a = (at_start i).args in
     block_by _ _ (plan_by a.plan.now).code _ a.start a.len refl
-    (rw (to_z-of_z (at-start i).fits.arg) at
-    (walking-stop i.before.loop.inv.walking (within i) (its-code i) (its-instr i) e.exec.ensures c.if1.true))
+    (rw (to_z-of_z (at_start i).fits.arg) at
+    (walking_stop i.before.loop.inv.walking (within i) (its-code i) (its-instr i) e.exec.ensures c.if1.true))
 
 -- the next row begins at a place of 64 bits
 further : (e : tie.After-exec invariant-loop decreases-loop) → Fits w64 ((in-loop e).before.loop.row + (1 + e.exec.result.over) * INSTR_ROW)
 further e =
     let i = in-loop e in
-    omega (arith, block_near (at-start i).pre.0 (at_code i).code_at.ensures, i.loop-test.taken, e.exec.ensures.near)
+    omega (arith, block_near (at_start i).pre.0 (at_code i).code_at.ensures, i.loop-test.taken, e.exec.ensures.near)
 
 add_row : tie.Need-overflow-add-row invariant-loop decreases-loop
 add_row c = omega (arith, further c.before.before.before.before)
@@ -158,11 +158,11 @@ pass-skips-requires-2 c κs =
     let i = in-loop e in
     let b = begins (at_code i) in
     record {
-      k = (at-start i).args.k;
-      start = (at-start i).args.start;
-      len = (at-start i).args.len;
+      k = (at_start i).args.k;
+      start = (at_start i).args.start;
+      len = (at_start i).args.len;
       i = i.before.loop.inv.i + 1 + e.exec.result.over;
-      block = (at-start i).pre.0;
+      block = (at_start i).pre.0;
       onward = omega (arith, i.before.loop.inv.walking.onward);
       here = omega (arith, i.before.loop.inv.here, b);
       there = omega (arith, b);
@@ -175,7 +175,7 @@ loop-again : tie.Need-loop-preserved invariant-loop decreases-loop
 loop-again c =
     let e = ran c.before.before.before in
     let i = in-loop e in
-    standing-past
+    standing_past
     (standing_on i.before.loop.inv (within i) (its-code i) (its-instr i) e.exec.ensures
     c.before.before.before.before.before.if1.false) refl (begins (at_code i)) c.pass-skips2.ensures
 
@@ -193,7 +193,7 @@ returns-2 c =
     let s = c.before.before.before.before.before in
     let w = c.before.loop.invariant in
     block_by _ _ (plan_by s.args.plan.now).code _ s.args.start s.args.len refl
-    (rw (to_z-of_z s.ranges.arg) at (walking-end w.walking (omega (arith, w.here, c.loop-test.false))))
+    (rw (to_z-of_z s.ranges.arg) at (walking_end w.walking (omega (arith, w.here, c.loop-test.false))))
 
 pub run-block-spec : {M : Type 1} → statement M
 run-block-spec =

@@ -1,17 +1,17 @@
 -- `set` reads the row of the variable. Assumes nothing.
 use mir.Facts.{to_z-of_z}
-use Rattle.plan_code.proofs.Executing.{row-there, row_is, var-below}
+use Rattle.plan_code.proofs.Executing.{row_there, row_is, var_below}
 use borrow.Author.Rules.{rules}
 use Rattle.plan_code.proofs.set.Statement.{statement}
 use Rattle.plan_code.proofs.set.Tie as tie
 
 var-row-requires : tie.Need-var-row-requires
-var-row-requires c κs = row-there c.args.plan.now c.args.v c.requires.0
+var-row-requires c κs = row_there c.args.plan.now c.args.v c.requires.0
 
 assign-requires : tie.Need-assign-requires
 assign-requires c κs =
     let s = c.before.before.before in
-    (var-below s.args.plan.now s.args.v s.requires.0, s.requires.1)
+    (var_below s.args.plan.now s.args.v s.requires.0, s.requires.1)
 
 returns : tie.Need-returns
 returns c =

@@ -3,8 +3,8 @@ use mathlib.Core.Path.{◌≡◌, refl, sym, ap, ◌∙◌}
 use borrow.Author.Tests.{not-true, not-false}
 use borrow.Author.Rules.{rules}
 use Rattle.meaning.specs.WellFormed.{plan_by}
-use Rattle.plan_choice.proofs.Facts.{counts-sized}
-use Rattle.plan_own.proofs.Clauses.{states-is, events-is, own-rootless, own-marked, own_out, own-astray, own-unused, own-rest}
+use Rattle.plan_choice.proofs.Facts.{counts_sized}
+use Rattle.plan_own.proofs.Clauses.{states_is, events_is, own_rootless, own_marked, own_out, own_astray, own_unused, own_rest}
 use Rattle.plan_own.proofs.own.Statement.{statement}
 use Rattle.plan_own.proofs.own.Tie as tie
 
@@ -42,25 +42,25 @@ abbrev start-from-queue-fits : tie.After-queue-fits → tie.Start
 start-from-queue-fits c = (values-fit-from-queue-fits c).before.before.before.before.before.before
 
 returns : tie.Need-returns
-returns c = own-rootless _ _ _ c.before.before.args.state (not-true _ c.if1.true)
+returns c = own_rootless _ _ _ c.before.before.args.state (not-true _ c.if1.true)
 
 returns-2 : tie.Need-returns-2
 returns-2 c =
-    own-marked _ _ _ (start-from-then2 c).args.state (not-false _ c.before.before.if1.false)
-    (states-is (start-from-then2 c).requires) (sym c.before.marks_fit.ensures ∙ not-true _ c.if2.true)
+    own_marked _ _ _ (start-from-then2 c).args.state (not-false _ c.before.before.if1.false)
+    (states_is (start-from-then2 c).requires) (sym c.before.marks_fit.ensures ∙ not-true _ c.if2.true)
 
 returns-3 : tie.Need-returns-3
 returns-3 c =
     own_out _ _ _ (start-from-then3 c).args.state (not-false _ (marks-fit-from-then3 c).before.if1.false)
-    (states-is (start-from-then3 c).requires)
+    (states_is (start-from-then3 c).requires)
     (sym (marks-fit-from-then3 c).marks_fit.ensures ∙ not-false _ c.before.before.before.if2.false)
     (sym c.before.values_fit.ensures ∙ not-true _ c.if3.true)
 
 returns-4 : tie.Need-returns-4
 returns-4 c =
-    own-astray _ _ _ (start-from-then4 c).args.state
+    own_astray _ _ _ (start-from-then4 c).args.state
     (not-false _ (values-fit-from-then4 c).before.before.before.before.if1.false)
-    (states-is (start-from-then4 c).requires)
+    (states_is (start-from-then4 c).requires)
     (sym (values-fit-from-then4 c).before.before.before.marks_fit.ensures ∙ not-false _
     (values-fit-from-then4 c).before.before.if2.false)
     (sym (values-fit-from-then4 c).values_fit.ensures ∙ not-false _ c.before.before.before.if3.false)
@@ -68,8 +68,8 @@ returns-4 c =
 
 returns-5 : tie.Need-returns-5
 returns-5 c =
-    own-unused _ _ _ (start-from-then5 c).args.state
-    (not-false _ (marks-fit-from-then5 c).before.if1.false) (states-is (start-from-then5 c).requires)
+    own_unused _ _ _ (start-from-then5 c).args.state
+    (not-false _ (marks-fit-from-then5 c).before.if1.false) (states_is (start-from-then5 c).requires)
     (sym (marks-fit-from-then5 c).marks_fit.ensures ∙ not-false _
     (else3-from-then5 c).before.before.before.if2.false)
     (sym (else3-from-then5 c).before.values_fit.ensures ∙ not-false _ (else3-from-then5 c).if3.false)
@@ -78,9 +78,9 @@ returns-5 c =
 
 returns-6 : tie.Need-returns-6
 returns-6 c =
-    own-rest _ _ _ (start-from-queue-fits c).args.state
+    own_rest _ _ _ (start-from-queue-fits c).args.state
     (not-false _ (values-fit-from-queue-fits c).before.before.before.before.if1.false)
-    (states-is (start-from-queue-fits c).requires)
+    (states_is (start-from-queue-fits c).requires)
     (sym (values-fit-from-queue-fits c).before.before.before.marks_fit.ensures ∙ not-false _
     (values-fit-from-queue-fits c).before.before.if2.false)
     (sym (values-fit-from-queue-fits c).values_fit.ensures ∙ not-false _
@@ -88,10 +88,10 @@ returns-6 c =
     (sym (else4-from-queue-fits c).before.slots_fit.ensures ∙ not-false _
     (else4-from-queue-fits c).if4.false)
     (sym c.before.before.before.rest_empty.ensures ∙ not-false _ c.before.before.if5.false)
-    (events-is (start-from-queue-fits c).requires) c.queue_fits.ensures
+    (events_is (start-from-queue-fits c).requires) c.queue_fits.ensures
 
 pub own-spec : {M : Type 1} → statement M
 own-spec = tie.close (tie.spec (λ c. search rules)
     returns (λ c κs. search rules) returns-2 (λ c κs. c.before.before.before.before.before.requires)
-    returns-3 (λ c κs. (counts-sized c.before.before.before.before.before.before.before.before.requires).states)
+    returns-3 (λ c κs. (counts_sized c.before.before.before.before.before.before.before.before.requires).states)
     returns-4 (λ c κs. search rules) returns-5 (λ c κs. search rules) returns-6)

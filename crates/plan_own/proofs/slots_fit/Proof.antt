@@ -13,7 +13,7 @@ use lib.Seq.{length-take-le, get_or-take}
 use Rattle.sizes.specs.Sizes.{STATES}
 use Rattle.meaning.specs.Lists.{every}
 use Rattle.meaning.specs.Machine.{plan_slot_fits}
-use Rattle.widget.proofs.Every.{every_more, every-no, every-done}
+use Rattle.widget.proofs.Every.{every_more, every_no, every_done}
 use Rattle.plan_own.proofs.slots_fit.Statement.{statement}
 use Rattle.plan_own.proofs.slots_fit.Tie as tie
 
@@ -59,7 +59,7 @@ returns c =
     let a = (start-from-then1 c).args in
     let s = (at-loop-from-then1 c).loop.s in
     let fx : SFits w32 (get_or a.t2 s (pos 0)) = search rules in
-    every-no (plan_slot_fits a.states) (take a.states a.t2) s (pos 0)
+    every_no (plan_slot_fits a.states) (take a.states a.t2) s (pos 0)
     (at-loop-from-then1 c).loop.invariant.1
     (omega (arith, taken (start-from-then1 c), (in-loop-from-then1 c).loop-test.true))
     (ap (plan_slot_fits a.states)
@@ -83,7 +83,7 @@ loop-again c =
 returns-2 : tie.Need-returns-2 invariant-loop decreases-loop
 returns-2 c =
     let a = c.before.before.args in
-    every-done (plan_slot_fits a.states) (take a.states a.t2) c.before.loop.s
+    every_done (plan_slot_fits a.states) (take a.states a.t2) c.before.loop.s
     c.before.loop.invariant.1 (omega (arith, taken c.before.before, c.loop-test.false))
 
 pub slots-fit-spec : {M : Type 1} → statement M

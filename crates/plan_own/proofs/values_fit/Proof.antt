@@ -13,10 +13,10 @@ use Rattle.sizes.specs.Sizes.{VARIABLES}
 use Rattle.numbers.specs.Equal.{eq_z}
 use Rattle.meaning.specs.Foreign.{values_fit}
 use Rattle.meaning.specs.WellFormed.{plan_by}
-use Rattle.widget.proofs.Every.{every-done}
-use Rattle.queue_calls.proofs.Values.{values-more, values-no, values-rest}
-use Rattle.plan_choice.proofs.Facts.{counts-sized}
-use Rattle.plan_own.proofs.Clauses.{vars-many}
+use Rattle.widget.proofs.Every.{every_done}
+use Rattle.queue_calls.proofs.Values.{values_more, values_no, values_rest}
+use Rattle.plan_choice.proofs.Facts.{counts_sized}
+use Rattle.plan_own.proofs.Clauses.{vars_many}
 use Rattle.plan_own.proofs.values_fit.Statement.{statement}
 use Rattle.plan_own.proofs.values_fit.Tie as tie
 
@@ -43,7 +43,7 @@ returns c =
     let v = (at-loop-from-then1 c).loop.v in
     let fx : SFits w32 (get_or a.t3 v (pos 0)) = search rules in
     let long : length a.t3 ≡ VARIABLES = search rules in
-    values-no (plan_by a.plan.now).vars a.t3 v (at-loop-from-then1 c).loop.invariant.1 (omega arith)
+    values_no (plan_by a.plan.now).vars a.t3 v (at-loop-from-then1 c).loop.invariant.1 (omega arith)
     (sym (rw (to_z-of_z fx) at c.before.value_fits.ensures) ∙ not-true _ c.if1.true)
 
 loop-again : tie.Need-loop-preserved invariant-loop decreases-loop
@@ -53,7 +53,7 @@ loop-again c =
     let fx : SFits w32 (get_or a.t3 v (pos 0)) = search rules in
     let long : length a.t3 ≡ VARIABLES = search rules in (
       omega arith,
-      values-more (plan_by a.plan.now).vars a.t3 v (at-loop-from-else1 c).loop.invariant.1 (omega arith)
+      values_more (plan_by a.plan.now).vars a.t3 v (at-loop-from-else1 c).loop.invariant.1 (omega arith)
           (sym (rw (to_z-of_z fx) at c.before.value_fits.ensures) ∙ not-false _ c.if1.false),
     )
 
@@ -61,9 +61,9 @@ returns-2 : tie.Need-returns-2 invariant-loop decreases-loop
 returns-2 c =
     let a = c.before.before.args in
     let long : length a.t3 ≡ VARIABLES = search rules in
-    every-done (eq_z (pos 0)) a.t3 c.before.loop.v
-    (values-rest (plan_by a.plan.now).vars a.t3 c.before.loop.v c.before.loop.invariant.1
-    (omega (arith, vars-many c.before.before.requires, (counts-sized c.before.before.requires).vars)))
+    every_done (eq_z (pos 0)) a.t3 c.before.loop.v
+    (values_rest (plan_by a.plan.now).vars a.t3 c.before.loop.v c.before.loop.invariant.1
+    (omega (arith, vars_many c.before.before.requires, (counts_sized c.before.before.requires).vars)))
     (omega arith)
 
 pub values-fit-spec : {M : Type 1} → statement M

@@ -4,7 +4,7 @@ use Prim.Native.Nat.{◌+◌, ◌*◌}
 use Rattle.numbers.proofs.Laws.{back32}
 use Rattle.meaning.specs.Value.{VAR_ROW}
 use Rattle.meaning.specs.WellFormed.{SIX}
-use Rattle.plan_rows.proofs.Rows.{var-said}
+use Rattle.plan_rows.proofs.Rows.{var_said}
 use borrow.Author.Rules.{rules}
 use Rattle.plan_rows.proofs.var_row.Statement.{statement}
 use Rattle.plan_rows.proofs.var_row.Tie as tie
@@ -15,7 +15,7 @@ returns c =
     let x = c.before.before.read in
     let y = c.before.read2 in
     let z = c.read3 in
-    var-said a.plan.now (SIX + a.v * VAR_ROW) (back32 x.result x.type-inv ∙ x.ensures) (back32 y.result y.type-inv ∙ y.ensures)
+    var_said a.plan.now (SIX + a.v * VAR_ROW) (back32 x.result x.type-inv ∙ x.ensures) (back32 y.result y.type-inv ∙ y.ensures)
     (back32 z.result z.type-inv ∙ z.ensures)
 
 pub var-row-spec : {M : Type 1} → statement M

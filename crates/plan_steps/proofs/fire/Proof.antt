@@ -6,8 +6,8 @@ use mir.Facts.{to_z-of_z}
 use borrow.Author.Rules.{rules}
 use Rattle.meaning.specs.WellFormed.{HEAD_ROW}
 use Rattle.widget.specs.View.{all_lent}
-use Rattle.plan_choice.proofs.Facts.{counts-sized}
-use Rattle.plan_steps.proofs.Firing.{row-whole, taken-named, block-there, block-named, fired-here, fire-stop, fire-on}
+use Rattle.plan_choice.proofs.Facts.{counts_sized}
+use Rattle.plan_steps.proofs.Firing.{row_whole, taken_named, block_there, block_named, fired_here, fire_stop, fire_on}
 use Rattle.plan_steps.proofs.fire.Statement.{statement}
 use Rattle.plan_steps.proofs.fire.Tie as tie
 
@@ -48,25 +48,25 @@ abbrev start-from-trace2 : tie.After-trace2 → tie.Start
 start-from-trace2 c = (heads-at-from-trace2 c).before
 
 heads-at-requires : tie.Need-heads-at-requires
-heads-at-requires c κs = counts-sized c.requires.0
+heads-at-requires c κs = counts_sized c.requires.0
 
 mul-row : tie.Need-overflow-mul-row
-mul-row c = omega (arith, c.before.requires.1, (counts-sized c.before.requires.0).heads)
+mul-row c = omega (arith, c.before.requires.1, (counts_sized c.before.requires.0).heads)
 
 add_row : tie.Need-overflow-add-row
-add_row c = let q = row-whole c.before.requires.0 c.heads_at.ensures _ c.before.requires.1 in omega (arith, q)
+add_row c = let q = row_whole c.before.requires.0 c.heads_at.ensures _ c.before.requires.1 in omega (arith, q)
 
 add-known : tie.Need-overflow-add-known
-add-known c = let q = row-whole c.before.requires.0 c.heads_at.ensures _ c.before.requires.1 in omega (arith, q)
+add-known c = let q = row_whole c.before.requires.0 c.heads_at.ensures _ c.before.requires.1 in omega (arith, q)
 
 known-requires : tie.Need-known-requires
 known-requires c κs =
-    let q = row-whole c.before.requires.0 c.heads_at.ensures _ c.before.requires.1 in
-    (omega (arith, q), taken-named c.before.requires.0 c.heads_at.ensures _ c.before.requires.1 refl)
+    let q = row_whole c.before.requires.0 c.heads_at.ensures _ c.before.requires.1 in
+    (omega (arith, q), taken_named c.before.requires.0 c.heads_at.ensures _ c.before.requires.1 refl)
 
 mark-taken-requires : tie.Need-mark-taken-requires
 mark-taken-requires c κs = (
-  taken-named (start-from-mark-taken-arg c).requires.0 c.before.before.heads_at.ensures _
+  taken_named (start-from-mark-taken-arg c).requires.0 c.before.before.heads_at.ensures _
       (start-from-mark-taken-arg c).requires.1 c.before.known.ensures,
   (start-from-mark-taken-arg c).requires.3,
 )
@@ -74,8 +74,8 @@ mark-taken-requires c κs = (
 returns : tie.Need-returns
 returns c =
     let a = (start-from-then1 c).args in
-    fired-here (start-from-then1 c).requires.0 (heads-at-from-then1 c).heads_at.ensures _
-    (start-from-then1 c).requires.1 _ (fire-stop a.plan.now
+    fired_here (start-from-then1 c).requires.0 (heads-at-from-then1 c).heads_at.ensures _
+    (start-from-then1 c).requires.1 _ (fire_stop a.plan.now
     ((heads-at-from-then1 c).heads_at.result + a.h * HEAD_ROW) _
     c.before.before.before.before.before.known.ensures
     (c.before.before.before.mark_taken.ensures.1
@@ -84,31 +84,31 @@ returns c =
 
 add-known-2 : tie.Need-overflow-add-known-2
 add-known-2 c =
-    let q = row-whole (start-from-else1 c).requires.0 (heads-at-from-else1 c).heads_at.ensures _
+    let q = row_whole (start-from-else1 c).requires.0 (heads-at-from-else1 c).heads_at.ensures _
     (start-from-else1 c).requires.1 in omega (arith, q)
 
 known-requires-2 : tie.Need-known-requires-2
 known-requires-2 c κs =
     let s = start-from-else1 c in
     let b = (heads-at-from-else1 c).heads_at.ensures in
-    let q = row-whole s.pre.0 b _ s.pre.1 in
-    (omega (arith, q), (block-named s.pre.0 b _ s.pre.1).0)
+    let q = row_whole s.pre.0 b _ s.pre.1 in
+    (omega (arith, q), (block_named s.pre.0 b _ s.pre.1).0)
 
 add-known-3 : tie.Need-overflow-add-known-3
 add-known-3 c =
-    let q = row-whole (start-from-known2 c).requires.0 (heads-at-from-known2 c).heads_at.ensures _
+    let q = row_whole (start-from-known2 c).requires.0 (heads-at-from-known2 c).heads_at.ensures _
     (start-from-known2 c).requires.1 in omega (arith, q)
 
 known-requires-3 : tie.Need-known-requires-3
 known-requires-3 c κs =
     let s = start-from-known2 c in
     let b = (heads-at-from-known2 c).heads_at.ensures in
-    let q = row-whole s.pre.0 b _ s.pre.1 in
-    (omega (arith, q), (block-named s.pre.0 b _ s.pre.1).1)
+    let q = row_whole s.pre.0 b _ s.pre.1 in
+    (omega (arith, q), (block_named s.pre.0 b _ s.pre.1).1)
 
 run-block-requires : tie.Need-run-block-requires
 run-block-requires c κs = (
-  block-there (start-from-run-block-arg5 c).requires.0
+  block_there (start-from-run-block-arg5 c).requires.0
       (mark-taken-from-run-block-arg5 c).before.before.before.heads_at.ensures _
       (start-from-run-block-arg5 c).requires.1 (known3-from-run-block-arg5 c).before.known2.ensures
       (known3-from-run-block-arg5 c).known3.ensures,
@@ -119,9 +119,9 @@ run-block-requires c κs = (
 returns-2 : tie.Need-returns-2
 returns-2 c =
     let a = (start-from-trace2 c).args in
-    fired-here (start-from-trace2 c).requires.0 (heads-at-from-trace2 c).heads_at.ensures _
+    fired_here (start-from-trace2 c).requires.0 (heads-at-from-trace2 c).heads_at.ensures _
     (start-from-trace2 c).requires.1 _
-    (fire-on a.plan.now ((heads-at-from-trace2 c).heads_at.result + a.h * HEAD_ROW) _
+    (fire_on a.plan.now ((heads-at-from-trace2 c).heads_at.result + a.h * HEAD_ROW) _
     (mark-taken-from-run-block-arg5 c.before.before).before.before.known.ensures
     ((mark-taken-from-run-block-arg5 c.before.before).mark_taken.ensures.1
     (all_lent a.active.now a.slots.now a.vars.now a.queue.now a.trace.now))

@@ -9,7 +9,7 @@ use borrow.Author.Rules.{rules}
 use Rattle.meaning.specs.WellFormed.{heads_at, plan_by}
 use Rattle.widget.specs.View.{all_lent}
 use Rattle.plan_choice.specs.Heads.{picked}
-use Rattle.plan_steps.proofs.Firing.{Firing, firing-begin, firing-end, firing-stop, firing-on, fires-long, fires-at}
+use Rattle.plan_steps.proofs.Firing.{Firing, firing_begin, firing_end, firing_stop, firing_on, fires_long, fires_at}
 use Rattle.plan_steps.proofs.fire_all.Statement.{statement}
 use Rattle.plan_steps.proofs.fire_all.Tie as tie
 
@@ -41,7 +41,7 @@ abbrev start-from-then1 : tie.Then1 invariant-loop decreases-loop → tie.Start 
 start-from-then1 c = (in-loop-from-then1 c).before.before
 
 loop-holds : tie.Need-loop-init invariant-loop decreases-loop
-loop-holds c = (firing-begin c.requires.3, omega arith)
+loop-holds c = (firing_begin c.requires.3, omega arith)
 
 mul-h : tie.Need-overflow-mul-h invariant-loop decreases-loop
 mul-h c = omega (arith, c.before.before.requires.1.few)
@@ -64,9 +64,9 @@ returns c =
     let f = (start-from-then1 c).requires.1 in
     let l = (in-loop-from-then1 c).loop-test.true in
     rw (to_z-of_z (start-from-then1 c).ranges.arg) at
-    (firing-stop (in-loop-from-then1 c).before.loop.invariant.0
-    (omega (arith, fires-long a.plan.now (heads_at a.k) f, l))
-    (fires-at a.plan.now (heads_at a.k) f _ l) c.before.before.before.fire.ensures
+    (firing_stop (in-loop-from-then1 c).before.loop.invariant.0
+    (omega (arith, fires_long a.plan.now (heads_at a.k) f, l))
+    (fires_at a.plan.now (heads_at a.k) f _ l) c.before.before.before.fire.ensures
     c.if1.true)
 
 loop-again : tie.Need-loop-preserved invariant-loop decreases-loop
@@ -74,9 +74,9 @@ loop-again c =
     let a = (start-from-else1 c).args in
     let f = (start-from-else1 c).requires.1 in
     let l = (in-loop-from-else1 c).loop-test.true in (
-      firing-on (in-loop-from-else1 c).before.loop.invariant.0
-          (omega (arith, fires-long a.plan.now (heads_at a.k) f, l))
-          (fires-at a.plan.now (heads_at a.k) f _ l) c.before.before.before.fire.ensures
+      firing_on (in-loop-from-else1 c).before.loop.invariant.0
+          (omega (arith, fires_long a.plan.now (heads_at a.k) f, l))
+          (fires_at a.plan.now (heads_at a.k) f _ l) c.before.before.before.fire.ensures
           c.if1.false,
       omega arith,
     )
@@ -85,8 +85,8 @@ returns-2 : tie.Need-returns-2 invariant-loop decreases-loop
 returns-2 c =
     let a = c.before.before.args in
     rw (to_z-of_z c.before.before.ranges.arg) at
-    (firing-end c.before.loop.invariant.0
-    (omega (arith, fires-long a.plan.now (heads_at a.k) c.before.before.requires.1, c.loop-test.false)))
+    (firing_end c.before.loop.invariant.0
+    (omega (arith, fires_long a.plan.now (heads_at a.k) c.before.before.requires.1, c.loop-test.false)))
 
 pub fire-all-spec : {M : Type 1} → statement M
 fire-all-spec = tie.close (tie.spec invariant-loop decreases-loop loop-holds mul-h element-copy-out-h

@@ -7,7 +7,7 @@ use borrow.Author.Rules.{rules}
 use Rattle.sizes.specs.Sizes.{NULL_STEPS, TRANSITIONS}
 use Rattle.meaning.specs.WellFormed.{plan_by}
 use Rattle.widget.specs.View.{all_lent}
-use Rattle.plan_steps.proofs.Settling.{Settling, settling-begin, settling-end, settling-full, settling-stop, settling-on}
+use Rattle.plan_steps.proofs.Settling.{Settling, settling_begin, settling_end, settling_full, settling_stop, settling_on}
 use Rattle.plan_steps.proofs.settle.Statement.{statement}
 use Rattle.plan_steps.proofs.settle.Tie as tie
 
@@ -36,7 +36,7 @@ abbrev at-loop-from-else3 : tie.Else3 invariant-loop decreases-loop → tie.At-l
 at-loop-from-else3 c = at-loop-from-fire-all-arg6 c.before.before.before.before
 
 loop-holds : tie.Need-loop-init invariant-loop decreases-loop
-loop-holds c = (settling-begin c.requires.3, c.requires.1)
+loop-holds c = (settling_begin c.requires.3, c.requires.1)
 
 choose-requires : tie.Need-choose-requires invariant-loop decreases-loop
 choose-requires c κs = (
@@ -63,7 +63,7 @@ loop-less c = omega (arith, (at-loop-from-else3 c).loop.invariant.0.few, (else2-
 loop-again : tie.Need-loop-preserved invariant-loop decreases-loop
 loop-again c =
     let g = (else2-from-else3 c).before.before.choose.ensures in (
-      settling-on (at-loop-from-else3 c).loop.invariant.0 g (else2-from-else3 c).before.if1.false
+      settling_on (at-loop-from-else3 c).loop.invariant.0 g (else2-from-else3 c).before.if1.false
           (else2-from-else3 c).if2.false c.before.before.before.fire_all.ensures c.if3.false,
       g.stands.size,
     )
@@ -71,14 +71,14 @@ loop-again c =
 returns : tie.Need-returns invariant-loop decreases-loop
 returns c =
     let g = c.before.choose.ensures in (
-      settling-end c.before.before.before.before.before.loop.invariant.0 g c.if1.true,
+      settling_end c.before.before.before.before.before.loop.invariant.0 g c.if1.true,
       g.stands.size,
     )
 
 returns-2 : tie.Need-returns-2 invariant-loop decreases-loop
 returns-2 c =
     let g = c.before.before.choose.ensures in (
-      settling-full c.before.before.before.before.before.before.loop.invariant.0 g c.before.if1.false
+      settling_full c.before.before.before.before.before.before.loop.invariant.0 g c.before.if1.false
           c.if2.true,
       g.stands.size,
     )
@@ -91,7 +91,7 @@ same-length-3 c =
 returns-3 : tie.Need-returns-3 invariant-loop decreases-loop
 returns-3 c =
     let g = (else2-from-then3 c).before.before.choose.ensures in (
-      settling-stop (at-loop-from-fire-all-arg6 c.before.before.before.before).loop.inv.0 g
+      settling_stop (at-loop-from-fire-all-arg6 c.before.before.before.before).loop.inv.0 g
           (else2-from-then3 c).before.if1.false (else2-from-then3 c).if2.false
           c.before.before.before.fire_all.ensures c.if3.true,
       g.stands.size,

@@ -1,7 +1,7 @@
 -- `step` fires the chosen of the event. Assumes nothing.
 use mir.Facts.{to_z-of_z}
 use borrow.Author.Rules.{rules}
-use Rattle.plan_steps.proofs.Settling.{step-here}
+use Rattle.plan_steps.proofs.Settling.{step_here}
 use Rattle.plan_steps.proofs.step.Statement.{statement}
 use Rattle.plan_steps.proofs.step.Tie as tie
 
@@ -28,7 +28,7 @@ fire-all-requires c κs = (
 returns : tie.Need-returns
 returns c = (
   rw (to_z-of_z (start-from-fire-all-arg6 c.before.before).ranges.arg) at
-      (step-here (choose-from-trace c).choose.ensures _ c.before.fire_all.ensures),
+      (step_here (choose-from-trace c).choose.ensures _ c.before.fire_all.ensures),
   (choose-from-trace c).choose.ensures.stands.size,
 )
 

@@ -3,7 +3,7 @@ use mathlib.Core.Path.{◌≡◌, refl, sym, ap, ◌∙◌}
 use native.Mathlib.Omega.{arith}
 use borrow.Author.Tests.{not-true, not-false}
 use Rattle.meaning.specs.Value.{chart_of}
-use Rattle.queue_calls.proofs.Answering.{discard-7, discard-6, discard-8, discard-0}
+use Rattle.queue_calls.proofs.Answering.{discard_7, discard_6, discard_8, discard_0}
 use borrow.Author.Rules.{rules}
 use Rattle.queue_calls.proofs.discard_ruled.Statement.{statement}
 use Rattle.queue_calls.proofs.discard_ruled.Tie as tie
@@ -21,22 +21,22 @@ abbrev start-from-refused3 : tie.After-refused3 → tie.Start
 start-from-refused3 c = (else2-from-refused3 c).before.before.before.before
 
 returns : tie.Need-returns
-returns c = c.refused.ensures ∙ discard-7 (chart_of (start-from-refused c).args.chart.now)
+returns c = c.refused.ensures ∙ discard_7 (chart_of (start-from-refused c).args.chart.now)
     (start-from-refused c).args.state (not-true _ c.before.if1.true)
 
 returns-2 : tie.Need-returns-2
-returns-2 c = c.refused2.ensures ∙ discard-6 (chart_of (start-from-refused2 c).args.chart.now)
+returns-2 c = c.refused2.ensures ∙ discard_6 (chart_of (start-from-refused2 c).args.chart.now)
     (start-from-refused2 c).args.state (not-false _ c.before.before.before.if1.false)
     (sym c.before.before.own.ensures ∙ not-true _ c.before.if2.true)
 
 returns-3 : tie.Need-returns-3
-returns-3 c = c.refused3.ensures ∙ discard-8 (chart_of (start-from-refused3 c).args.chart.now)
+returns-3 c = c.refused3.ensures ∙ discard_8 (chart_of (start-from-refused3 c).args.chart.now)
     (start-from-refused3 c).args.state (not-false _ (else2-from-refused3 c).before.before.if1.false)
     (sym (else2-from-refused3 c).before.own.ensures ∙ not-false _ (else2-from-refused3 c).if2.false)
     c.before.before.before.remove.ensures (not-true _ c.before.if3.true)
 
 returns-4 : tie.Need-returns-4
-returns-4 c = (rw c.before.with_queue.ensures at c.done.ensures) ∙ discard-0
+returns-4 c = (rw c.before.with_queue.ensures at c.done.ensures) ∙ discard_0
     (chart_of c.before.before.before.before.before.before.before.before.before.before.before.args.chart.now)
     c.before.before.before.before.before.before.before.before.before.before.before.args.state
     (not-false _ c.before.before.before.before.before.before.before.before.before.if1.false)

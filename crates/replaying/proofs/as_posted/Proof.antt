@@ -7,7 +7,7 @@ use borrow.Author.Rules.{rules}
 use Rattle.numbers.proofs.Laws.{back32}
 use Rattle.invariants.specs.Good.{Sized}
 use Rattle.replaying.proofs.Events.{event_here, places_few}
-use Rattle.replaying.proofs.Telling.{broken-told, owned-lent}
+use Rattle.replaying.proofs.Telling.{broken_told, owned_lent}
 use Rattle.replaying.proofs.as_posted.Statement.{statement}
 use Rattle.replaying.proofs.as_posted.Tie as tie
 
@@ -37,7 +37,7 @@ go-through-requires c κs =
     let s = start-from-call c in (
       s.pre.0,
       omega (arith, there s),
-      owned-lent s.pre.1 (sized_of s) c.before.before.before.before.before.lend.ensures s.args.trace.now,
+      owned_lent s.pre.1 (sized_of s) c.before.before.before.before.before.lend.ensures s.args.trace.now,
       s.pre.3,
     )
 
@@ -46,7 +46,7 @@ returns c =
     let v = c.before.before.before.before.before in
     let t = v.before.before in
     let s = start-from-trace t in
-    broken-told s.pre.1 (sized_of s) t.before.before.before.before.before.before.before.lend.ensures s.args.trace.now
+    broken_told s.pre.1 (sized_of s) t.before.before.before.before.before.before.before.lend.ensures s.args.trace.now
     s.pre.2 t.before.go_through.ensures
     (event_here s.args.events.now s.args.done _ _ s.pre.2.within (back32 _ v.before.event.given)
     (back32 _ v.arg.given))

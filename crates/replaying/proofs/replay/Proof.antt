@@ -5,7 +5,7 @@ use lib.ListN.{length, length-map}
 use borrow.Author.Rules.{rules}
 use Rattle.invariants.specs.Good.{Sized}
 use Rattle.machine.proofs.Gates.{failed, passed}
-use Rattle.replaying.proofs.Events.{replay-5, replay-none}
+use Rattle.replaying.proofs.Events.{replay_5, replay_none}
 use Rattle.replaying.proofs.Telling.{told_as}
 use Rattle.replaying.proofs.replay.Statement.{statement}
 use Rattle.replaying.proofs.replay.Tie as tie
@@ -24,7 +24,7 @@ sized_of c =
 returns : tie.Need-returns
 returns c =
     let a = c.before.before.before.before.args in
-    told_as (replay-none a.plan.now a.state (length a.trace.now) a.events.now c.before.before.before.if1.true) refl
+    told_as (replay_none a.plan.now a.state (length a.trace.now) a.events.now c.before.before.before.if1.true) refl
     c.before.stopped.ensures
 
 returns-2 : tie.Need-returns-2
@@ -32,7 +32,7 @@ returns-2 c =
     let e = c.before.before.before.before.before in
     let s = e.before.before in
     let a = s.args in
-    told_as (replay-5 a.plan.now a.state (length a.trace.now) (sized_of s) a.events.now (omega (arith, e.before.if1.false))
+    told_as (replay_5 a.plan.now a.state (length a.trace.now) (sized_of s) a.events.now (omega (arith, e.before.if1.false))
     (failed a.plan.now e.examine.ensures c.before.before.before.if2.true)) refl c.before.stopped2.ensures
 
 replay-planned-requires : tie.Need-replay-planned-requires

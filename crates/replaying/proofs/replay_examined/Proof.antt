@@ -10,7 +10,7 @@ use Rattle.plan_invariants.specs.Replay.{replay_examined}
 use Rattle.promises.specs.Replay.{items_of}
 use Rattle.replaying.specs.Course.{Starts}
 use Rattle.replaying.proofs.Events.{all_items, half}
-use Rattle.replaying.proofs.Telling.{broken-here, ended-told, once-6, once-7, owned-lent, told_as}
+use Rattle.replaying.proofs.Telling.{broken_here, ended_told, once_6, once_7, owned_lent, told_as}
 use Rattle.replaying.proofs.replay_examined.Statement.{statement}
 use Rattle.replaying.proofs.replay_examined.Tie as tie
 
@@ -45,14 +45,14 @@ all_there c = all_items c.args.events.now (length c.args.events.now / 2) (half (
 returns : tie.Need-returns
 returns c =
     let a = c.before.before.before.before.before.args in
-    told_as (once-7 (plan_by a.plan.now) a.state (items_of a.events.now) (length a.trace.now)
+    told_as (once_7 (plan_by a.plan.now) a.state (items_of a.events.now) (length a.trace.now)
     (not-true _ c.before.before.before.if1.true)) refl c.before.stopped.ensures
 
 returns-2 : tie.Need-returns-2
 returns-2 c =
     let o = c.before.before.before.before in
     let a = o.before.before.before.args in
-    told_as (once-6 (plan_by a.plan.now) a.state (items_of a.events.now) (length a.trace.now)
+    told_as (once_6 (plan_by a.plan.now) a.state (items_of a.events.now) (length a.trace.now)
     (not-false _ o.before.if1.false) (sym o.own.ensures ∙ not-true _ c.before.before.before.if2.true)) refl
     c.before.stopped2.ensures
 
@@ -62,7 +62,7 @@ go-through-requires c κs =
     let s = start-from-else2 e in (
       s.pre,
       (half (length s.args.events.now)).0,
-      owned-lent (ready e) (sized_of s) c.before.before.before.before.before.before.before.lend.ensures s.args.trace.now,
+      owned_lent (ready e) (sized_of s) c.before.before.before.before.before.before.before.lend.ensures s.args.trace.now,
       c.before.before.before.before.before.before.links_of.ensures,
     )
 
@@ -73,7 +73,7 @@ as-posted-requires c κs =
     let s = start-from-else2 e in (
       s.pre,
       ready e,
-      broken-here (ready e) (sized_of s) g.before.before.before.before.before.before.before.before.lend.ensures
+      broken_here (ready e) (sized_of s) g.before.before.before.before.before.before.before.before.lend.ensures
           s.args.trace.now (all_there s) g.go_through.ensures c.before.before.if3.true,
       g.before.before.before.before.before.before.before.links_of.ensures,
     )
@@ -91,7 +91,7 @@ returns-4 c =
     let g = c.before.before.before.before.before in
     let e = else2-from-call g.before in
     let s = start-from-else2 e in
-    ended-told (ready e) (sized_of s) g.before.before.before.before.before.before.before.before.lend.ensures
+    ended_told (ready e) (sized_of s) g.before.before.before.before.before.before.before.before.lend.ensures
     s.args.trace.now
     (all_there s)
     g.go_through.ensures c.before.before.before.if3.false c.before.told.ensures

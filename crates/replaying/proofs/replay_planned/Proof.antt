@@ -4,7 +4,7 @@ use native.Mathlib.Omega.{arith}
 use lib.ListN.{length, length-map}
 use borrow.Author.Rules.{rules}
 use Rattle.invariants.specs.Good.{Sized}
-use Rattle.replaying.proofs.Events.{replay-is, replay-none}
+use Rattle.replaying.proofs.Events.{replay_is, replay_none}
 use Rattle.replaying.proofs.Telling.{told_as}
 use Rattle.replaying.proofs.replay_planned.Statement.{statement}
 use Rattle.replaying.proofs.replay_planned.Tie as tie
@@ -23,7 +23,7 @@ sized_of c =
 returns : tie.Need-returns
 returns c =
     let a = c.before.before.before.before.args in
-    told_as (replay-none a.plan.now a.state (length a.trace.now) a.events.now c.before.before.before.if1.true) refl
+    told_as (replay_none a.plan.now a.state (length a.trace.now) a.events.now c.before.before.before.if1.true) refl
     c.before.stopped.ensures
 
 replay-examined-requires : tie.Need-replay-examined-requires
@@ -34,7 +34,7 @@ returns-2 c =
     let e = c.before.before.before.before in
     let s = e.before in
     let a = s.args in
-    told_as (replay-is a.plan.now a.state (length a.trace.now) (sized_of s) a.events.now (omega (arith, e.if1.false))
+    told_as (replay_is a.plan.now a.state (length a.trace.now) (sized_of s) a.events.now (omega (arith, e.if1.false))
     s.requires) refl c.before.replay_examined.ensures
 
 pub replay-planned-spec : {M : Type 1} → statement M

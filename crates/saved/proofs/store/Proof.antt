@@ -5,7 +5,7 @@ use native.Mathlib.Omega.{arith}
 use lib.ListN.{length-map, length-set}
 use Rattle.numbers.proofs.Laws.{back32}
 use Rattle.invariants.specs.Good.{Sized}
-use Rattle.saved.proofs.Storing.{none_written, first-written, all-written}
+use Rattle.saved.proofs.Storing.{none_written, first_written, all_written}
 use Rattle.saved.proofs.store.Statement.{statement}
 use Rattle.saved.proofs.store.Tie as tie
 
@@ -74,8 +74,8 @@ same_length c =
 returns-2 : tie.Need-returns-2
 returns-2 c =
     let k = (else1-from-numbers4 c).before in
-    all-written k.args.state (sized_of k) k.args.numbers.now (else1-from-numbers4 c).if1.false _ _ _
-    _ _ (first-written k.args.state (sized_of k) k.args.numbers.now
+    all_written k.args.state (sized_of k) k.args.numbers.now (else1-from-numbers4 c).if1.false _ _ _
+    _ _ (first_written k.args.state (sized_of k) k.args.numbers.now
     (else1-from-numbers4 c).if1.false _
     (back32 _ (mark-from-numbers4 c).mark.type-inv ∙ (mark-from-numbers4 c).mark.ensures))
     (numbers-from-store-queue-arg c.before.before).before.store_active.ensures

@@ -3,7 +3,7 @@
 use mathlib.Core.Path.{◌≡◌, refl, ◌∙◌}
 use lib.ListN.{length}
 use Rattle.meaning.specs.Value.{VALUE}
-use Rattle.session.proofs.Opening.{open-refused, open_started, read-ruled}
+use Rattle.session.proofs.Opening.{open_refused, open_started, read_ruled}
 use borrow.Author.Rules.{rules}
 use Rattle.session.proofs.begin.Statement.{statement}
 use Rattle.session.proofs.begin.Tie as tie
@@ -13,7 +13,7 @@ returns c =
     let none = c.before.before.before.before.before in
     let test = none.before in
     let call = test.before.before.before in
-    open-refused _ _ _ _ _ _ _ (rw call.before.before.before.before.requires.0 at call.read.ensures.result) test.if1.true refl
+    open_refused _ _ _ _ _ _ _ (rw call.before.before.before.before.requires.0 at call.read.ensures.result) test.if1.true refl
     (rw none.unstarted.ensures.result at c.before.before.before.refusal.ensures)
 
 started-requires : tie.Need-started-requires
@@ -24,7 +24,7 @@ started-requires c κs =
     let e = rw top.requires.0 at call.read.ensures.result in
     let m = rw top.requires.0 at call.read.ensures.lent in
     let j : length call.read.new.1.0 ≡ length top.args.chart.now = search rules in
-    (read-ruled _ _ _ e m (j ∙ top.requires.0) test.if1.false, top.requires.1)
+    (read_ruled _ _ _ e m (j ∙ top.requires.0) test.if1.false, top.requires.1)
 
 returns-2 : tie.Need-returns-2
 returns-2 c =

@@ -2,7 +2,7 @@
 use mathlib.Core.Path.{sym, ◌∙◌}
 use Rattle.meaning.specs.Value.{chart_of}
 use Rattle.meaning.specs.Program.{do_line}
-use Rattle.session.proofs.Steps.{end-begun, end_none}
+use Rattle.session.proofs.Steps.{end_begun, end_none}
 use borrow.Author.Rules.{rules}
 use Rattle.session.proofs.finish.Statement.{statement}
 use Rattle.session.proofs.finish.Tie as tie
@@ -11,7 +11,7 @@ returns : tie.Need-returns
 returns c =
     let test = c.before.before.before.before.before.before in
     let began = test.before in
-    end-begun (do_line (chart_of began.before.before.before.args.chart.now)) _ _ _ _ _ _
+    end_begun (do_line (chart_of began.before.before.before.args.chart.now)) _ _ _ _ _ _
     c.before.before.before.line_ends.ensures
     (sym began.began.ensures ∙ test.if1.true)
 

@@ -1,7 +1,7 @@
 -- `started` starts a widget and prints what the start gives. Assumes nothing.
 use mathlib.Core.Path.{◌≡◌, ◌∙◌}
 use lib.ListN.{length}
-use Rattle.session.proofs.Steps.{start-takes}
+use Rattle.session.proofs.Steps.{start_takes}
 use borrow.Author.Rules.{rules}
 use Rattle.session.proofs.started.Statement.{statement}
 use Rattle.session.proofs.started.Tie as tie
@@ -13,7 +13,7 @@ returns c =
     let top = none.before.before in
     let k : length call.start_checked.new.1.1.0 ≡ length top.args.trace.now = search rules in
     rw none.unstarted.ensures.result at
-    (start-takes _ _ _ _ _ _ top.requires.0 _ _ top.requires.1 (k ∙ top.requires.1) _
+    (start_takes _ _ _ _ _ _ top.requires.0 _ _ top.requires.1 (k ∙ top.requires.1) _
     c.before.before.before.report.ensures call.start_checked.ensures)
 
 pub started-spec : {M : Type 1} → statement M

@@ -5,7 +5,7 @@ use lib.Signed.{mag}
 use Rattle.numbers.proofs.Laws.{back32}
 use Rattle.meaning.specs.Calls.{called}
 use Rattle.chart_engine.proofs.ByRules.{post_on}
-use Rattle.session.proofs.Steps.{turn-wrong, turn-refused, turn-ran}
+use Rattle.session.proofs.Steps.{turn_wrong, turn_refused, turn_ran}
 use borrow.Author.Rules.{rules}
 use Rattle.session.proofs.turn.Statement.{statement}
 use Rattle.session.proofs.turn.Tie as tie
@@ -24,7 +24,7 @@ returns c =
     let m : mag said.line.given.0.0 < 2 ^ 31 = search rules in
     let n : mag said.line.given.0.1.0 < 2 ^ 31 = search rules in
     let told = rw (back32 said.line.given.0.0 m, back32 said.line.given.0.1.0 n) at posted.post_checked.ensures.result in
-    turn-refused _ _ _ _ _ _ _ _ _ said.line.given.1 _
+    turn_refused _ _ _ _ _ _ _ _ _ said.line.given.1 _
     (told ∙ ap called (post_on top.args.chart.now top.args.state top.pre.0 _ _))
     (then1-from-slice-known2 c).if1.true c.before.before.refusal.ensures
 
@@ -36,12 +36,12 @@ returns-2 c =
     let m : mag said.line.given.0.0 < 2 ^ 31 = search rules in
     let n : mag said.line.given.0.1.0 < 2 ^ 31 = search rules in
     let told = rw (back32 said.line.given.0.0 m, back32 said.line.given.0.1.0 n) at posted.post_checked.ensures.result in
-    turn-ran _ _ _ _ _ _ _ _ _ said.line.given.1 _
+    turn_ran _ _ _ _ _ _ _ _ _ said.line.given.1 _
     (told ∙ ap called (post_on top.args.chart.now top.args.state top.pre.0 _ _))
     (else1-from-trace c).if1.false c.before.before.before.ran.ensures
 
 returns-3 : tie.Need-returns-3
-returns-3 c = turn-wrong _ _ _ _ _ _ _ c.before.before.before.before.enum_told.given.1 c.before.before.refusal2.ensures
+returns-3 c = turn_wrong _ _ _ _ _ _ _ c.before.before.before.before.enum_told.given.1 c.before.before.refusal2.ensures
 
 pub turn_spec : {M : Type 1} → statement M
 turn_spec = tie.close

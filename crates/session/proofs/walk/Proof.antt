@@ -7,7 +7,7 @@ use lib.ListN.{length}
 use Rattle.meaning.specs.Value.{chart_of}
 use Rattle.meaning.specs.Program.{ROOM, do_line}
 use Rattle.session.specs.Turned.{seen}
-use Rattle.session.proofs.WalkLaws.{Walking, walk_begins, walk-line, walk_ends, walk-done, walk-full}
+use Rattle.session.proofs.WalkLaws.{Walking, walk_begins, walk_line, walk_ends, walk_done, walk_full}
 use borrow.Author.Rules.{rules}
 use Rattle.session.proofs.walk.Statement.{statement}
 use Rattle.session.proofs.walk.Tie as tie
@@ -55,17 +55,17 @@ loop-again c =
     let test = else2-from-struct-known2 c in
     let room = test.before.before.before.before in
     let at-loop = room.before.before.before.before in (
-      walk-line _ _ _ _ _ _ _ _ _ at-loop.loop.inv.0 _ (sym room.before.has_room.ensures ∙ not-false _ room.if1.left)
+      walk_line _ _ _ _ _ _ _ _ _ at-loop.loop.inv.0 _ (sym room.before.has_room.ensures ∙ not-false _ room.if1.left)
           test.before.before.before.collect.ensures test.if2.left _ _ c.before.before.before.before.line_ends.ensures,
       search rules,
     )
 
 returns : tie.Need-returns invariant-loop decreases-loop
-returns c = walk-done _ _ _ _ _ _ _ _ _ c.before.loop.invariant.0 c.loop-test.false
+returns c = walk_done _ _ _ _ _ _ _ _ _ c.before.loop.invariant.0 c.loop-test.false
 
 returns-2 : tie.Need-returns-2 invariant-loop decreases-loop
 returns-2 c =
-    walk-full _ _ _ _ _ _ _ _ _ c.before.before.before.before.loop.invariant.0
+    walk_full _ _ _ _ _ _ _ _ _ c.before.before.before.before.loop.invariant.0
     (sym c.before.has_room.ensures ∙ not-true _ c.if1.true)
 
 returns-3 : tie.Need-returns-3 invariant-loop decreases-loop

@@ -8,8 +8,8 @@ use borrow.Author.Rules.{rules}
 use Rattle.meaning.specs.Value.{chart_of}
 use Rattle.meaning.specs.Program.{ROOM, do_line}
 use Rattle.session.specs.Turned.{LARGEST, seen}
-use Rattle.session.proofs.WalkLaws.{walks-on}
-use Rattle.trace.proofs.Feeding.{Feeding, feeding-begins, feeding-on, feeding-done}
+use Rattle.session.proofs.WalkLaws.{walks_on}
+use Rattle.trace.proofs.Feeding.{Feeding, feeding_begins, feeding_on, feeding_done}
 use Rattle.trace.proofs.feed_all.Statement.{statement}
 use Rattle.trace.proofs.feed_all.Tie as tie
 
@@ -25,7 +25,7 @@ abbrev walk-from-with-room : tie.After-with-room invariant-loop decreases-loop �
 walk-from-with-room c = c.before.before.before.before.before.before.before
 
 loop-holds : tie.Need-loop-init invariant-loop decreases-loop
-loop-holds c = (feeding-begins _ _ _, search rules, search rules, search rules)
+loop-holds c = (feeding_begins _ _ _, search rules, search rules, search rules)
 
 with-room-requires : tie.Need-with-room-requires invariant-loop decreases-loop
 with-room-requires c κs =
@@ -39,18 +39,18 @@ loop-again : tie.Need-loop-preserved invariant-loop decreases-loop
 loop-again c =
     let walk = walk-from-with-room c in
     let top = walk.before.before.before.before in
-    (feeding-on _ _ _ _ _ top.loop.inv.0 _ _ _ _ walk.walk.ensures, search rules, search rules, search rules)
+    (feeding_on _ _ _ _ _ top.loop.inv.0 _ _ _ _ walk.walk.ensures, search rules, search rules, search rules)
 
 loop-less : tie.Need-loop-smaller invariant-loop decreases-loop
 loop-less c =
     let walk = walk-from-with-room c in
     let test = walk.before.before.before in
-    let on = walks-on _ _ _ _ _ _ _ _ walk.walk.ensures test.loop-test.taken test.before.loop.inv.2 in
+    let on = walks_on _ _ _ _ _ _ _ _ walk.walk.ensures test.loop-test.taken test.before.loop.inv.2 in
     let more = test.loop-test.taken in
     omega arith
 
 returns : tie.Need-returns invariant-loop decreases-loop
-returns c = record { under = feeding-done _ _ _ _ _ c.before.loop.invariant.0 c.loop-test.false; room = c.before.loop.invariant.2 }
+returns c = record { under = feeding_done _ _ _ _ _ c.before.loop.invariant.0 c.loop-test.false; room = c.before.loop.invariant.2 }
 
 pub feed-all-spec : {M : Type 1} → statement M
 feed-all-spec = tie.close (tie.spec invariant-loop decreases-loop

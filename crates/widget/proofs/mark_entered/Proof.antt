@@ -1,6 +1,6 @@
 -- `mark_entered` writes the entry of a state entered and then sets its mark. Assumes nothing.
 use Rattle.numbers.proofs.Laws.{back32}
-use Rattle.widget.proofs.Effects.{entered-stop, entered_on}
+use Rattle.widget.proofs.Effects.{entered_stop, entered_on}
 use borrow.Author.Rules.{rules}
 use Rattle.widget.proofs.mark_entered.Statement.{statement}
 use Rattle.widget.proofs.mark_entered.Tie as tie
@@ -8,7 +8,7 @@ use Rattle.widget.proofs.mark_entered.Tie as tie
 returns : tie.Need-returns
 returns c = (
   search rules,
-  λ k. entered-stop (rw (
+  λ k. entered_stop (rw (
     back32 c.before.before.before.before.before.number.result
         c.before.before.before.before.before.number.type-inv,
     c.before.before.before.before.before.number.ensures,

@@ -3,7 +3,7 @@
 use mathlib.Core.Path.{◌∙◌}
 use native.Mathlib.Omega.{arith}
 use Rattle.numbers.proofs.Laws.{back32}
-use Rattle.widget.proofs.Effects.{left-stop, left_alone, left_in}
+use Rattle.widget.proofs.Effects.{left_stop, left_alone, left_in}
 use borrow.Author.Rules.{rules}
 use Rattle.widget.proofs.mark_left.Statement.{statement}
 use Rattle.widget.proofs.mark_left.Tie as tie
@@ -11,7 +11,7 @@ use Rattle.widget.proofs.mark_left.Tie as tie
 returns : tie.Need-returns
 returns c = (
   search rules,
-  λ k. left-stop c.before.before.before.before.before.before.args.p
+  λ k. left_stop c.before.before.before.before.before.before.args.p
       (rw (
         back32 c.before.before.before.before.before.number.result
             c.before.before.before.before.before.number.type-inv,

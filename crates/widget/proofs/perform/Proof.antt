@@ -3,7 +3,7 @@ use mir.Facts.{to_z-of_z}
 use mir.Syntax.{w32}
 use mir.Val.{SFits}
 use Rattle.widget.specs.View.{with_vars, with_queue}
-use Rattle.widget.proofs.Effects.{act-set, act-add, act-take, act-send, act-tell}
+use Rattle.widget.proofs.Effects.{act_set, act_add, act_take, act_send, act_tell}
 use borrow.Author.Rules.{rules}
 use Rattle.widget.proofs.perform.Statement.{statement}
 use Rattle.widget.proofs.perform.Tie as tie
@@ -27,7 +27,7 @@ returns c =
     let s = a.before.before in
     let fx : SFits w32 a.act.given.0.1.0 = search rules in (
       search rules,
-      λ k. act-set s.args.row s.args.arg a.act.given.1
+      λ k. act_set s.args.row s.args.arg a.act.given.1
           (rw (to_z-of_z fx) at (c.before.assign.ensures.1 (with_queue s.args.queue.now k))),
     )
 
@@ -37,7 +37,7 @@ returns-2 c =
     let s = a.before.before in
     let fx : SFits w32 a.act2.given.0.1.0 = search rules in (
       search rules,
-      λ k. act-add s.args.row s.args.arg a.act2.given.1
+      λ k. act_add s.args.row s.args.arg a.act2.given.1
           (rw (to_z-of_z fx) at (c.before.add.ensures.1 (with_queue s.args.queue.now k))),
     )
 
@@ -46,7 +46,7 @@ returns-3 c =
     let a = c.before.before.before.before.before in
     let s = a.before.before in (
       search rules,
-      λ k. act-take s.args.row s.args.arg a.act3.given.1
+      λ k. act_take s.args.row s.args.arg a.act3.given.1
           (rw (to_z-of_z s.ranges.arg) at (c.before.assign2.ensures.1 (with_queue s.args.queue.now k))),
     )
 
@@ -65,7 +65,7 @@ start-from-trace4 c = (act4-from-trace4 c).before.before
 returns-4 : tie.Need-returns-4
 returns-4 c = (
   search rules,
-  λ k. let fx : SFits w32 (act4-from-trace4 c).act4.given.0.1.0 = search rules in act-send
+  λ k. let fx : SFits w32 (act4-from-trace4 c).act4.given.0.1.0 = search rules in act_send
       (start-from-trace4 c).args.row (start-from-trace4 c).args.arg
       (act4-from-trace4 c).act4.given.1
       (rw (to_z-of_z fx) at
@@ -75,7 +75,7 @@ returns-4 c = (
 returns-5 : tie.Need-returns-5
 returns-5 c = (
   search rules,
-  λ k. let fx : SFits w32 (act5-from-trace5 c).act5.given.0.0 = search rules in act-tell
+  λ k. let fx : SFits w32 (act5-from-trace5 c).act5.given.0.0 = search rules in act_tell
       (start-from-trace5 c).args.row (start-from-trace5 c).args.arg
       (act5-from-trace5 c).act5.given.1
       (rw (to_z-of_z fx) at (c.before.tell.ensures.1 (with_vars (start-from-trace5 c).args.vars.now

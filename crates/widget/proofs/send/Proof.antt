@@ -2,7 +2,7 @@
 use borrow.Author.Tests.{not-true, not-false}
 use Rattle.numbers.proofs.Laws.{back32}
 use mir.Facts.{to_z-of_z}
-use Rattle.widget.proofs.Effects.{sending-stop, sending-full, sending-on}
+use Rattle.widget.proofs.Effects.{sending_stop, sending_full, sending_on}
 use borrow.Author.Rules.{rules}
 use Rattle.widget.proofs.send.Statement.{statement}
 use Rattle.widget.proofs.send.Tie as tie
@@ -10,7 +10,7 @@ use Rattle.widget.proofs.send.Tie as tie
 returns : tie.Need-returns
 returns c = (
   search rules,
-  λ k. sending-stop (rw (
+  λ k. sending_stop (rw (
     back32 c.before.before.before.before.before.number.result
         c.before.before.before.before.before.number.type-inv,
     c.before.before.before.before.before.number.ensures,
@@ -21,7 +21,7 @@ returns c = (
 returns-2 : tie.Need-returns-2
 returns-2 c = (
   search rules,
-  λ k. sending-full (rw (
+  λ k. sending_full (rw (
     back32 c.before.before.before.before.before.before.before.before.number.result
         c.before.before.before.before.before.before.before.before.number.type-inv,
     c.before.before.before.before.before.before.before.before.number.ensures,
@@ -39,7 +39,7 @@ returns-2 c = (
 returns-3 : tie.Need-returns-3
 returns-3 c = (
   search rules,
-  λ k. sending-on (rw (
+  λ k. sending_on (rw (
     back32 c.before.before.before.before.before.before.before.before.number.result
         c.before.before.before.before.before.before.before.before.number.type-inv,
     c.before.before.before.before.before.before.before.before.number.ensures,

@@ -1,6 +1,6 @@
 -- `write_passed`: the slice is set to 0, the text put from its start on, and the place after it tells whether all of it fitted. Assumes
 -- nothing.
-use Rattle.writer.proofs.WriteLaws.{wrote-over, wrote-in}
+use Rattle.writer.proofs.WriteLaws.{wrote_over, wrote_in}
 use Rattle.round_trip.proofs.Round.{passes}
 use native.Mathlib.Omega.{arith}
 use borrow.Author.Rules.{rules}
@@ -24,14 +24,14 @@ put-chart-requires c κs = (passes (start-from-put-chart-arg c).args.chart.now (
 
 returns : tie.Need-returns
 returns c =
-    wrote-over (start-from-slice-known4 c).args.chart.now (start-from-slice-known4 c).requires _ _ _ _
+    wrote_over (start-from-slice-known4 c).args.chart.now (start-from-slice-known4 c).requires _ _ _ _
     (clear-from-slice-known4 c).clear.ensures
     c.before.before.before.before.before.before.before.put_chart.ensures (omega arith) _ _
     (omega arith) c.before.before.clear2.ensures
 
 returns-2 : tie.Need-returns-2
 returns-2 c =
-    wrote-in (start-from-else1 c).args.chart.now (start-from-else1 c).requires _ _ _ _
+    wrote_in (start-from-else1 c).args.chart.now (start-from-else1 c).requires _ _ _ _
     c.before.before.before.before.before.before.before.clear.ensures
     c.before.before.before.put_chart.ensures (omega arith)
 

@@ -1,7 +1,7 @@
 -- `first_row` reads what the index says of the owner. Assumes nothing.
 use native.Mathlib.Omega.{arith}
 use borrow.Author.Rules.{rules}
-use Rattle.chart_rows.proofs.Rows.{actions-most}
+use Rattle.chart_rows.proofs.Rows.{actions_most}
 use Rattle.acts.proofs.Finding.{key_within, first_read}
 use Rattle.acts.proofs.index.first_row.Statement.{statement}
 use Rattle.acts.proofs.index.first_row.Tie as tie
@@ -24,7 +24,7 @@ sub-result c =
 
 cast-rows : tie.Need-overflow-cast-rows
 cast-rows c =
-    omega (arith, sub-result c, c.before.action_count.ensures, actions-most c.before.before.before.args.chart.now)
+    omega (arith, sub-result c, c.before.action_count.ensures, actions_most c.before.before.before.args.chart.now)
 
 returns : tie.Need-returns
 returns c =

@@ -4,7 +4,7 @@ use Prim.Native.Nat.{◌-◌, ◌<◌}
 use native.Mathlib.Omega.{arith}
 use borrow.Author.Rules.{rules}
 use Rattle.meaning.specs.Value.{chart_of}
-use Rattle.chart_rows.proofs.Rows.{actions-most}
+use Rattle.chart_rows.proofs.Rows.{actions_most}
 use Rattle.acts.specs.Index.{OWNERS}
 use Rattle.acts.proofs.Finding.{Building, building_begin, building_on, building_end, key_within, owner_fits}
 use Rattle.acts.proofs.index.index_of.Statement.{statement}
@@ -64,13 +64,13 @@ pub index-of-spec : {M : Type 1} → statement M
 index-of-spec = tie.close (tie.spec invariant-loop decreases-loop (λ c κs. search rules) loop-holds
     (λ c. search rules) owner-at-requires key-of-requires (λ c. omega (arith, key-low c, (at-loop-from-key-of c).loop.invariant.size))
     (λ c. omega (arith, key-low c, (at-loop-from-key-of c).loop.invariant.size))
-    (λ c. omega (arith, (at-loop-from-key-of c).loop.invariant.within, actions-most (start-from-key-of c).args.chart.now))
-    (λ c. omega (arith, (at-loop-from-key-of c).loop.invariant.within, actions-most (start-from-key-of c).args.chart.now))
+    (λ c. omega (arith, (at-loop-from-key-of c).loop.invariant.within, actions_most (start-from-key-of c).args.chart.now))
+    (λ c. omega (arith, (at-loop-from-key-of c).loop.invariant.within, actions_most (start-from-key-of c).args.chart.now))
     (λ c. omega (
       arith,
       (at-loop-from-key-of c).loop.invariant.within,
       (at-loop-from-key-of c).loop.invariant.size,
-      actions-most
+      actions_most
           (start-from-key-of c).args.chart.now,
     ))
     sub-rows
@@ -78,7 +78,7 @@ index-of-spec = tie.close (tie.spec invariant-loop decreases-loop (λ c κs. sea
       arith,
       (at-loop-from-key-of c).loop.invariant.within,
       (at-loop-from-key-of c).before.action_count.ensures,
-      actions-most
+      actions_most
           (start-from-key-of c).args.chart.now,
     )) (λ c. omega (arith, key-low c, (at-loop-from-key-of c).loop.invariant.size))
     (λ c. omega (arith, key-low c, (at-loop-from-key-of c).loop.invariant.size)) (λ c. search rules) loop-again returns)

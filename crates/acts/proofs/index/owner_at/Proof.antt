@@ -4,7 +4,7 @@ use native.Mathlib.Omega.{arith}
 use borrow.Author.Rules.{rules}
 use Rattle.meaning.specs.Value.{owner_by}
 use Rattle.chart_rows.proofs.Said.{said_of2}
-use Rattle.chart_rows.proofs.Rows.{actions-most}
+use Rattle.chart_rows.proofs.Rows.{actions_most}
 use Rattle.acts.proofs.Finding.{owner_said}
 use Rattle.acts.proofs.index.owner_at.Statement.{statement}
 use Rattle.acts.proofs.index.owner_at.Tie as tie
@@ -18,6 +18,6 @@ returns c =
     ∙ owner_said top.args.chart.now top.args.i top.requires
 
 pub owner-at-spec : {M : Type 1} → statement M
-owner-at-spec = tie.close (tie.spec (λ c. omega (arith, actions-most c.args.chart.now))
-    (λ c. omega (arith, actions-most c.args.chart.now)) (λ c κs. search rules)
-    (λ c. omega (arith, actions-most c.before.args.chart.now)) (λ c κs. search rules) (λ c κs. search rules) returns)
+owner-at-spec = tie.close (tie.spec (λ c. omega (arith, actions_most c.args.chart.now))
+    (λ c. omega (arith, actions_most c.args.chart.now)) (λ c κs. search rules)
+    (λ c. omega (arith, actions_most c.before.args.chart.now)) (λ c κs. search rules) (λ c κs. search rules) returns)

@@ -1,5 +1,5 @@
 -- `put_defaults` puts each child that is due by default, with what is below it. The measure is how many states are left. Assumes nothing.
-use Rattle.chart_rows.proofs.Rows.{states-most}
+use Rattle.chart_rows.proofs.Rows.{states_most}
 use mathlib.Core.Path.{◌∙◌, refl, sym}
 use Prim.Native.Nat.{◌-◌}
 use borrow.Author.Tests.{not-true, not-false}
@@ -7,7 +7,7 @@ use Rattle.meaning.specs.Value.{chart_of}
 use Rattle.meaning.specs.Compile.{visit_code}
 use Rattle.meaning.specs.Entry.{by_defaults, defaults}
 use Rattle.tree.proofs.Among.{defaults_way, defaults_on}
-use Rattle.blocks.proofs.Descent.{Going, going-begin, going-skip, going-room, going-room-below, going_on, going-size, going_end}
+use Rattle.blocks.proofs.Descent.{Going, going_begin, going_skip, going_room, going_room_below, going_on, going_size, going_end}
 use borrow.Author.Rules.{rules}
 use native.Mathlib.Omega.{arith}
 use Prim.Native.Nat.{ℕ, ◌<◌}
@@ -120,7 +120,7 @@ put-defaults-kids-within-requires t c κs = (c.requires.1.0.ruled, c.requires.1.
 put-defaults-loop-holds :
     (t : ℕ) → put-defaults-lts.Need-loop-init (put-defaults-knows t) (put-defaults-at t) put_defaults.Post
     put-defaults-Inv-loop put-defaults-μ-loop
-put-defaults-loop-holds t c = going-begin _ _ by_defaults defaults _ _ _ _ _ _ (defaults_way _) c.kids_within.ensures
+put-defaults-loop-holds t c = going_begin _ _ by_defaults defaults _ _ _ _ _ _ (defaults_way _) c.kids_within.ensures
 
 put-defaults-add-d :
     (t : ℕ) → put-defaults-lts.Need-overflow-add-d (put-defaults-knows t) (put-defaults-at t) put_defaults.Post
@@ -130,7 +130,7 @@ put-defaults-add-d t c =
       arith,
       c.before.before.loop-test.true,
       (kids-within-from-then1 t c).kids_within.ensures.within,
-      states-most (kids-within-from-then1 t c).before.args.chart.now,
+      states_most (kids-within-from-then1 t c).before.args.chart.now,
     )
 
 put-defaults-loop-less :
@@ -142,7 +142,7 @@ put-defaults-loop-again :
     (t : ℕ) → put-defaults-lts.Need-loop-preserved (put-defaults-knows t) (put-defaults-at t) put_defaults.Post
     put-defaults-Inv-loop put-defaults-μ-loop
 put-defaults-loop-again t c =
-    going-skip _ _ _ _ _ _ _ _ _ _ c.before.before.before.loop.invariant
+    going_skip _ _ _ _ _ _ _ _ _ _ c.before.before.before.loop.invariant
     c.before.before.loop-test.true (sym c.before.is_child.ensures ∙ not-true _ c.if1.true)
 
 put-defaults-put-visit-requires :
@@ -156,7 +156,7 @@ put-defaults-put-visit-requires t c κs = (
     (in-loop-from-put-visit-arg t c).before.before.kids_within.ensures.within,
     (in-loop-from-put-visit-arg t c).loop-test.true,
   ),
-  going-room _ _ _ _ _ _ _ _ _ _ (in-loop-from-put-visit-arg t c).before.loop.invariant
+  going_room _ _ _ _ _ _ _ _ _ _ (in-loop-from-put-visit-arg t c).before.loop.invariant
       (in-loop-from-put-visit-arg t c).loop-test.true
       (sym c.before.before.is_child.ensures ∙ not-false _ c.before.if1.false)
       (start-from-put-visit-arg t c).requires.1.2,
@@ -196,7 +196,7 @@ put-defaults-put-defaults-requires t c κs = (
       (kids-within-from-put-defaults-arg t c).kids_within.ensures.within,
       (in-loop-from-put-defaults-arg t c).loop-test.true,
     ),
-    going-room-below _ _ _ _ _ _ _ _ _ _ (at-loop-from-put-defaults-arg t c).loop.invariant
+    going_room_below _ _ _ _ _ _ _ _ _ _ (at-loop-from-put-defaults-arg t c).loop.invariant
         (in-loop-from-put-defaults-arg t c).loop-test.true
         (sym (else1-from-put-defaults-arg t c).before.is_child.ensures ∙ not-false _
         (else1-from-put-defaults-arg t c).if1.false) c.before.before.put_visit.ensures
@@ -212,7 +212,7 @@ put-defaults-add-d-2 t c =
       arith,
       (in-loop-from-plan2 t c).loop-test.true,
       (in-loop-from-plan2 t c).before.before.kids_within.ensures.within,
-      states-most (start-from-put-defaults-arg t c.before.before).args.chart.now,
+      states_most (start-from-put-defaults-arg t c.before.before).args.chart.now,
     )
 
 put-defaults-loop-less-2 :
@@ -233,7 +233,7 @@ put-defaults-loop-again-2 t c =
 put-defaults-same-length :
     (t : ℕ) → put-defaults-lts.Need-same-length (put-defaults-knows t) (put-defaults-at t) put_defaults.Post
     put-defaults-Inv-loop put-defaults-μ-loop
-put-defaults-same-length t c = omega (arith, going-size _ _ _ _ _ _ _ _ _ _ c.before.loop.invariant)
+put-defaults-same-length t c = omega (arith, going_size _ _ _ _ _ _ _ _ _ _ c.before.loop.invariant)
 
 put-defaults-returns :
     (t : ℕ) → put-defaults-lts.Need-returns (put-defaults-knows t) (put-defaults-at t) put_defaults.Post

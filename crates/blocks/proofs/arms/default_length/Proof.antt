@@ -3,7 +3,7 @@ use mathlib.Core.Path.{ap}
 use lib.ListN.{length}
 use Rattle.meaning.specs.Value.{chart_of}
 use Rattle.emitter.proofs.Laws.{emits_at}
-use Rattle.blocks.proofs.Joining.{arm-as}
+use Rattle.blocks.proofs.Joining.{arm_as}
 use native.Mathlib.Omega.{arith}
 use borrow.Author.Rules.{rules}
 use Rattle.blocks.proofs.arms.default_length.Statement.{statement}
@@ -22,7 +22,7 @@ put-defaults-requires c κs = (
   omega (
     arith,
     c.before.before.requires.2,
-    ap length (arm-as (chart_of c.before.before.args.chart.now) c.before.before.args.b
+    ap length (arm_as (chart_of c.before.before.args.chart.now) c.before.before.args.b
         c.before.state_count.result c.before.state_count.ensures),
   ),
 )
@@ -32,7 +32,7 @@ returns c =
     omega (
       arith,
       emits_at _ _ _ c.before.put_defaults.ensures,
-      ap length (arm-as (chart_of (start-from-none2 c).args.chart.now) (start-from-none2 c).args.b
+      ap length (arm_as (chart_of (start-from-none2 c).args.chart.now) (start-from-none2 c).args.b
           (state-count-from-none2 c).state_count.result (state-count-from-none2 c).state_count.ensures),
     )
 

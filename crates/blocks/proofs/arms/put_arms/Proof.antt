@@ -2,9 +2,9 @@
 use mathlib.Core.Path.{ap}
 use lib.ListN.{length}
 use Rattle.meaning.specs.Value.{chart_of}
-use Rattle.chart_rows.proofs.Rows.{states-most}
+use Rattle.chart_rows.proofs.Rows.{states_most}
 use Rattle.emitter.proofs.Laws.{emits_at}
-use Rattle.blocks.proofs.Joining.{arm-as, arms-put, arms_long}
+use Rattle.blocks.proofs.Joining.{arm_as, arms_put, arms_long}
 use native.Mathlib.Omega.{arith}
 use borrow.Author.Rules.{rules}
 use Rattle.blocks.proofs.arms.put_arms.Statement.{statement}
@@ -60,7 +60,7 @@ put-instr-requires c κs =
       c.before.before.before.default_length.ensures,
       arms_long (chart_of (start-from-put-instr-arg c).args.chart.now)
           (start-from-put-instr-arg c).args.b,
-      states-most (start-from-put-instr-arg c).args.chart.now,
+      states_most (start-from-put-instr-arg c).args.chart.now,
     )
 
 put-defaults-requires : tie.Need-put-defaults-requires
@@ -73,7 +73,7 @@ put-defaults-requires c κs = (
     arms_long (chart_of (start-from-put-defaults-arg c).args.chart.now)
         (start-from-put-defaults-arg c).args.b,
     emits_at _ _ _ c.before.before.put_instr.ensures,
-    ap length (arm-as (chart_of (start-from-put-defaults-arg c).args.chart.now)
+    ap length (arm_as (chart_of (start-from-put-defaults-arg c).args.chart.now)
         (start-from-put-defaults-arg c).args.b
         (state-count-from-put-defaults-arg c).state_count.result
         (state-count-from-put-defaults-arg c).state_count.ensures),
@@ -91,10 +91,10 @@ put-instr-requires-2 c κs =
           (start-from-put-instr-arg2 c).args.b,
       emits_at _ _ _ c.before.before.before.before.before.put_instr.ensures,
       emits_at _ _ _ c.before.before.put_defaults.ensures,
-      ap length (arm-as (chart_of (start-from-put-instr-arg2 c).args.chart.now)
+      ap length (arm_as (chart_of (start-from-put-instr-arg2 c).args.chart.now)
           (start-from-put-instr-arg2 c).args.b (state-count-from-put-instr-arg2 c).state_count.result
           (state-count-from-put-instr-arg2 c).state_count.ensures),
-      states-most (start-from-put-instr-arg2 c).args.chart.now,
+      states_most (start-from-put-instr-arg2 c).args.chart.now,
     )
 
 put-stored-arm-requires : tie.Need-put-stored-arm-requires
@@ -110,7 +110,7 @@ put-stored-arm-requires c κs = (
         (put-defaults-from-put-stored-arm-arg c).before.before.before.put_instr.ensures,
     emits_at _ _ _ (put-defaults-from-put-stored-arm-arg c).put_defaults.ensures,
     emits_at _ _ _ c.before.before.put-instr2.ensures,
-    ap length (arm-as (chart_of (start-from-put-stored-arm-arg c).args.chart.now)
+    ap length (arm_as (chart_of (start-from-put-stored-arm-arg c).args.chart.now)
         (start-from-put-stored-arm-arg c).args.b
         (state-count-from-put-stored-arm-arg c).state_count.result
         (state-count-from-put-stored-arm-arg c).state_count.ensures),
@@ -119,7 +119,7 @@ put-stored-arm-requires c κs = (
 
 returns : tie.Need-returns
 returns c =
-    arms-put (chart_of (start-from-plan4 c).args.chart.now) (start-from-plan4 c).args.b _
+    arms_put (chart_of (start-from-plan4 c).args.chart.now) (start-from-plan4 c).args.b _
     (state-count-from-put-stored-arm-arg c.before.before).state_count.ensures _ _ _
     (state-count-from-put-stored-arm-arg c.before.before).before.before.default_length.ensures
     (state-count-from-put-stored-arm-arg c.before.before).before.stored_length.ensures

@@ -1,12 +1,12 @@
 -- `put_stored_arm` puts every state below the owner, rising. Assumes nothing.
-use Rattle.chart_rows.proofs.Rows.{states-most}
+use Rattle.chart_rows.proofs.Rows.{states_most}
 use Prim.Native.Nat.{◌-◌, ◌≤◌, ◌<◌}
 use mathlib.Core.Path.{◌≡◌, refl}
 use Rattle.meaning.specs.Value.{chart_of}
 use Rattle.meaning.specs.Compile.{stored_code, stored_arm}
 use Rattle.tree.proofs.Passing.{sound}
 use Rattle.emitter.proofs.Laws.{same_size}
-use Rattle.blocks.proofs.Descent.{Rising, rising-begin, rising-room, rising-on, rising-end, end-inside}
+use Rattle.blocks.proofs.Descent.{Rising, rising_begin, rising_room, rising_on, rising_end, end_inside}
 use native.Mathlib.Omega.{arith}
 use Rattle.blocks.proofs.arms.put_stored_arm.Statement.{statement}
 use Rattle.blocks.proofs.arms.put_stored_arm.Tie as tie
@@ -35,13 +35,13 @@ end-below-requires : tie.Need-end-below-requires invariant-loop decreases-loop
 end-below-requires c κs = (c.requires.0.ruled, c.requires.1)
 
 add-d : tie.Need-overflow-add-d invariant-loop decreases-loop
-add-d c = omega (arith, c.before.requires.1, states-most c.before.args.chart.now)
+add-d c = omega (arith, c.before.requires.1, states_most c.before.args.chart.now)
 
 loop-holds : tie.Need-loop-init invariant-loop decreases-loop
 unfolding stored_arm
 loop-holds c = (
   omega arith,
-  rising-begin (chart_of c.before.args.chart.now)
+  rising_begin (chart_of c.before.args.chart.now)
       (sound c.before.args.chart.now c.before.requires.0.ruled) c.before.args.b
       c.before.requires.1 (stored_code (chart_of c.before.args.chart.now)) _ _ _
       c.end_Below.ensures,
@@ -54,7 +54,7 @@ put-stored-requires c κs = (
   omega (
     arith,
     c.before.loop-test.true,
-    end-inside (chart_of (start-from-put-stored-arg c).args.chart.now)
+    end_inside (chart_of (start-from-put-stored-arg c).args.chart.now)
         (sound (start-from-put-stored-arg c).args.chart.now
         (start-from-put-stored-arg c).requires.0.ruled) (start-from-put-stored-arg c).args.b
         (start-from-put-stored-arg c).requires.1
@@ -62,7 +62,7 @@ put-stored-requires c κs = (
         (start-from-put-stored-arg c).args.plan.now (start-from-put-stored-arg c).args.at _
         c.before.before.before.end_Below.ensures,
   ),
-  rising-room c.before.before.loop.invariant.1 c.before.loop-test.true
+  rising_room c.before.before.loop.invariant.1 c.before.loop-test.true
       (start-from-put-stored-arg c).requires.2,
 )
 
@@ -71,12 +71,12 @@ add-d-2 c =
     omega (
       arith,
       (in-loop-from-plan c).loop-test.true,
-      end-inside (chart_of (start-from-plan c).args.chart.now)
+      end_inside (chart_of (start-from-plan c).args.chart.now)
           (sound (start-from-plan c).args.chart.now (start-from-plan c).requires.0.ruled)
           (start-from-plan c).args.b (start-from-plan c).requires.1
           (stored_code (chart_of (start-from-plan c).args.chart.now)) (start-from-plan c).args.plan.now
           (start-from-plan c).args.at _ (at-loop-from-plan c).before.end_Below.ensures,
-      states-most (start-from-plan c).args.chart.now,
+      states_most (start-from-plan c).args.chart.now,
     )
 
 loop-less : tie.Need-loop-smaller invariant-loop decreases-loop
@@ -85,7 +85,7 @@ loop-less c = omega (arith, (in-loop-from-plan c).loop-test.true)
 loop-again : tie.Need-loop-preserved invariant-loop decreases-loop
 loop-again c = (
   omega (arith, (at-loop-from-plan c).loop.invariant.0),
-  rising-on (at-loop-from-plan c).loop.invariant.1 (in-loop-from-plan c).loop-test.true
+  rising_on (at-loop-from-plan c).loop.invariant.1 (in-loop-from-plan c).loop-test.true
       c.before.put_stored.ensures,
 )
 
@@ -93,7 +93,7 @@ same_length : tie.Need-same-length invariant-loop decreases-loop
 same_length c = omega (arith, same_size _ _ _ _ _ _ c.before.loop.invariant.1.owes)
 
 returns : tie.Need-returns invariant-loop decreases-loop
-returns c = rising-end c.before.loop.invariant.1 c.loop-test.false
+returns c = rising_end c.before.loop.invariant.1 c.loop-test.false
 
 pub put-stored-arm-spec : {M : Type 1} → statement M
 put-stored-arm-spec = tie.close (tie.spec invariant-loop

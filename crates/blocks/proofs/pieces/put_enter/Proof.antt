@@ -1,5 +1,5 @@
 -- `put_enter`: IN, then the entry actions. Assumes nothing.
-use Rattle.chart_rows.proofs.Rows.{states-most}
+use Rattle.chart_rows.proofs.Rows.{states_most}
 use Rattle.emitter.proofs.Laws.{put_first, emits_at}
 use Rattle.meaning.specs.Compile.{enter_code}
 use native.Mathlib.Omega.{arith}
@@ -12,7 +12,7 @@ start-from-put-acts-arg c = c.before.before.before.before
 
 put-instr-requires : tie.Need-put-instr-requires
 unfolding enter_code
-put-instr-requires c κs = omega (arith, c.before.requires.1, c.before.requires.2, states-most c.before.args.chart.now)
+put-instr-requires c κs = omega (arith, c.before.requires.1, c.before.requires.2, states_most c.before.args.chart.now)
 
 put-acts-requires : tie.Need-put-acts-requires
 unfolding enter_code
@@ -21,7 +21,7 @@ put-acts-requires c κs = (
   omega (
     arith,
     (start-from-put-acts-arg c).requires.1,
-    states-most (start-from-put-acts-arg c).args.chart.now,
+    states_most (start-from-put-acts-arg c).args.chart.now,
   ),
   omega (
     arith,

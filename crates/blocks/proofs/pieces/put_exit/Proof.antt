@@ -1,10 +1,10 @@
 -- `put_exit`: SKIPOUT over OUT and the exit actions, OUT, the actions. Assumes nothing.
-use Rattle.chart_rows.proofs.Rows.{states-most}
+use Rattle.chart_rows.proofs.Rows.{states_most}
 use Rattle.emitter.proofs.Finding.{code_few}
 use Rattle.emitter.proofs.Laws.{emits_at}
 use Rattle.blocks.proofs.Putting.{exit_put, parent_small}
 use Rattle.meaning.specs.Compile.{exit_code}
-use Rattle.meaning.specs.declared.chart.Owner.TheVariants.{ExitOf as exit-of}
+use Rattle.meaning.specs.declared.chart.Owner.TheVariants.{ExitOf as exit_of}
 use native.Mathlib.Omega.{arith}
 use borrow.Author.Rules.{rules}
 use Rattle.blocks.proofs.pieces.put_exit.Statement.{statement}
@@ -23,14 +23,14 @@ abbrev start-from-put-acts-arg : tie.After-put-acts-arg → tie.Start
 start-from-put-acts-arg c = start-from-put-instr-arg2 c.before.before.before
 
 act-count-requires : tie.Need-act-count-requires
-act-count-requires c κs = (c.requires.0, omega (arith, c.requires.1, states-most c.args.chart.now))
+act-count-requires c κs = (c.requires.0, omega (arith, c.requires.1, states_most c.args.chart.now))
 
 add-t13 : tie.Need-overflow-add-t13
 add-t13 c =
     omega (
       arith,
       c.before.act_count.ensures,
-      code_few c.before.before.args.chart.now (exit-of c.before.before.args.s),
+      code_few c.before.before.args.chart.now (exit_of c.before.before.args.s),
     )
 
 put-instr-requires : tie.Need-put-instr-requires
@@ -41,8 +41,8 @@ put-instr-requires c κs =
       c.before.before.requires.1,
       c.before.before.requires.2,
       c.before.act_count.ensures,
-      code_few c.before.before.args.chart.now (exit-of c.before.before.args.s),
-      states-most c.before.before.args.chart.now,
+      code_few c.before.before.args.chart.now (exit_of c.before.before.args.s),
+      states_most c.before.before.args.chart.now,
     )
 
 put-instr-requires-2 : tie.Need-put-instr-requires-2
@@ -52,7 +52,7 @@ put-instr-requires-2 c κs = (
     omega (
       arith,
       (start-from-put-instr-arg2 c).requires.1,
-      states-most (start-from-put-instr-arg2 c).args.chart.now,
+      states_most (start-from-put-instr-arg2 c).args.chart.now,
     ),
     parent_small (start-from-put-instr-arg2 c).args.chart.now
         (start-from-put-instr-arg2 c).requires.0.ruled (start-from-put-instr-arg2 c).args.s
@@ -72,7 +72,7 @@ put-acts-requires c κs = (
   omega (
     arith,
     (start-from-put-acts-arg c).requires.1,
-    states-most (start-from-put-acts-arg c).args.chart.now,
+    states_most (start-from-put-acts-arg c).args.chart.now,
   ),
   omega (
     arith,

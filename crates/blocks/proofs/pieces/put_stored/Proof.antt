@@ -1,12 +1,12 @@
 -- `put_stored`: past all of it where its parent is out; past it where another child is stored. Assumes nothing.
 use Rattle.meaning.specs.Value.{chart_of}
-use Rattle.chart_rows.proofs.Rows.{states-most}
+use Rattle.chart_rows.proofs.Rows.{states_most}
 use Rattle.emitter.proofs.Finding.{code_few}
 use mathlib.Core.Path.{sym, ap}
 use lib.ListN.{length}
-use Rattle.tree.proofs.Passing.{up-falls}
+use Rattle.tree.proofs.Passing.{up_falls}
 use Rattle.emitter.proofs.Laws.{put_first, emits_at}
-use Rattle.blocks.proofs.Putting.{stored_other, stored-o, put_as}
+use Rattle.blocks.proofs.Putting.{stored_other, stored_o, put_as}
 use Rattle.meaning.specs.declared.chart.Owner.TheVariants.{EntryOf as entry_of}
 use native.Mathlib.Omega.{arith}
 use borrow.Author.Rules.{rules}
@@ -68,7 +68,7 @@ abbrev start-from-plan5 : tie.After-plan5 → tie.Start
 start-from-plan5 c = start-from-put-enter-arg2 c.before.before
 
 act-count-requires : tie.Need-act-count-requires
-act-count-requires c κs = (c.before.requires.0, omega (arith, c.before.requires.2, states-most c.before.args.chart.now))
+act-count-requires c κs = (c.before.requires.0, omega (arith, c.before.requires.2, states_most c.before.args.chart.now))
 
 add-t17 : tie.Need-overflow-add-t17
 add-t17 c =
@@ -90,10 +90,10 @@ put-instr-requires c κs =
       (start-from-put-instr-arg c).requires.3,
       (act-count-from-put-instr-arg c).act_count.ensures,
       code_few (start-from-put-instr-arg c).args.chart.now (entry_of (start-from-put-instr-arg c).args.d),
-      up-falls (start-from-put-instr-arg c).args.chart.now (start-from-put-instr-arg c).requires.0.ruled
+      up_falls (start-from-put-instr-arg c).args.chart.now (start-from-put-instr-arg c).requires.0.ruled
           (start-from-put-instr-arg c).args.d (start-from-put-instr-arg c).requires.1 _
           (parent-of-from-put-instr-arg c).parent_of.ensures,
-      states-most (start-from-put-instr-arg c).args.chart.now,
+      states_most (start-from-put-instr-arg c).args.chart.now,
     )
 
 put-enter-requires : tie.Need-put-enter-requires
@@ -135,7 +135,7 @@ add-t23 c =
 
 put-instr-requires-2 : tie.Need-put-instr-requires-2
 put-instr-requires-2 c κs =
-    let long = ap length (stored-o (chart_of (start-from-put-instr-arg2 c).args.chart.now)
+    let long = ap length (stored_o (chart_of (start-from-put-instr-arg2 c).args.chart.now)
     (start-from-put-instr-arg2 c).args.d _ _ _ _ (parent-of-from-put-instr-arg2 c).parent_of.ensures
     c.before.before.before.kind_of.ensures c.before.before.is_o.ensures
     (act-count-from-put-instr-arg2 c).act_count.ensures c.before.if1.false) in
@@ -146,10 +146,10 @@ put-instr-requires-2 c κs =
       (act-count-from-put-instr-arg2 c).act_count.ensures,
       code_few (start-from-put-instr-arg2 c).args.chart.now
           (entry_of (start-from-put-instr-arg2 c).args.d),
-      up-falls (start-from-put-instr-arg2 c).args.chart.now (start-from-put-instr-arg2 c).requires.0.ruled
+      up_falls (start-from-put-instr-arg2 c).args.chart.now (start-from-put-instr-arg2 c).requires.0.ruled
           (start-from-put-instr-arg2 c).args.d (start-from-put-instr-arg2 c).requires.1 _
           (parent-of-from-put-instr-arg2 c).parent_of.ensures,
-      states-most (start-from-put-instr-arg2 c).args.chart.now,
+      states_most (start-from-put-instr-arg2 c).args.chart.now,
     )
 
 add-t23-2 : tie.Need-overflow-add-t23-2
@@ -163,7 +163,7 @@ add-t23-2 c =
 
 put-instr-requires-3 : tie.Need-put-instr-requires-3
 put-instr-requires-3 c κs =
-    let long = ap length (stored-o (chart_of (start-from-put-instr-arg3 c).args.chart.now)
+    let long = ap length (stored_o (chart_of (start-from-put-instr-arg3 c).args.chart.now)
     (start-from-put-instr-arg3 c).args.d _ _ _ _ (parent-of-from-put-instr-arg3 c).parent_of.ensures
     (else1-from-put-instr-arg3 c).before.before.kind_of.ensures
     (else1-from-put-instr-arg3 c).before.is_o.ensures (act-count-from-put-instr-arg3 c).act_count.ensures
@@ -176,10 +176,10 @@ put-instr-requires-3 c κs =
       (act-count-from-put-instr-arg3 c).act_count.ensures,
       code_few (start-from-put-instr-arg3 c).args.chart.now
           (entry_of (start-from-put-instr-arg3 c).args.d),
-      up-falls (start-from-put-instr-arg3 c).args.chart.now (start-from-put-instr-arg3 c).requires.0.ruled
+      up_falls (start-from-put-instr-arg3 c).args.chart.now (start-from-put-instr-arg3 c).requires.0.ruled
           (start-from-put-instr-arg3 c).args.d (start-from-put-instr-arg3 c).requires.1 _
           (parent-of-from-put-instr-arg3 c).parent_of.ensures,
-      states-most (start-from-put-instr-arg3 c).args.chart.now,
+      states_most (start-from-put-instr-arg3 c).args.chart.now,
     )
 
 put-enter-requires-2 : tie.Need-put-enter-requires-2
@@ -191,7 +191,7 @@ put-enter-requires-2 c κs = (
     (start-from-put-enter-arg2 c).requires.3,
     emits_at _ _ _ (put-instr2-from-put-enter-arg2 c).put-instr2.ensures,
     emits_at _ _ _ c.before.before.put-instr3.ensures,
-    ap length (stored-o (chart_of (start-from-put-enter-arg2 c).args.chart.now)
+    ap length (stored_o (chart_of (start-from-put-enter-arg2 c).args.chart.now)
         (start-from-put-enter-arg2 c).args.d _ _ _ _
         (parent-of-from-put-instr-arg3 c.before.before.before).parent_of.ensures
         (put-instr2-from-put-enter-arg2 c).before.before.before.before.kind_of.ensures
@@ -203,7 +203,7 @@ put-enter-requires-2 c κs = (
 
 returns-2 : tie.Need-returns-2
 returns-2 c =
-    put_as _ _ _ (stored-o (chart_of (start-from-plan5 c).args.chart.now) (start-from-plan5 c).args.d _ _
+    put_as _ _ _ (stored_o (chart_of (start-from-plan5 c).args.chart.now) (start-from-plan5 c).args.d _ _
     _ _ (else1-from-plan5 c).before.before.before.before.parent_of.ensures
     (else1-from-plan5 c).before.before.kind_of.ensures (else1-from-plan5 c).before.is_o.ensures
     (else1-from-plan5 c).before.before.before.act_count.ensures (else1-from-plan5 c).if1.false)

@@ -1,12 +1,12 @@
 -- `put_visit`: the default actions where due, then the state. Assumes nothing.
-use Rattle.chart_rows.proofs.Rows.{states-most}
+use Rattle.chart_rows.proofs.Rows.{states_most}
 use mathlib.Core.Path.{sym, ap}
 use lib.ListN.{length, length-append}
 use Rattle.meaning.specs.Value.{chart_of}
 use Rattle.meaning.specs.Compile.{code_acts, enter_code}
-use Rattle.meaning.specs.declared.chart.Owner.TheVariants.{DefaultOf as default-of}
+use Rattle.meaning.specs.declared.chart.Owner.TheVariants.{DefaultOf as default_of}
 use Rattle.emitter.proofs.Laws.{put_both, emits_at}
-use Rattle.blocks.proofs.Putting.{visit-plain, visit-due, put_as}
+use Rattle.blocks.proofs.Putting.{visit_plain, visit_due, put_as}
 use native.Mathlib.Omega.{arith}
 use borrow.Author.Rules.{rules}
 use Rattle.blocks.proofs.pieces.put_visit.Statement.{statement}
@@ -37,7 +37,7 @@ put-enter-requires c κs = (
   omega (
     arith,
     (start-from-put-enter-arg c).requires.3,
-    ap length (visit-plain (chart_of (start-from-put-enter-arg c).args.chart.now)
+    ap length (visit_plain (chart_of (start-from-put-enter-arg c).args.chart.now)
         (start-from-put-enter-arg c).args.p (start-from-put-enter-arg c).args.s _ _
         c.before.before.by_default.ensures c.before.if1.true),
   ),
@@ -45,7 +45,7 @@ put-enter-requires c κs = (
 
 returns : tie.Need-returns
 returns c =
-    put_as _ _ _ (visit-plain (chart_of (start-from-plan c).args.chart.now) (start-from-plan c).args.p
+    put_as _ _ _ (visit_plain (chart_of (start-from-plan c).args.chart.now) (start-from-plan c).args.p
     (start-from-plan c).args.s _ _ c.before.before.before.before.by_default.ensures
     c.before.before.before.if1.true) c.before.put_enter.ensures
 
@@ -55,16 +55,16 @@ put-acts-requires c κs = (
   omega (
     arith,
     (start-from-put-acts-arg c).requires.1,
-    states-most (start-from-put-acts-arg c).args.chart.now,
+    states_most (start-from-put-acts-arg c).args.chart.now,
   ),
   omega (
     arith,
     (start-from-put-acts-arg c).requires.3,
-    ap length (visit-due (chart_of (start-from-put-acts-arg c).args.chart.now)
+    ap length (visit_due (chart_of (start-from-put-acts-arg c).args.chart.now)
         (start-from-put-acts-arg c).args.p (start-from-put-acts-arg c).args.s _ _
         c.before.before.by_default.ensures c.before.if1.false),
     length-append (code_acts (chart_of (start-from-put-acts-arg c).args.chart.now)
-        (default-of (start-from-put-acts-arg c).args.p))
+        (default_of (start-from-put-acts-arg c).args.p))
         (enter_code (chart_of (start-from-put-acts-arg c).args.chart.now)
         (start-from-put-acts-arg c).args.s),
   ),
@@ -78,12 +78,12 @@ put-enter-requires-2 c κs = (
     arith,
     (start-from-put-enter-arg2 c).requires.3,
     emits_at _ _ _ c.before.before.put_acts.ensures,
-    ap length (visit-due (chart_of (start-from-put-enter-arg2 c).args.chart.now)
+    ap length (visit_due (chart_of (start-from-put-enter-arg2 c).args.chart.now)
         (start-from-put-enter-arg2 c).args.p (start-from-put-enter-arg2 c).args.s _ _
         (else1-from-put-enter-arg2 c).before.by_default.ensures
         (else1-from-put-enter-arg2 c).if1.false),
     length-append (code_acts (chart_of (start-from-put-enter-arg2 c).args.chart.now)
-        (default-of (start-from-put-enter-arg2 c).args.p))
+        (default_of (start-from-put-enter-arg2 c).args.p))
         (enter_code (chart_of (start-from-put-enter-arg2 c).args.chart.now)
         (start-from-put-enter-arg2 c).args.s),
   ),
@@ -91,7 +91,7 @@ put-enter-requires-2 c κs = (
 
 returns-2 : tie.Need-returns-2
 returns-2 c =
-    put_as _ _ _ (visit-due (chart_of (start-from-plan3 c).args.chart.now) (start-from-plan3 c).args.p
+    put_as _ _ _ (visit_due (chart_of (start-from-plan3 c).args.chart.now) (start-from-plan3 c).args.p
     (start-from-plan3 c).args.s _ _
     (else1-from-put-enter-arg2 c.before.before).before.by_default.ensures
     (else1-from-put-enter-arg2 c.before.before).if1.false)

@@ -7,7 +7,7 @@ use mir.Facts.{to_z-of_z}
 use mir.Syntax.{w32}
 use mir.Val.{to_z, of_z}
 use Rattle.meaning.specs.Value.{one_of_letters}
-use Rattle.chart_rows.proofs.Letters.{letter-here, letter-next, letter-none}
+use Rattle.chart_rows.proofs.Letters.{letter_here, letter_next, letter_none}
 use borrow.Author.Rules.{rules}
 use Rattle.chart_rows.proofs.decode.one_of_letters.Statement.{statement}
 use Rattle.chart_rows.proofs.decode.one_of_letters.Tie as tie
@@ -29,21 +29,21 @@ returns c =
     let a = (at-loop-from-then1 c).before.before in
     let w = (at-loop-from-then1 c).loop in
     rw (to_z-of_z a.fits.z) at
-    (letter-here a.args.letters.now w.i
+    (letter_here a.args.letters.now w.i
     (to_z w32 (of_z w32 a.args.z)) (omega arith) (sym c.before.is_letter.ensures ∙ c.if1.true) w.inv)
 
 loop-again : tie.Need-loop-preserved invariant-loop decreases-loop
 loop-again c =
     let a = (at-loop-from-else1 c).before.before in
     let w = (at-loop-from-else1 c).loop in
-    letter-next a.args.letters.now w.i
+    letter_next a.args.letters.now w.i
     (to_z w32 (of_z w32 a.args.z)) (omega arith) (sym c.before.is_letter.ensures ∙ c.if1.false) w.inv
 
 returns-2 : tie.Need-returns-2 invariant-loop decreases-loop
 returns-2 c =
     let a = c.before.before.before in
     let w = c.before.loop in
-    rw (to_z-of_z a.ranges.z) at (letter-none a.args.letters.now w.i (to_z w32 (of_z w32 a.args.z)) (omega arith) w.invariant)
+    rw (to_z-of_z a.ranges.z) at (letter_none a.args.letters.now w.i (to_z w32 (of_z w32 a.args.z)) (omega arith) w.invariant)
 
 pub one-of-letters-spec : {M : Type 1} → statement M
 one-of-letters-spec = tie.close (tie.spec invariant-loop decreases-loop

@@ -1,9 +1,9 @@
 -- `put_head` puts three, three and four numbers. Assumes nothing.
 use Rattle.numbers.proofs.Laws.{back32}
 use Rattle.meaning.specs.Value.{chart_of}
-use Rattle.chart_rows.proofs.Rows.{transitions-most}
+use Rattle.chart_rows.proofs.Rows.{transitions_most}
 use Rattle.emitter.proofs.Laws.{puts_at}
-use Rattle.compiler.proofs.Heading.{row-facts, row_reads, row_small, span-first, span_last, span_small, guard_three, head_put}
+use Rattle.compiler.proofs.Heading.{row_facts, row_reads, row_small, span_first, span_last, span_small, guard_three, head_put}
 use native.Mathlib.Omega.{arith}
 use borrow.Author.Rules.{rules}
 use Rattle.compiler.proofs.heads.put_head.Statement.{statement}
@@ -41,11 +41,11 @@ start-from-number4 c = start-from-put-four-arg c.before
 
 span-of-requires : tie.Need-span-of-requires
 span-of-requires c κs =
-    let f = row-facts c.before.args.chart.now c.before.requires.0 c.before.args.t
+    let f = row_facts c.before.args.chart.now c.before.requires.0 c.before.args.t
     c.before.requires.1 _ c.trans_row.ensures in (c.before.requires.0, (f.source, f.target))
 
 number-requires : tie.Need-number-requires
-number-requires c κs = omega (arith, (start-from-put-three-arg c).requires.1, transitions-most (start-from-put-three-arg c).args.chart.now)
+number-requires c κs = omega (arith, (start-from-put-three-arg c).requires.1, transitions_most (start-from-put-three-arg c).args.chart.now)
 
 number-requires-2 : tie.Need-number-requires-2
 number-requires-2 c κs =
@@ -119,7 +119,7 @@ returns c =
     head_put (chart_of c.before.before.before.before.before.before.before.before.before.before.before.before.before.before.before.before.before.before.before.args.chart.now)
     c.before.before.before.before.before.before.before.before.before.before.before.before.before.before.before.before.before.before.before.args.t _ _ _
     c.before.before.before.before.before.before.before.before.before.before.before.before.before.before.before.before.before.before.trans_row.ensures _ _
-    (span-first c.before.before.before.before.before.before.before.before.before.before.before.before.before.before.before.before.before.before.before.args.chart.now
+    (span_first c.before.before.before.before.before.before.before.before.before.before.before.before.before.before.before.before.before.before.before.args.chart.now
     c.before.before.before.before.before.before.before.before.before.before.before.before.before.before.before.before.before.before.before.requires.0
     c.before.before.before.before.before.before.before.before.before.before.before.before.before.before.before.before.before.before.before.args.t
     c.before.before.before.before.before.before.before.before.before.before.before.before.before.before.before.before.before.before.before.requires.1 _

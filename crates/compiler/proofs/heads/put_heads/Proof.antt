@@ -1,8 +1,8 @@
 -- `put_heads` puts a head for each transition of the order, and counts on where its block begins. Assumes nothing.
 use Prim.Native.Nat.{◌-◌}
 use Rattle.meaning.specs.Value.{chart_of}
-use Rattle.compiler.proofs.Bounds.{block-few, start-few, blocks-few}
-use Rattle.compiler.proofs.Heading.{Heading, heading_begin, heading-few, heading-on, heading-end, order_inside, same_sized}
+use Rattle.compiler.proofs.Bounds.{block_few, start_few, blocks_few}
+use Rattle.compiler.proofs.Heading.{Heading, heading_begin, heading_few, heading_on, heading_end, order_inside, same_sized}
 use native.Mathlib.Omega.{arith}
 use Rattle.compiler.proofs.heads.put_heads.Statement.{statement}
 use Rattle.compiler.proofs.heads.put_heads.Tie as tie
@@ -55,7 +55,7 @@ block-length-requires c κs = (
       c.before.before.loop.j c.before.loop-test.true,
   omega (
     arith,
-    block-few (start-from-t c).args.chart.now (start-from-t c).requires.0.ruled _
+    block_few (start-from-t c).args.chart.now (start-from-t c).requires.0.ruled _
         (order_inside (start-from-t c).args.chart.now (start-from-t c).requires.0.ruled
         (start-from-t c).requires.1 c.before.before.loop.j c.before.loop-test.true),
   ),
@@ -69,17 +69,17 @@ put-head-requires c κs = (
       (in-loop-from-put-head-arg c).loop-test.true,
   omega (
     arith,
-    heading-few (start-from-put-head-arg c).requires.1 (at-loop-from-put-head-arg c).loop.invariant
+    heading_few (start-from-put-head-arg c).requires.1 (at-loop-from-put-head-arg c).loop.invariant
         (in-loop-from-put-head-arg c).loop-test.true,
-    start-few (start-from-put-head-arg c).args.chart.now (start-from-put-head-arg c).requires.0.ruled,
-    blocks-few (start-from-put-head-arg c).args.chart.now
+    start_few (start-from-put-head-arg c).args.chart.now (start-from-put-head-arg c).requires.0.ruled,
+    blocks_few (start-from-put-head-arg c).args.chart.now
         (start-from-put-head-arg c).requires.0.ruled,
     (start-from-put-head-arg c).requires.2,
   ),
   omega (
     arith,
     c.before.block_length.ensures,
-    block-few (start-from-put-head-arg c).args.chart.now (start-from-put-head-arg c).requires.0.ruled
+    block_few (start-from-put-head-arg c).args.chart.now (start-from-put-head-arg c).requires.0.ruled
         _ (order_inside (start-from-put-head-arg c).args.chart.now
         (start-from-put-head-arg c).requires.0.ruled (start-from-put-head-arg c).requires.1
         (at-loop-from-put-head-arg c).loop.j (in-loop-from-put-head-arg c).loop-test.true),
@@ -97,10 +97,10 @@ add-from c =
     omega (
       arith,
       (block-length-from-plan c).block_length.ensures,
-      heading-few (start-from-plan c).requires.1 (at-loop-from-plan c).loop.invariant
+      heading_few (start-from-plan c).requires.1 (at-loop-from-plan c).loop.invariant
           (in-loop-from-plan c).loop-test.true,
-      start-few (start-from-plan c).args.chart.now (start-from-plan c).requires.0.ruled,
-      blocks-few (start-from-plan c).args.chart.now (start-from-plan c).requires.0.ruled,
+      start_few (start-from-plan c).args.chart.now (start-from-plan c).requires.0.ruled,
+      blocks_few (start-from-plan c).args.chart.now (start-from-plan c).requires.0.ruled,
       (start-from-plan c).requires.2,
     )
 
@@ -112,7 +112,7 @@ loop-less c = omega (arith, (in-loop-from-plan c).loop-test.true)
 
 loop-again : tie.Need-loop-preserved invariant-loop decreases-loop
 loop-again c =
-    heading-on (start-from-plan c).requires.1 (at-loop-from-plan c).loop.invariant
+    heading_on (start-from-plan c).requires.1 (at-loop-from-plan c).loop.invariant
     (in-loop-from-plan c).loop-test.true _ (block-length-from-plan c).block_length.ensures
     c.before.put_head.ensures
 
@@ -120,7 +120,7 @@ same_length : tie.Need-same-length invariant-loop decreases-loop
 same_length c = omega (arith, same_sized _ _ _ _ _ _ c.before.loop.invariant.owes)
 
 returns : tie.Need-returns invariant-loop decreases-loop
-returns c = heading-end c.before.before.requires.1 c.before.loop.invariant c.loop-test.false
+returns c = heading_end c.before.before.requires.1 c.before.loop.invariant c.loop-test.false
 
 pub put-heads-spec : {M : Type 1} → statement M
 put-heads-spec = tie.close (tie.spec invariant-loop decreases-loop loop-holds

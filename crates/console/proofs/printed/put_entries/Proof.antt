@@ -7,7 +7,7 @@ use lib.ListN.{length}
 use borrow.Author.Rules.{rules}
 use Rattle.pen.specs.Pen.{pen, put_all}
 use Rattle.console.specs.Shown.{LINE}
-use Rattle.console.proofs.ReportLaws.{from_entry, entries_done, entries-more}
+use Rattle.console.proofs.ReportLaws.{from_entry, entries_done, entries_more}
 use Rattle.console.proofs.printed.put_entries.Statement.{statement}
 use Rattle.console.proofs.printed.put_entries.Tie as tie
 
@@ -32,7 +32,7 @@ loop-again c =
       search rules,
       (λ h. let i = l.2 h in let w = c.before.before.put_entry.ensures.1 (omega arith) in
           omega arith),
-      entries-more _ _ _ (at-loop-from-slice-known2 c).before.before.requires
+      entries_more _ _ _ (at-loop-from-slice-known2 c).before.before.requires
           c.before.before.before.before.before.before.before.loop-test.true _ _ _ _ _ c.before.before.put_entry.ensures.0
           (search rules) (search rules) (search rules) ∙ (at-loop-from-slice-known2 c).loop.invariant.3,
     )

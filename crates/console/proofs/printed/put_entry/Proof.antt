@@ -2,7 +2,7 @@
 use mir.Facts.{to_z-of_z}
 use Rattle.console.specs.Shown.{LINE}
 use Rattle.console.proofs.Room.{place_after, entry_room}
-use Rattle.console.proofs.ReportLaws.{entry-steps}
+use Rattle.console.proofs.ReportLaws.{entry_steps}
 use borrow.Author.Rules.{rules}
 use Rattle.console.proofs.printed.put_entry.Statement.{statement}
 use Rattle.console.proofs.printed.put_entry.Tie as tie
@@ -20,7 +20,7 @@ start-from-slice-known7 c = (put-numeral-from-slice-known7 c).before.before.befo
 returns : tie.Need-returns
 returns c =
     let s = start-from-slice-known7 c in
-    let e = entry-steps _ _ _ _ _ _ _ _ _ _
+    let e = entry_steps _ _ _ _ _ _ _ _ _ _
     (rw (to_z-of_z (start-from-slice-known7 c).ranges.first) at (put-numeral-from-slice-known7 c).put_numeral.ensures)
     (put2-from-slice-known7 c).before.before.before.before.before.before.before.before.put.ensures
     (rw (to_z-of_z (start-from-slice-known7 c).ranges.second) at

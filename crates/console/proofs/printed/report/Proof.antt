@@ -1,7 +1,7 @@
 -- `report` writes R, the answer, the entry count and the entries, part by part. Assumes nothing.
 use native.Mathlib.Omega.{arith}
-use Rattle.console.proofs.Room.{report-place}
-use Rattle.console.proofs.ReportLaws.{shown-steps}
+use Rattle.console.proofs.Room.{report_place}
+use Rattle.console.proofs.ReportLaws.{shown_steps}
 use borrow.Author.Rules.{rules}
 use Rattle.console.proofs.printed.report.Statement.{statement}
 use Rattle.console.proofs.printed.report.Tie as tie
@@ -32,13 +32,13 @@ start-from-slice-known8 c = (held-of-from-slice-known8 c).before.before
 
 returns : tie.Need-returns
 returns c =
-    let e = shown-steps _ _ _ _ _ _ _ _ _ _ _ _ (held-of-from-slice-known8 c).held_of.ensures
+    let e = shown_steps _ _ _ _ _ _ _ _ _ _ _ _ (held-of-from-slice-known8 c).held_of.ensures
     (put-from-slice-known8 c).put.ensures (put2-from-slice-known8 c).put2.ensures
     (put-digits-from-slice-known8 c).put_digits.ensures
     (put3-from-slice-known8 c).put3.ensures (put-digits2-from-slice-known8 c).put-digits2.ensures
     (put4-from-slice-known8 c).put4.ensures c.before.before.put_entries.ensures.0 in (
       e,
-      report-place (start-from-slice-known8 c).args.trace.now _ _ _ _ _ _ _ _ _ _ _ _ _
+      report_place (start-from-slice-known8 c).args.trace.now _ _ _ _ _ _ _ _ _ _ _ _ _
           (held-of-from-slice-known8 c).held_of.ensures (put-from-slice-known8 c).put.ensures
           (put2-from-slice-known8 c).put2.ensures (put-digits-from-slice-known8 c).put_digits.ensures
           (put3-from-slice-known8 c).put3.ensures (put-digits2-from-slice-known8 c).put-digits2.ensures

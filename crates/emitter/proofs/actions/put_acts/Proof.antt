@@ -7,7 +7,7 @@ use Rattle.meaning.specs.Value.{chart_of}
 use Rattle.meaning.specs.declared.chart.Owner.{Owner}
 use Rattle.acts.specs.Index.{row_from}
 use Rattle.emitter.proofs.Laws.{same_size}
-use Rattle.emitter.proofs.Finding.{Listing, listing_begin, listing-on, listing-room, listing-later, listing_end, row_small}
+use Rattle.emitter.proofs.Finding.{Listing, listing_begin, listing_on, listing_room, listing_later, listing_end, row_small}
 use Rattle.emitter.proofs.actions.put_acts.Statement.{statement}
 use Rattle.emitter.proofs.actions.put_acts.Tie as tie
 
@@ -29,7 +29,7 @@ put-instr-requires c κs =
     let top = k.before.before.before in (
       row_small top.args.chart.now top.requires.0.ruled k.loop.i
           (omega (arith, test.loop-test.true, k.before.before.action_count.ensures)) _ row.action_row.ensures,
-      listing-room _ _ _ _ _ _ _ (k.loop.invariant top.args.owner k.before.first_row.ensures)
+      listing_room _ _ _ _ _ _ _ (k.loop.invariant top.args.owner k.before.first_row.ensures)
           (omega (arith, test.loop-test.true, k.before.before.action_count.ensures)) _ row.action_row.ensures top.requires.2,
     )
 
@@ -44,7 +44,7 @@ loop-less c =
     let row = c.before.before.before.before in
     let test = row.before in
     let k = test.before in
-    let later = listing-later _ _ _ _ _ _ _
+    let later = listing_later _ _ _ _ _ _ _
     (k.loop.invariant k.before.before.before.args.owner k.before.first_row.ensures)
     (omega (arith, test.loop-test.true, k.before.before.action_count.ensures)) _ row.action_row.ensures _
     c.next_row.ensures in
@@ -55,7 +55,7 @@ loop-again c =
     let row = c.before.before.before.before in
     let test = row.before in
     let k = test.before in
-    λ o e. listing-on _ _ _ _ _ _ _ (k.loop.invariant o e)
+    λ o e. listing_on _ _ _ _ _ _ _ (k.loop.invariant o e)
     (omega (arith, test.loop-test.true, k.before.before.action_count.ensures)) _ row.action_row.ensures _ _ _
     c.before.before.put_instr.ensures c.next_row.ensures
 

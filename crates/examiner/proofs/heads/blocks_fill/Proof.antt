@@ -7,8 +7,8 @@ use Rattle.meaning.specs.Lists.{chunks}
 use Rattle.meaning.specs.WellFormed.{HEAD_ROW, head_rows, blocks_fill, all_blocks_fill}
 use Rattle.plan_rows.proofs.Blocks.{fills_past, fills_start}
 use Rattle.rules.proofs.Tests.{refuted, held}
-use Rattle.examiner.proofs.Wholes.{whole-sized, whole-start, whole-few, heads-there}
-use Rattle.examiner.proofs.Loops.{fill-gap, fill-long, fill-next, fill_done}
+use Rattle.examiner.proofs.Wholes.{whole_sized, whole_start, whole_few, heads_there}
+use Rattle.examiner.proofs.Loops.{fill_gap, fill_long, fill_next, fill_done}
 use borrow.Author.Rules.{rules}
 use Rattle.examiner.proofs.heads.blocks_fill.Statement.{statement}
 use Rattle.examiner.proofs.heads.blocks_fill.Tie as tie
@@ -26,8 +26,8 @@ begun : (c : tie.Start invariant-loop decreases-loop)
     → blocks_fill c.args.k.instructions c.args.k.start (head_rows c.args.plan.now c.args.k)
     ≡ all_blocks_fill c.args.plan.now c.args.k
 begun c =
-    fills_start c.args.plan.now c.args.k (whole-start c.args.plan.now c.args.k c.requires)
-    (whole-few c.args.plan.now c.args.k c.requires)
+    fills_start c.args.plan.now c.args.k (whole_start c.args.plan.now c.args.k c.requires)
+    (whole_few c.args.plan.now c.args.k c.requires)
 
 returns : tie.Need-returns invariant-loop decreases-loop
 returns c =
@@ -37,7 +37,7 @@ returns c =
 heads-at-requires : tie.Need-heads-at-requires invariant-loop decreases-loop
 heads-at-requires c κs =
     let s = c.before.before in
-    whole-sized s.args.plan.now s.args.k s.requires
+    whole_sized s.args.plan.now s.args.k s.requires
 
 loop-holds : tie.Need-loop-init invariant-loop decreases-loop
 unfolding head_rows
@@ -47,14 +47,14 @@ loop-holds c =
       ap (λ m. blocks_fill a.k.instructions a.k.start (chunks a.k.heads HEAD_ROW (drop m a.plan.now)))
           c.heads_at.ensures ∙ begun s,
       omega arith,
-      omega (arith, heads-there a.plan.now a.k s.requires, c.heads_at.ensures),
+      omega (arith, heads_there a.plan.now a.k s.requires, c.heads_at.ensures),
     )
 
 returns-2 : tie.Need-returns-2 invariant-loop decreases-loop
 returns-2 c =
     let a = c.before.before.before.before.before.before.before.args in
     let w = c.before.before.before.loop in
-    fill-gap a.k.instructions w.end w.at w.left a.plan.now (omega arith)
+    fill_gap a.k.instructions w.end w.at w.left a.plan.now (omega arith)
     (refuted c.before.begins_with.ensures c.if2.true) w.invariant.0
 
 returns-3 : tie.Need-returns-3 invariant-loop decreases-loop
@@ -62,8 +62,8 @@ returns-3 c =
     let b = c.before.before.before.before in
     let s = b.before.before.before.before.before.before in
     let w = b.before.before.loop in
-    fill-long s.args.k.instructions w.end w.at w.left s.args.plan.now (omega arith)
-    (whole-few s.args.plan.now s.args.k s.requires) w.invariant.1
+    fill_long s.args.k.instructions w.end w.at w.left s.args.plan.now (omega arith)
+    (whole_few s.args.plan.now s.args.k s.requires) w.invariant.1
     (held b.begins_with.ensures c.before.before.before.if2.false)
     c.before.before.block_length.result c.before.before.block_length.ensures c.if3.true w.invariant.0
 
@@ -72,8 +72,8 @@ loop-again c =
     let b = c.before.before.before.before in
     let s = b.before.before.before.before.before.before in
     let w = b.before.before.loop in (
-      fill-next s.args.k.instructions w.end w.at w.left s.args.plan.now (omega arith)
-          (whole-few s.args.plan.now s.args.k s.requires) w.invariant.1
+      fill_next s.args.k.instructions w.end w.at w.left s.args.plan.now (omega arith)
+          (whole_few s.args.plan.now s.args.k s.requires) w.invariant.1
           (held b.begins_with.ensures c.before.before.before.if2.false)
           c.before.before.block_length.result c.before.before.block_length.ensures w.invariant.0,
       omega arith,

@@ -5,7 +5,7 @@ use native.Mathlib.Omega.{arith}
 use lib.ListN.{drop}
 use Rattle.meaning.specs.WellFormed.{INSTR_ROW, left_after_each, code_fits}
 use Rattle.rules.proofs.Tests.{refuted, held}
-use Rattle.examiner.proofs.Loops.{block-stop, block-next, block-done}
+use Rattle.examiner.proofs.Loops.{block_stop, block_next, block_done}
 use borrow.Author.Rules.{rules}
 use Rattle.examiner.proofs.instructions.block_fits.Statement.{statement}
 use Rattle.examiner.proofs.instructions.block_fits.Tie as tie
@@ -29,13 +29,13 @@ returns : tie.Need-returns invariant-loop decreases-loop
 returns c =
     let a = c.before.before.before.before.args in
     let w = c.before.before.before.loop in
-    block-stop a.k w.at w.left a.plan.now (omega arith) (refuted c.before.instr_fits.ensures c.if1.true) w.invariant.0
+    block_stop a.k w.at w.left a.plan.now (omega arith) (refuted c.before.instr_fits.ensures c.if1.true) w.invariant.0
 
 loop-again : tie.Need-loop-preserved invariant-loop decreases-loop
 loop-again c =
     let a = c.before.before.before.before.args in
     let w = c.before.before.before.loop in (
-      block-next a.k w.at w.left a.plan.now (omega arith) (held c.before.instr_fits.ensures c.if1.false) w.invariant.0,
+      block_next a.k w.at w.left a.plan.now (omega arith) (held c.before.instr_fits.ensures c.if1.false) w.invariant.0,
       omega arith,
       omega arith,
     )
@@ -44,7 +44,7 @@ returns-2 : tie.Need-returns-2 invariant-loop decreases-loop
 returns-2 c =
     let a = c.before.before.args in
     let w = c.before.loop in
-    block-done a.k w.at w.left a.plan.now (omega arith) w.invariant.0
+    block_done a.k w.at w.left a.plan.now (omega arith) w.invariant.0
 
 pub block-fits-spec : {M : Type 1} → statement M
 block-fits-spec = tie.close (tie.spec invariant-loop

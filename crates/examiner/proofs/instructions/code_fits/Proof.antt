@@ -9,8 +9,8 @@ use Rattle.meaning.specs.WellFormed.{HEAD_ROW, INSTR_ROW, code_at, head_rows, bl
 use Rattle.meaning.specs.WellFormed.{left_in_blocks, code_fits}
 use Rattle.plan_rows.proofs.Blocks.{fills_start, fills_within}
 use Rattle.rules.proofs.Tests.{refuted, held}
-use Rattle.examiner.proofs.Wholes.{whole-sized, whole-start, whole-few, heads-there, code-there}
-use Rattle.examiner.proofs.Blocks.{rest_fits, blocks_start, blocks-stop, blocks-next, blocks_done, filled_on, filled_within}
+use Rattle.examiner.proofs.Wholes.{whole_sized, whole_start, whole_few, heads_there, code_there}
+use Rattle.examiner.proofs.Blocks.{rest_fits, blocks_start, blocks_stop, blocks_next, blocks_done, filled_on, filled_within}
 use borrow.Author.Rules.{rules}
 use Rattle.examiner.proofs.instructions.code_fits.Statement.{statement}
 use Rattle.examiner.proofs.instructions.code_fits.Tie as tie
@@ -34,19 +34,19 @@ base-from-length c = c.before.before.before.before.before.before.code_at.result
 begun : (c : tie.Start invariant-loop decreases-loop)
     → blocks_fill c.args.k.instructions c.args.k.start (head_rows c.args.plan.now c.args.k) ≡ true
 begun c =
-    fills_start c.args.plan.now c.args.k (whole-start c.args.plan.now c.args.k c.requires.0)
-    (whole-few c.args.plan.now c.args.k c.requires.0)
+    fills_start c.args.plan.now c.args.k (whole_start c.args.plan.now c.args.k c.requires.0)
+    (whole_few c.args.plan.now c.args.k c.requires.0)
     ∙ c.requires.1
 
 code-at-requires : tie.Need-code-at-requires invariant-loop decreases-loop
-code-at-requires c κs = whole-sized c.args.plan.now c.args.k c.requires.0
+code-at-requires c κs = whole_sized c.args.plan.now c.args.k c.requires.0
 
 block-fits-requires : tie.Need-block-fits-requires invariant-loop decreases-loop
 block-fits-requires c κs =
     let a = c.before.args in
-    let s = whole-sized a.plan.now a.k c.before.requires.0 in
+    let s = whole_sized a.plan.now a.k c.before.requires.0 in
     let w = fills_within a.k.instructions a.k.start (head_rows a.plan.now a.k) (begun c.before) in
-    (s, omega arith, omega (arith, code-there a.plan.now a.k c.before.requires.0, c.code_at.ensures))
+    (s, omega arith, omega (arith, code_there a.plan.now a.k c.before.requires.0, c.code_at.ensures))
 
 -- what the call for the start block says, and that for a head's block
 start-tried : (c : tie.After-block-fits invariant-loop decreases-loop)
@@ -71,7 +71,7 @@ returns c =
 heads-at-requires : tie.Need-heads-at-requires invariant-loop decreases-loop
 heads-at-requires c κs =
     let s = c.before.before.before in
-    whole-sized s.args.plan.now s.args.k s.requires.0
+    whole_sized s.args.plan.now s.args.k s.requires.0
 
 loop-holds : tie.Need-loop-init invariant-loop decreases-loop
 unfolding head_rows
@@ -81,7 +81,7 @@ loop-holds c =
       rw (blocks_start a.k a.plan.now, ← c.before.before.before.code_at.ensures)
           (rw (held (start-tried c.before.before) c.before.if1.false, c.heads_at.ensures)),
       rw c.heads_at.ensures (begun s),
-      omega (arith, heads-there a.plan.now a.k s.requires.0, c.heads_at.ensures),
+      omega (arith, heads_there a.plan.now a.k s.requires.0, c.heads_at.ensures),
     )
 
 inside : (c : tie.After-block-length invariant-loop decreases-loop)
@@ -96,7 +96,7 @@ inside c =
 mul-block-fits : tie.Need-overflow-mul-block-fits invariant-loop decreases-loop
 mul-block-fits c =
     let s = start-from-length c in
-    omega (arith, inside c, whole-sized s.args.plan.now s.args.k s.pre.0)
+    omega (arith, inside c, whole_sized s.args.plan.now s.args.k s.pre.0)
 
 add-block-fits : tie.Need-overflow-add-block-fits invariant-loop decreases-loop
 add-block-fits c =
@@ -104,20 +104,20 @@ add-block-fits c =
     omega (
       arith,
       inside c,
-      code-there s.args.plan.now s.args.k s.pre.0,
+      code_there s.args.plan.now s.args.k s.pre.0,
       c.before.before.before.before.before.before.code_at.ensures,
     )
 
 block-fits-requires-2 : tie.Need-block-fits-requires-2 invariant-loop decreases-loop
 block-fits-requires-2 c κs =
     let s = start-from-length c in
-    let z = whole-sized s.args.plan.now s.args.k s.pre.0 in
+    let z = whole_sized s.args.plan.now s.args.k s.pre.0 in
     let i = inside c in (
       z,
       omega arith,
       omega (
         arith,
-        code-there s.args.plan.now s.args.k s.pre.0,
+        code_there s.args.plan.now s.args.k s.pre.0,
         c.before.before.before.before.before.before.code_at.ensures,
       ),
     )
@@ -127,7 +127,7 @@ returns-2 c =
     let d = c.before.before in
     let a = (start-from-length d).args in
     let w = d.before.before.loop in
-    blocks-stop a.k (base-from-length d) w.done w.left w.head
+    blocks_stop a.k (base-from-length d) w.done w.left w.head
     a.plan.now d.block_length.result
     d.block_length.ensures (omega arith) (refuted (block-tried c.before) c.if2.true) w.invariant.0
 
@@ -135,7 +135,7 @@ add_done : tie.Need-overflow-add-done invariant-loop decreases-loop
 add_done c =
     let d = c.before.before in
     let s = start-from-length d in
-    omega (arith, inside d, whole-sized s.args.plan.now s.args.k s.pre.0)
+    omega (arith, inside d, whole_sized s.args.plan.now s.args.k s.pre.0)
 
 loop-again : tie.Need-loop-preserved invariant-loop decreases-loop
 loop-again c =
@@ -143,7 +143,7 @@ loop-again c =
     let a = (start-from-length d).args in
     let w = d.before.before.loop in
     let b = base-from-length d in (
-      blocks-next a.k b w.done w.left w.head a.plan.now d.block_length.result d.block_length.ensures (omega arith)
+      blocks_next a.k b w.done w.left w.head a.plan.now d.block_length.result d.block_length.ensures (omega arith)
           (held (block-tried c.before) c.if2.false) w.invariant.0,
       filled_on a.k b w.done w.left w.head a.plan.now d.block_length.result d.block_length.ensures (omega arith)
           a.k.instructions w.invariant.1,

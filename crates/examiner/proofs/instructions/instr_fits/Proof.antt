@@ -8,7 +8,7 @@ use mir.Val.{to_z, of_z}
 use Rattle.meaning.specs.WellFormed.{Operand, a_state, a_parent, a_variable, an_event, a_constant, a_skip, unused}
 use Rattle.meaning.specs.WellFormed.{SHAPES, no_shape, shape, operand_fits, instr_fits}
 use Rattle.chart_rows.proofs.Said.{said_of}
-use Rattle.examiner.proofs.RowTests.{instr-wrong, instr-read, no_code}
+use Rattle.examiner.proofs.RowTests.{instr_wrong, instr_read, no_code}
 use borrow.Author.Rules.{rules}
 use Rattle.examiner.proofs.instructions.instr_fits.Statement.{statement}
 use Rattle.examiner.proofs.instructions.instr_fits.Tie as tie
@@ -30,7 +30,7 @@ tested c n f g h t e u v w o =
     let x = c.before.before.read in
     let y = c.before.read2 in
     let z = c.read3 in
-    instr-read a.k a.plan.now a.at a.left n f g h t (sym c.before.before.before.named.ensures ∙ e)
+    instr_read a.k a.plan.now a.at a.left n f g h t (sym c.before.before.before.named.ensures ∙ e)
     (said_of (operand_fits a.k a.left f) x.type-inv x.ensures u) (said_of (operand_fits a.k a.left g) y.type-inv y.ensures v)
     (said_of (operand_fits a.k a.left h) z.type-inv z.ensures w) o
 
@@ -127,7 +127,7 @@ returns-12 c =
     let s = c.before.before.before.before.before in
     let e = c.before.before.before.before.named.ensures in
     let r = rw e at c.match.rest in
-    sym (instr-wrong s.args.k s.args.plan.now s.args.at s.args.left
+    sym (instr_wrong s.args.k s.args.plan.now s.args.at s.args.left
     (no_code _ r.0.0.0.0.0.0.0.0.0.0.1 r.0.0.0.0.0.0.0.0.0.1 r.0.0.0.0.0.0.0.0.1
     r.0.0.0.0.0.0.0.1 r.0.0.0.0.0.0.1 r.0.0.0.0.0.1 r.0.0.0.0.1 r.0.0.0.1 r.0.0.1
     r.0.1 r.1))

@@ -7,9 +7,9 @@ use lib.ListN.{drop}
 use Rattle.meaning.specs.Lists.{every, chunks}
 use Rattle.meaning.specs.Value.{VAR_ROW}
 use Rattle.meaning.specs.WellFormed.{SIX, var_keeps, var_rows}
-use Rattle.plan_rows.proofs.Rows.{var-rows-length, var-rows-at, var-there}
+use Rattle.plan_rows.proofs.Rows.{var_rows_length, var_rows_at, var_there}
 use Rattle.rules.proofs.Tests.{refuted, held}
-use Rattle.rules.proofs.Every.{every-stop, every-next, every-done}
+use Rattle.rules.proofs.Every.{every_stop, every_next, every_done}
 use Rattle.examiner.proofs.variables.vars_keep.Statement.{statement}
 use Rattle.examiner.proofs.variables.vars_keep.Tie as tie
 
@@ -28,7 +28,7 @@ start-from-else1 c = c.before.before.before.before
 var-keeps-requires : tie.Need-var-keeps-requires invariant-loop decreases-loop
 var-keeps-requires c κs =
     let s = c.before.before in
-    var-there s.args.plan.now s.args.k s.requires.whole c.before.loop.v (omega arith)
+    var_there s.args.plan.now s.args.k s.requires.whole c.before.loop.v (omega arith)
 
 returns : tie.Need-returns invariant-loop decreases-loop
 unfolding var_rows
@@ -37,8 +37,8 @@ returns c =
     let k = (start-from-then1 c).args.k in
     let w = c.before.before.before.loop in
     let h : w.v < k.vars = omega arith in
-    every-stop var_keeps (var_rows ns k) [] w.v (rw (var-rows-length ns k) h)
-    (refuted (c.before.var_keeps.ensures ∙ ap var_keeps (sym (var-rows-at ns k w.v h))) c.if1.true) w.invariant
+    every_stop var_keeps (var_rows ns k) [] w.v (rw (var_rows_length ns k) h)
+    (refuted (c.before.var_keeps.ensures ∙ ap var_keeps (sym (var_rows_at ns k w.v h))) c.if1.true) w.invariant
 
 loop-again : tie.Need-loop-preserved invariant-loop decreases-loop
 unfolding var_rows
@@ -47,8 +47,8 @@ loop-again c =
     let k = (start-from-else1 c).args.k in
     let w = c.before.before.before.loop in
     let h : w.v < k.vars = omega arith in
-    every-next var_keeps (var_rows ns k) [] w.v (rw (var-rows-length ns k) h)
-    (held (c.before.var_keeps.ensures ∙ ap var_keeps (sym (var-rows-at ns k w.v h))) c.if1.false) w.invariant
+    every_next var_keeps (var_rows ns k) [] w.v (rw (var_rows_length ns k) h)
+    (held (c.before.var_keeps.ensures ∙ ap var_keeps (sym (var_rows_at ns k w.v h))) c.if1.false) w.invariant
 
 returns-2 : tie.Need-returns-2 invariant-loop decreases-loop
 unfolding var_rows
@@ -57,7 +57,7 @@ returns-2 c =
     let k = c.before.before.args.k in
     let w = c.before.loop in
     let h : k.vars ≤ w.v = omega arith in
-    every-done var_keeps (var_rows ns k) [] w.v (rw (var-rows-length ns k) h) w.invariant
+    every_done var_keeps (var_rows ns k) [] w.v (rw (var_rows_length ns k) h) w.invariant
 
 pub vars-keep-spec : {M : Type 1} → statement M
 vars-keep-spec = tie.close

@@ -4,7 +4,7 @@ use lib.ListN.{length, drop}
 use native.Mathlib.Omega.{arith}
 use Prim.Native.Nat.{◌≤◌, ◌-◌}
 use mathlib.Core.Path.{◌≡◌, refl, sym, ◌∙◌}
-use Rattle.fields.proofs.CellLaws.{among-here, among_next, among_none}
+use Rattle.fields.proofs.CellLaws.{among_here, among_next, among_none}
 use borrow.Author.Rules.{rules}
 use Rattle.fields.proofs.cells.among.Statement.{statement}
 use Rattle.fields.proofs.cells.among.Tie as tie
@@ -19,7 +19,7 @@ loop-holds : tie.Need-loop-init invariant-loop decreases-loop
 loop-holds c = (omega arith, refl)
 
 returns : tie.Need-returns invariant-loop decreases-loop
-returns c = let l = c.before.before in sym (among-here _ _ _ l.loop-test.true c.if1.true) ∙ l.before.loop.invariant.1
+returns c = let l = c.before.before in sym (among_here _ _ _ l.loop-test.true c.if1.true) ∙ l.before.loop.invariant.1
 
 loop-again : tie.Need-loop-preserved invariant-loop decreases-loop
 loop-again c = let l = c.before.before in (omega arith, among_next _ _ _ l.loop-test.true c.if1.false ∙ l.before.loop.invariant.1)

@@ -2,7 +2,7 @@
 use native.Mathlib.Omega.{arith}
 use Prim.Native.Nat.{◌<◌, ◌≤◌}
 use lib.ListN.{length}
-use Rattle.fields.proofs.CellLaws.{history-empty, history-is, history-not}
+use Rattle.fields.proofs.CellLaws.{history_empty, history_is, history_not}
 use Rattle.fields.specs.Said.{said}
 use borrow.Author.Rules.{rules}
 use Rattle.fields.proofs.cells.history_said.Statement.{statement}
@@ -16,7 +16,7 @@ start-from-target-said c = c.before.before.before.before.before.before
 
 returns : tie.Need-returns
 unfolding said
-returns c = history-empty _ _ _ c.if1.true
+returns c = history_empty _ _ _ c.if1.true
 
 returns-2 : tie.Need-returns-2
 returns-2 c =
@@ -24,7 +24,7 @@ returns-2 c =
     let p = (start-from-target-said c).requires in
     let n = c.before.before.before.before.if1.false in
     let k : a.from < a.to = omega arith in
-    history-is a.s.now a.from a.to k p.1 c.before.before.if2.true _ _
+    history_is a.s.now a.from a.to k p.1 c.before.before.if2.true _ _
     c.before.number.ensures c.target_said.ensures
 
 returns-3 : tie.Need-returns-3
@@ -34,7 +34,7 @@ returns-3 c =
     let p = (start-from-else2 c).requires in
     let n = c.before.before.if1.false in
     let k : a.from < a.to = omega arith in
-    history-not a.s.now a.from a.to k p.1 c.if2.false
+    history_not a.s.now a.from a.to k p.1 c.if2.false
 
 pub history-said-spec : {M : Type 1} → statement M
 history-said-spec =

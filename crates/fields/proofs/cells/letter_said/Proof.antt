@@ -2,7 +2,7 @@
 use native.Mathlib.Omega.{arith}
 use mir.Syntax.{w32}
 use mir.Facts.{to_z_pos}
-use Rattle.fields.proofs.CellLaws.{letter_is, letter-not}
+use Rattle.fields.proofs.CellLaws.{letter_is, letter_not}
 use Rattle.fields.specs.Said.{said}
 use borrow.Author.Rules.{rules}
 use Rattle.fields.proofs.cells.letter_said.Statement.{statement}
@@ -14,7 +14,7 @@ returns c = letter_is _ _ _ c.before.among.ensures _ c.if1.true (to_z_pos w32 (o
 
 returns-2 : tie.Need-returns-2
 unfolding said
-returns-2 c = letter-not _ _ _ c.before.among.ensures c.if1.false
+returns-2 c = letter_not _ _ _ c.before.among.ensures c.if1.false
 
 pub letter-said-spec : {M : Type 1} → statement M
 letter-said-spec = tie.close (tie.spec (λ c κs. search rules) (λ c. search rules) returns returns-2)

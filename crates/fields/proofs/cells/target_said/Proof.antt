@@ -2,7 +2,7 @@
 use native.Mathlib.Omega.{arith}
 use mir.Syntax.{w32}
 use mir.Facts.{to_z_pos}
-use Rattle.fields.proofs.CellLaws.{target_is, target-beyond, target-not}
+use Rattle.fields.proofs.CellLaws.{target_is, target_beyond, target_not}
 use Rattle.fields.specs.Said.{said}
 use borrow.Author.Rules.{rules}
 use Rattle.fields.proofs.cells.target_said.Statement.{statement}
@@ -14,11 +14,11 @@ returns c = target_is _ _ c.before.v.given.1 c.known-told.given.0.1 _ _ (to_z_po
 
 returns-2 : tie.Need-returns-2
 unfolding said
-returns-2 c = target-beyond _ _ c.enum_told.given.1
+returns-2 c = target_beyond _ _ c.enum_told.given.1
 
 returns-3 : tie.Need-returns-3
 unfolding said
-returns-3 c = target-not _ _ c.enum-told2.given.1
+returns-3 c = target_not _ _ c.enum-told2.given.1
 
 pub target-said-spec : {M : Type 1} → statement M
 target-said-spec =

@@ -9,7 +9,7 @@ use mir.Facts.{to_z-of_z}
 use mir.Syntax.{w32}
 use mir.Val.{to_z}
 use lib.ListN.{length}
-use Rattle.chart_rows.proofs.Rows.{states-most}
+use Rattle.chart_rows.proofs.Rows.{states_most}
 use Rattle.meaning.specs.Tree.{descendants, is_child}
 use Rattle.meaning.specs.Value.{chart_of}
 use Rattle.tree.proofs.Passing.{sound}
@@ -17,7 +17,7 @@ use Rattle.tree.specs.Courses.{way_by, Bound}
 use Rattle.tree.proofs.Aiming.{onward_bound}
 use Rattle.tree.proofs.Among.{course_child, course_sound}
 use Rattle.tree.proofs.Levels.{child_fewer}
-use Rattle.leave_enter.proofs.Descending.{Going, going-begin, going-skip, going-stop, going-stop-below, going_on, going_end}
+use Rattle.leave_enter.proofs.Descending.{Going, going_begin, going_skip, going_stop, going_stop_below, going_on, going_end}
 use borrow.Fn.Kinds.{In}
 use borrow.Fn.PlainCycle.{Measures, is, falls, and}
 use Rattle.leave_enter.proofs.entering.descend.Reads as own
@@ -105,7 +105,7 @@ inside t c = omega (arith, c.before.before.loop-test.true, c.before.before.befor
 next-by-requires : (t : ℕ) → lts.Need-next-by-requires (knows t) (asks t) own.Post Inv decreases-loop
 next-by-requires t c κs = (
   c.requires.1.0.ruled,
-  omega (arith, c.requires.1.2, states-most c.args.chart.now),
+  omega (arith, c.requires.1.2, states_most c.args.chart.now),
   c.requires.1.3.long,
 )
 
@@ -121,7 +121,7 @@ arrive-requires : (t : ℕ) → lts.Need-arrive-requires (knows t) (asks t) own.
 arrive-requires t c κs =
     let k = c.before.before.before.before in
     let start = start-from-child t k in
-    let most = states-most start.args.chart.now in (
+    let most = states_most start.args.chart.now in (
       start.pre.1.0,
       omega (arith, inside t k, most),
       start.pre.1.3.long,
@@ -133,7 +133,7 @@ onward-requires : (t : ℕ) → lts.Need-onward-requires (knows t) (asks t) own.
 onward-requires t c κs =
     let k = child-from-arrived t (arrived-from-entered t c) in
     let start = start-from-child t k in
-    (omega (arith, inside t k, states-most start.args.chart.now), start.pre.1.3.long)
+    (omega (arith, inside t k, states_most start.args.chart.now), start.pre.1.3.long)
 
 descend-requires : (t : ℕ) → lts.Need-descend-requires (knows t) (asks t) own.Post Inv decreases-loop
 descend-requires t c κs =
@@ -158,13 +158,13 @@ loop-holds : (t : ℕ) → lts.Need-loop-init (knows t) (asks t) own.Post Inv de
 loop-holds t c =
     let start = c.before.before in
     let p = start.requires.1 in
-    going-begin _ _ _ start.args.course _ _ _ (course_sound _ p.0.ruled _ p.3 start.args.course p.1)
+    going_begin _ _ _ start.args.course _ _ _ (course_sound _ p.0.ruled _ p.3 start.args.course p.1)
     c.before.next_by.ensures
     c.goes_on.ensures p.4
 
 loop-again : (t : ℕ) → lts.Need-loop-preserved (knows t) (asks t) own.Post Inv decreases-loop
 loop-again t c =
-    going-skip _ _ _ _ _ _ _ c.before.before.before.loop.invariant c.before.before.loop-test.true
+    going_skip _ _ _ _ _ _ _ c.before.before.before.loop.invariant c.before.before.loop-test.true
     (sym c.before.is_child.ensures ∙ not-true _ c.if1.true)
 
 returns : (t : ℕ) → lts.Need-returns (knows t) (asks t) own.Post Inv decreases-loop
@@ -172,7 +172,7 @@ returns t c =
     let m = c.before.before.before in
     let k = child-from-arrived t m in
     rw (to_z-of_z (start-from-child t k).fits.arg) at
-    (going-stop _ _ _ _ _ _ _ k.before.before.before.loop.inv k.before.before.loop-test.taken (is_one t k)
+    (going_stop _ _ _ _ _ _ _ k.before.before.before.loop.inv k.before.before.loop-test.taken (is_one t k)
     m.arrive.ensures c.if2.true)
 
 same-length-2 : (t : ℕ) → lts.Need-same-length-2 (knows t) (asks t) own.Post Inv decreases-loop
@@ -193,14 +193,14 @@ returns-2 t c =
     let m = arrived-from-entered t e in
     let k = child-from-arrived t m in
     rw (to_z-of_z (start-from-child t k).fits.arg) at
-    (going-stop-below _ _ _ _ _ _ _ k.before.before.before.loop.inv k.before.before.loop-test.taken (is_one t k)
+    (going_stop_below _ _ _ _ _ _ _ k.before.before.before.loop.inv k.before.before.loop-test.taken (is_one t k)
     m.arrive.ensures e.if2.left (start-from-child t k).pre.1.1 d.before.before.before.before.before.onward.ensures
     d.descend.ensures c.if3.true)
 
 add-d-2 : (t : ℕ) → lts.Need-overflow-add-d-2 (knows t) (asks t) own.Post Inv decreases-loop
 add-d-2 t c =
     let k = child-from-arrived t (arrived-from-entered t (entered-from-below t c.before.before.before)) in
-    omega (arith, inside t k, states-most (start-from-child t k).args.chart.now)
+    omega (arith, inside t k, states_most (start-from-child t k).args.chart.now)
 
 loop-less-2 : (t : ℕ) → lts.Need-loop-smaller-2 (knows t) (asks t) own.Post Inv decreases-loop
 loop-less-2 t c =

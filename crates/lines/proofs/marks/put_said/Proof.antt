@@ -1,6 +1,6 @@
 -- `lines::marks::put_said` meets its contract: each way out is a law of the files beside. Assumes nothing.
 use Rattle.fields.specs.Said.{said}
-use Rattle.lines.proofs.MarkLaws.{put-none, put_one, put_two}
+use Rattle.lines.proofs.MarkLaws.{put_none, put_one, put_two}
 use borrow.Author.Rules.{rules}
 use Rattle.lines.proofs.marks.put_said.Statement.{statement}
 use Rattle.lines.proofs.marks.put_said.Tie as tie
@@ -10,7 +10,7 @@ put-lead-from-chart3 c = c.before.before.before.before
 
 returns : tie.Need-returns
 unfolding said
-returns c = put-none _ _ _ _ _ c.if1.true
+returns c = put_none _ _ _ _ _ c.if1.true
 
 returns-2 : tie.Need-returns-2
 unfolding said

@@ -12,16 +12,16 @@ use Rattle.sizes.specs.Sizes.{STATES, TRANSITIONS, QUEUE}
 use Rattle.numbers.specs.Reference.{ref}
 use Rattle.meaning.specs.WellFormed.{plan_by}
 use Rattle.ends.proofs.Ending.{ends_as}
-use Rattle.machine.proofs.Runs.{run-7, run-6, run-8, run_ends}
+use Rattle.machine.proofs.Runs.{run_7, run_6, run_8, run_ends}
 use Rattle.machine.proofs.running.run_examined.Statement.{statement}
 use Rattle.machine.proofs.running.run_examined.Tie as tie
 
 -- the arrays of a state have their full size
-slots-long : (c : tie.Start) → length c.args.state.slots ≡ STATES
-slots-long c = sym (length-map c.args.state.slots _) ∙ c.well_formed.1.1.0.1.1.1.1.0.1.0.1
+slots_long : (c : tie.Start) → length c.args.state.slots ≡ STATES
+slots_long c = sym (length-map c.args.state.slots _) ∙ c.well_formed.1.1.0.1.1.1.1.0.1.0.1
 
-items-long : (c : tie.Start) → length c.args.state.queue.items ≡ QUEUE
-items-long c = sym (length-map c.args.state.queue.items _) ∙ c.well_formed.1.1.0.1.1.1.1.1.1.0.1.1.1.0.1.0.1
+items_long : (c : tie.Start) → length c.args.state.queue.items ≡ QUEUE
+items_long c = sym (length-map c.args.state.queue.items _) ∙ c.well_formed.1.1.0.1.1.1.1.1.1.0.1.1.1.0.1.0.1
 
 abbrev own-from-trace2 : tie.After-trace2 → tie.After-own
 own-from-trace2 c = c.before.before.before.before
@@ -54,21 +54,21 @@ returns : tie.Need-returns
 returns c =
     let a = c.before.before.before.before.before.args in
     ends_as a.trace.now
-    (run-7 (plan_by a.plan.now) a.state _ (not-true _ c.before.before.before.if1.true))
+    (run_7 (plan_by a.plan.now) a.state _ (not-true _ c.before.before.before.if1.true))
     c.before.refuse.ensures
 
 returns-2 : tie.Need-returns-2
 returns-2 c =
     let a = (own-from-trace2 c).before.before.before.args in
     ends_as a.trace.now
-    (run-6 (plan_by a.plan.now) a.state _ (not-false _ (own-from-trace2 c).before.if1.false)
+    (run_6 (plan_by a.plan.now) a.state _ (not-false _ (own-from-trace2 c).before.if1.false)
     (sym (own-from-trace2 c).own.ensures ∙ not-true _ c.before.before.before.if2.true))
     c.before.refuse2.ensures
 
 returns-3 : tie.Need-returns-3
 returns-3 c =
     let a = (else1-from-trace3 c).before.before.args in
-    ends_as a.trace.now (run-8 (plan_by a.plan.now) a.state _
+    ends_as a.trace.now (run_8 (plan_by a.plan.now) a.state _
     (not-false _ (else1-from-trace3 c).if1.false)
     (sym (remove-from-trace3 c).before.before.before.own.ensures ∙ not-false _
     (remove-from-trace3 c).before.before.if2.false) _ (remove-from-trace3 c).remove.ensures
@@ -78,7 +78,7 @@ step-requires : tie.Need-step-requires
 step-requires c κs = (
   (start-from-told2 c).requires,
   length-replicate {A = ℕ} TRANSITIONS 0,
-  slots-long (start-from-told2 c),
+  slots_long (start-from-told2 c),
   omega arith,
   (links-of-from-told2 c).links_of.ensures,
 )
@@ -89,7 +89,7 @@ settled-requires c κs =
     let t = told2-from-settled-arg c in (
       (start-from-told2 t).pre,
       d.1,
-      λ z. d.0.slotted z ∙ slots-long (start-from-told2 t),
+      λ z. d.0.slotted z ∙ slots_long (start-from-told2 t),
       d.0.did.fits,
       (links-of-from-told2 t).links_of.ensures,
     )
@@ -107,7 +107,7 @@ returns-4 c =
     let d = c.before.before.before.before.before.before.before.before.before.before.before.before.before.step.ensures in
     let fe : SFits w32 m.remove.result.front.event = search rules in
     let fa : SFits w32 m.remove.result.front.arg = search rules in
-    run_ends (plan_by a.plan.now) a.state (items-long (start-from-told2 t)) _ m.remove.ensures
+    run_ends (plan_by a.plan.now) a.state (items_long (start-from-told2 t)) _ m.remove.ensures
     (not-false _ m.before.before.before.before.if1.left)
     (sym m.before.before.before.own.ensures ∙ not-false _ m.before.before.if2.left)
     (not-false _ (reference-from-told2 t).before.before.before.if3.left) _

@@ -4,7 +4,7 @@ use native.Mathlib.Omega.{arith}
 use borrow.Author.Rules.{rules}
 use Rattle.meaning.specs.WellFormed.{plan_by}
 use Rattle.plan_steps.proofs.Settling.{settles_none}
-use Rattle.machine.proofs.Runs.{settled-stop, settled_on, settled-once}
+use Rattle.machine.proofs.Runs.{settled_stop, settled_on, settled_once}
 use Rattle.machine.proofs.running.settled.Statement.{statement}
 use Rattle.machine.proofs.running.settled.Tie as tie
 
@@ -15,7 +15,7 @@ abbrev else1-from-arg6 : tie.After-settle-arg6 → tie.Else1
 else1-from-arg6 c = c.before.before.before.before.before.before.before.before.before
 
 returns : tie.Need-returns
-returns c = (λ s b d. settled-stop (plan_by c.before.before.args.plan.now) s b d c.if1.true, c.before.before.requires.1)
+returns c = (λ s b d. settled_stop (plan_by c.before.before.args.plan.now) s b d c.if1.true, c.before.before.requires.1)
 
 element-copy-out-if2 : tie.Need-element-copy-out-if2
 element-copy-out-if2 c = omega (arith, (start-from-else1 c).requires.4.size)
@@ -27,7 +27,7 @@ returns-2 : tie.Need-returns-2
 returns-2 c =
     let e = c.before.before.before in
     let t = start-from-else1 e in (
-      λ s b d. settled-once (plan_by t.args.plan.now) s b d e.if1.false
+      λ s b d. settled_once (plan_by t.args.plan.now) s b d e.if1.false
           (settles_none t.pre.0 t.pre.4 c.if2.true t.pre.3),
       t.pre.1,
     )

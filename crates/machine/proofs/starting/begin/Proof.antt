@@ -3,7 +3,7 @@ use mathlib.Core.Path.{◌≡◌, ◌∙◌}
 use native.Mathlib.Omega.{arith}
 use borrow.Author.Rules.{rules}
 use Rattle.plan_code.proofs.Named.{start_block}
-use Rattle.machine.proofs.Starts.{begin-stop, begin-on}
+use Rattle.machine.proofs.Starts.{begin_stop, begin_on}
 use Rattle.machine.proofs.starting.begin.Statement.{statement}
 use Rattle.machine.proofs.starting.begin.Tie as tie
 
@@ -27,7 +27,7 @@ run-block-requires c κs = (start_block (start-from-run-block-arg5 c).requires.0
 
 returns : tie.Need-returns
 returns c =
-    begin-stop (start-from-then1 c).args.plan.now (start-from-then1 c).requires.0
+    begin_stop (start-from-then1 c).args.plan.now (start-from-then1 c).requires.0
     c.before.before.before.run_block.ensures c.if1.true
 
 settle-requires : tie.Need-settle-requires
@@ -42,7 +42,7 @@ settle-requires c κs =
 
 returns-2 : tie.Need-returns-2
 returns-2 c =
-    begin-on (start-from-trace2 c).args.plan.now (start-from-trace2 c).requires.0
+    begin_on (start-from-trace2 c).args.plan.now (start-from-trace2 c).requires.0
     (else1-from-settle-arg6 c.before.before).before.before.before.run_block.ensures
     (else1-from-settle-arg6 c.before.before).if1.false c.before.settle.ensures.0
 

@@ -3,8 +3,8 @@ use mathlib.Core.Path.{◌≡◌, refl, sym, ap, ◌∙◌}
 use borrow.Author.Tests.{not-true, not-false}
 use mir.Facts.{to_z-of_z}
 use Rattle.meaning.specs.WellFormed.{plan_by}
-use Rattle.plan_own.proofs.Clauses.{events-is}
-use Rattle.machine.proofs.Waits.{post-7, post-6, post-10, post-9, post-0}
+use Rattle.plan_own.proofs.Clauses.{events_is}
+use Rattle.machine.proofs.Waits.{post_7, post_6, post_10, post_9, post_0}
 use borrow.Author.Rules.{rules}
 use Rattle.machine.proofs.waiting.post_examined.Statement.{statement}
 use Rattle.machine.proofs.waiting.post_examined.Tie as tie
@@ -24,14 +24,14 @@ start-from-refused4 c = (else3-from-refused4 c).before.before.before.before.befo
 returns : tie.Need-returns
 returns c =
     let a = c.before.before.before.args in
-    c.refused.ensures ∙ post-7 (plan_by a.plan.now) a.state a.event a.arg
+    c.refused.ensures ∙ post_7 (plan_by a.plan.now) a.state a.event a.arg
     (not-true _ c.before.if1.true)
 
 returns-2 : tie.Need-returns-2
 returns-2 c =
     let a = c.before.before.before.before.before.args in
     c.refused2.ensures
-    ∙ post-6 (plan_by a.plan.now) a.state a.event a.arg
+    ∙ post_6 (plan_by a.plan.now) a.state a.event a.arg
     (not-false _ c.before.before.before.if1.false)
     (sym c.before.before.own.ensures ∙ not-true _ c.before.if2.true)
 
@@ -40,10 +40,10 @@ returns-3 c =
     let a = (start-from-refused3 c).args in
     let f = (start-from-refused3 c).ranges in
     c.refused3.ensures
-    ∙ post-10 (plan_by a.plan.now) a.state a.event a.arg
+    ∙ post_10 (plan_by a.plan.now) a.state a.event a.arg
     (not-false _ (own-from-refused3 c).before.if1.false)
     (sym (own-from-refused3 c).own.ensures ∙ not-false _ c.before.before.before.if2.false)
-    (events-is (start-from-refused3 c).requires)
+    (events_is (start-from-refused3 c).requires)
     (sym (rw (to_z-of_z f.event, to_z-of_z f.arg) at c.before.before.event_fits.ensures) ∙ not-true _
     c.before.if3.true)
 
@@ -52,11 +52,11 @@ returns-4 c =
     let a = (start-from-refused4 c).args in
     let f = (start-from-refused4 c).ranges in
     c.refused4.ensures
-    ∙ post-9 (plan_by a.plan.now) a.state a.event a.arg
+    ∙ post_9 (plan_by a.plan.now) a.state a.event a.arg
     (not-false _ (else3-from-refused4 c).before.before.before.before.if1.false)
     (sym (else3-from-refused4 c).before.before.before.own.ensures ∙ not-false _
     (else3-from-refused4 c).before.before.if2.false)
-    (events-is (start-from-refused4 c).requires)
+    (events_is (start-from-refused4 c).requires)
     (sym (rw (to_z-of_z f.event, to_z-of_z f.arg) at (else3-from-refused4 c).before.event_fits.ensures) ∙
     not-false _ (else3-from-refused4 c).if3.false)
     (rw (to_z-of_z f.event, to_z-of_z f.arg) at c.before.before.before.append.ensures)
@@ -69,12 +69,12 @@ returns-5 c =
     let f =
     c.before.before.before.before.before.before.before.before.before.before.before.before.before.ranges in
     (rw c.before.with_queue.ensures at c.done.ensures)
-    ∙ post-0 (plan_by a.plan.now) a.state a.event a.arg
+    ∙ post_0 (plan_by a.plan.now) a.state a.event a.arg
     (not-false _
     c.before.before.before.before.before.before.before.before.before.before.before.if1.false)
     (sym c.before.before.before.before.before.before.before.before.before.before.own.ensures ∙
     not-false _ c.before.before.before.before.before.before.before.before.before.if2.false)
-    (events-is c.before.before.before.before.before.before.before.before.before.before.before.before.before.requires)
+    (events_is c.before.before.before.before.before.before.before.before.before.before.before.before.before.requires)
     (sym (rw (to_z-of_z f.event, to_z-of_z f.arg) at
     c.before.before.before.before.before.before.before.before.event_fits.ensures) ∙ not-false _
     c.before.before.before.before.before.before.before.if3.false)

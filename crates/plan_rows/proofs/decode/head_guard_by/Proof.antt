@@ -2,7 +2,7 @@
 use mir.Facts.{to_z-of_z}
 use Rattle.numbers.specs.Reference.{ref}
 use Rattle.chart_rows.proofs.Said.{said, said_own}
-use Rattle.plan_rows.proofs.Codes.{equal-said, less-said, more-said, always_said}
+use Rattle.plan_rows.proofs.Codes.{equal_said, less_said, more_said, always_said}
 use borrow.Author.Rules.{rules}
 use Rattle.plan_rows.proofs.decode.head_guard_by.Statement.{statement}
 use Rattle.plan_rows.proofs.decode.head_guard_by.Tie as tie
@@ -10,21 +10,21 @@ use Rattle.plan_rows.proofs.decode.head_guard_by.Tie as tie
 returns : tie.Need-returns
 returns c =
     let s = c.before.before.before in
-    equal-said s.args.v s.args.g s.args.x (said ref s.ranges.g c.before.before.reference.ensures
+    equal_said s.args.v s.args.g s.args.x (said ref s.ranges.g c.before.before.reference.ensures
     c.before.match.keys1)
     (said_own ref s.ranges.v c.reference2.ensures) (to_z-of_z s.ranges.x)
 
 returns-2 : tie.Need-returns-2
 returns-2 c =
     let s = c.before.before.before in
-    less-said s.args.v s.args.g s.args.x (said ref s.ranges.g c.before.before.reference.ensures
+    less_said s.args.v s.args.g s.args.x (said ref s.ranges.g c.before.before.reference.ensures
     c.before.match.keys2)
     (said_own ref s.ranges.v c.reference3.ensures) (to_z-of_z s.ranges.x)
 
 returns-3 : tie.Need-returns-3
 returns-3 c =
     let s = c.before.before.before in
-    more-said s.args.v s.args.g s.args.x (said ref s.ranges.g c.before.before.reference.ensures
+    more_said s.args.v s.args.g s.args.x (said ref s.ranges.g c.before.before.reference.ensures
     c.before.match.keys3)
     (said_own ref s.ranges.v c.reference4.ensures) (to_z-of_z s.ranges.x)
 

@@ -7,7 +7,7 @@ use mir.Facts.{to_z-of_z}
 use native.Mathlib.Omega.{arith}
 use Rattle.numbers.proofs.Laws.{back32}
 use Rattle.numbers.specs.Reference.{ref}
-use Rattle.queue.proofs.Numbers.{append-full, append_on}
+use Rattle.queue.proofs.Numbers.{append_full, append_on}
 use borrow.Author.Rules.{rules}
 use Rattle.queue.proofs.lent.append.Statement.{statement}
 use Rattle.queue.proofs.lent.append.Tie as tie
@@ -17,7 +17,7 @@ start-from-then1 c = c.before.before.before
 
 returns : tie.Need-returns
 returns c =
-    append-full (start-from-then1 c).args.numbers.now _ _ _
+    append_full (start-from-then1 c).args.numbers.now _ _ _
     (c.before.reference.ensures ∙ ap ref
     (back32 (get_or (start-from-then1 c).args.numbers.now 0 (pos 0))
     c.before.before.reference-arg.given)) c.if1.true

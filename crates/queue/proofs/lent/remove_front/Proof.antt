@@ -8,7 +8,7 @@ use lib.ListN.{get_or}
 use Rattle.numbers.specs.Reference.{ref}
 use Rattle.numbers.proofs.Laws.{back32}
 use Rattle.queue.specs.Numbers.{QUEUE_NUMBERS}
-use Rattle.queue.proofs.Numbers.{slid, slid_none, slid_more, remove-none, remove-over, remove_on}
+use Rattle.queue.proofs.Numbers.{slid, slid_none, slid_more, remove_none, remove_over, remove_on}
 use Rattle.queue.proofs.lent.remove_front.Statement.{statement}
 use Rattle.queue.proofs.lent.remove_front.Tie as tie
 
@@ -20,7 +20,7 @@ decreases-loop numbers₀ len event arg front i₀ numbers i = QUEUE_NUMBERS - 2
 
 returns : tie.Need-returns invariant-loop decreases-loop
 returns c =
-    let e = remove-none c.before.before.before.args.numbers.now _
+    let e = remove_none c.before.before.before.args.numbers.now _
     (c.before.reference.ensures ∙ ap ref
     (back32 (get_or c.before.before.before.args.numbers.now 0 (pos 0))
     c.before.before.reference-arg.given)) c.if1.true in
@@ -28,7 +28,7 @@ returns c =
 
 returns-2 : tie.Need-returns-2 invariant-loop decreases-loop
 returns-2 c =
-    let e = remove-over c.before.before.before.before.args.numbers.now _
+    let e = remove_over c.before.before.before.before.args.numbers.now _
     (c.before.before.reference.ensures ∙ ap ref
     (back32 (get_or c.before.before.before.before.args.numbers.now 0 (pos 0))
     c.before.before.before.reference-arg.given)) c.if2.true in

@@ -13,10 +13,10 @@ use Rattle.numbers.specs.Place.{place_of}
 use Rattle.meaning.specs.declared.State.{State}
 use Rattle.meaning.specs.Value.{chart_of}
 use Rattle.meaning.specs.Widget.{is_filled}
-use Rattle.chart_rows.proofs.Rows.{states-most}
+use Rattle.chart_rows.proofs.Rows.{states_most}
 use Rattle.queue_calls.proofs.Slots.{slot_read}
 use Rattle.queue_calls.specs.Parts.{in_slot}
-use Rattle.queue_calls.proofs.Components.{Leading, leading-start, leading-filled, leading-free, leading-empty, leading-done}
+use Rattle.queue_calls.proofs.Components.{Leading, leading_start, leading_filled, leading_free, leading_empty, leading_done}
 use Rattle.queue_calls.proofs.own.components_filled.Statement.{statement}
 use Rattle.queue_calls.proofs.own.components_filled.Tie as tie
 
@@ -28,7 +28,7 @@ abbrev decreases-loop : tie.decreases-loop
 decreases-loop chart slots n next₀ next = n - next
 
 in-slots : (c : tie.In-loop invariant-loop decreases-loop) → c.before.loop.next < STATES
-in-slots c = omega (arith, states-most c.before.before.before.args.chart.now, c.before.loop.invariant.1, c.loop-test.true)
+in-slots c = omega (arith, states_most c.before.before.before.args.chart.now, c.before.loop.invariant.1, c.loop-test.true)
 
 abbrev loop-of : tie.After-filled invariant-loop decreases-loop → tie.At-loop invariant-loop decreases-loop
 loop-of c = c.before.before.before
@@ -43,7 +43,7 @@ read c =
 
 loop-holds : tie.Need-loop-init invariant-loop decreases-loop
 loop-holds c =
-    (omega arith, c.state_count.ensures, λ u e. leading-start (chart_of c.before.args.chart.now) u c.state_count.ensures)
+    (omega arith, c.state_count.ensures, λ u e. leading_start (chart_of c.before.args.chart.now) u c.state_count.ensures)
 
 mul-filled : tie.Need-overflow-mul-filled invariant-loop decreases-loop
 mul-filled c = omega (arith, in-slots c)
@@ -58,7 +58,7 @@ loop-again c =
     let k = l.before.before in (
       omega arith,
       l.loop.invariant.1,
-      λ u e. leading-filled (chart_of k.args.chart.now) u (l.loop.invariant.2 u e) i.loop-test.true
+      λ u e. leading_filled (chart_of k.args.chart.now) u (l.loop.invariant.2 u e) i.loop-test.true
           (slot_read u e l.loop.next (omega (arith, k.requires, in-slots i)) (sym c.if1.true ∙ read c.before)),
     )
 
@@ -69,7 +69,7 @@ returns c u e =
     let l = i.before in
     let k = l.before.before in
     let d = chart_of k.args.chart.now in
-    leading-empty d u (l.loop.invariant.2 u e) (ap length e ∙ k.requires) i.loop-test.true (λ z. omega (arith, z, l.loop.invariant.0))
+    leading_empty d u (l.loop.invariant.2 u e) (ap length e ∙ k.requires) i.loop-test.true (λ z. omega (arith, z, l.loop.invariant.0))
     (ap (in_slot d u) (sym c.before.before.parent_of.ensures) ∙ sym (c.before.is_held_lem.ensures u e) ∙ c.if2.true)
     (slot_read u e l.loop.next (omega (arith, k.requires, in-slots i)) (sym f.if1.false ∙ read f.before))
 
@@ -80,13 +80,13 @@ loop-again-2 c =
     let d = chart_of l.before.before.args.chart.now in (
       omega arith,
       l.loop.invariant.1,
-      λ u e. leading-free d u (l.loop.invariant.2 u e) i.loop-test.true
+      λ u e. leading_free d u (l.loop.invariant.2 u e) i.loop-test.true
           (ap (in_slot d u) (sym c.before.before.parent_of.ensures) ∙ sym (c.before.is_held_lem.ensures u e) ∙ c.if2.false),
     )
 
 returns-2 : tie.Need-returns-2 invariant-loop decreases-loop
 returns-2 c u e =
-    leading-done (chart_of c.before.before.before.args.chart.now) u (c.before.loop.invariant.2 u e) c.loop-test.false
+    leading_done (chart_of c.before.before.before.args.chart.now) u (c.before.loop.invariant.2 u e) c.loop-test.false
 
 pub components-filled-spec : {M : Type 1} → statement M
 components-filled-spec =

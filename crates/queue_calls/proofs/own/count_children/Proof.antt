@@ -6,8 +6,8 @@ use lib.ListN.{length}
 use borrow.Author.Rules.{rules}
 use borrow.Author.Tests.{not-true, not-false}
 use Rattle.meaning.specs.Value.{chart_of}
-use Rattle.chart_rows.proofs.Rows.{states-most}
-use Rattle.queue_calls.proofs.Legal.{Tallying, tally_none, tally-root, tally-far, tally-off, tally-on, tally_end}
+use Rattle.chart_rows.proofs.Rows.{states_most}
+use Rattle.queue_calls.proofs.Legal.{Tallying, tally_none, tally_root, tally_far, tally_off, tally_on, tally_end}
 use Rattle.queue_calls.proofs.own.count_children.Statement.{statement}
 use Rattle.queue_calls.proofs.own.count_children.Tie as tie
 
@@ -36,11 +36,11 @@ loop-holds : tie.Need-loop-init invariant-loop decreases-loop
 loop-holds c = rw (c.before.requires.0, c.before.requires.1) (tally_none _ _ _)
 
 loop-again : tie.Need-loop-preserved invariant-loop decreases-loop
-loop-again c = tally-root _ _ c.before.before.loop.invariant c.before.loop-test.true c.if1.true
+loop-again c = tally_root _ _ c.before.before.loop.invariant c.before.loop-test.true c.if1.true
 
 loop-again-2 : tie.Need-loop-preserved-2 invariant-loop decreases-loop
 loop-again-2 c =
-    tally-far _ _ c.before.before.before.before.loop.invariant c.before.before.before.loop-test.true
+    tally_far _ _ c.before.before.before.before.loop.invariant c.before.before.before.loop-test.true
     c.before.before.if1.false c.before.parent_of.ensures c.if2.true
 
 add-all : tie.Need-overflow-add-all invariant-loop decreases-loop
@@ -52,7 +52,7 @@ add-all c =
       w.most,
       (in-loop-from-else2 b).loop-test.true,
       (state-count-from-else2 b).state_count.ensures,
-      states-most (start-from-else2 b).args.chart.now,
+      states_most (start-from-else2 b).args.chart.now,
     )
 
 element-copy-out-if3 : tie.Need-element-copy-out-if3 invariant-loop decreases-loop
@@ -62,13 +62,13 @@ element-copy-out-if3 c =
       arith,
       (in-loop-from-else2 b).loop-test.true,
       (state-count-from-else2 b).state_count.ensures,
-      states-most (start-from-else2 b).args.chart.now,
+      states_most (start-from-else2 b).args.chart.now,
     )
 
 loop-again-3 : tie.Need-loop-preserved-3 invariant-loop decreases-loop
 loop-again-3 c =
     let b = c.before.before.before in
-    tally-off _ _ (in-loop-from-else2 b).before.loop.invariant (in-loop-from-else2 b).loop-test.true b.before.before.if1.false
+    tally_off _ _ (in-loop-from-else2 b).before.loop.invariant (in-loop-from-else2 b).loop-test.true b.before.before.if1.false
     b.before.parent_of.ensures b.if2.false (not-true _ c.if3.true)
 
 add-on : tie.Need-overflow-add-on invariant-loop decreases-loop
@@ -81,14 +81,14 @@ add-on c =
       w.fewer,
       (in-loop-from-else3 d).loop-test.true,
       (at-loop-from-else3 d).before.state_count.ensures,
-      states-most (at-loop-from-else3 d).before.before.args.chart.now,
+      states_most (at-loop-from-else3 d).before.before.args.chart.now,
     )
 
 loop-again-4 : tie.Need-loop-preserved-4 invariant-loop decreases-loop
 loop-again-4 c =
     let d = c.before in
     let b = d.before.before.before in
-    tally-on _ _ (at-loop-from-else3 d).loop.invariant (in-loop-from-else3 d).loop-test.true b.before.before.if1.false
+    tally_on _ _ (at-loop-from-else3 d).loop.invariant (in-loop-from-else3 d).loop-test.true b.before.before.if1.false
     b.before.parent_of.ensures b.if2.false (not-false _ d.if3.false)
 
 returns : tie.Need-returns invariant-loop decreases-loop

@@ -13,7 +13,7 @@ use lib.ListN.{get_or, drop}
 use Rattle.sizes.specs.Sizes.{STATES}
 use Rattle.meaning.specs.declared.State.{State}
 use Rattle.meaning.specs.Lists.{every, from}
-use Rattle.widget.proofs.Every.{upto-more, upto-no}
+use Rattle.widget.proofs.Every.{upto_more, upto_no}
 use Rattle.queue_calls.proofs.Slots.{slot_right, slot_tested, slots_fitted, rest_fitted}
 use Rattle.queue_calls.proofs.own.each_fits.Statement.{statement}
 use Rattle.queue_calls.proofs.own.each_fits.Tie as tie
@@ -47,7 +47,7 @@ returns c u e =
     let w = a.whole in
     let s = l.loop.s in
     let fx : SFits w32 (get_or a.slots.now s (pos 0)) = search rules in
-    slots_fitted w d u (upto-no (slot_right w d u) STATES s (l.loop.inv.1 u e)
+    slots_fitted w d u (upto_no (slot_right w d u) STATES s (l.loop.inv.1 u e)
     (omega (arith, (in-loop-from-then1 c).loop-test.true, l.before.pre.1))
     (slot_tested w d u e s (omega (arith, l.before.pre.0, (in-loop-from-then1 c).loop-test.true, l.before.pre.1))
     (sym (not-true _ c.if1.true) ∙ rw (to_z-of_z fx) at (c.before.slot_fits.ensures u e))))
@@ -61,7 +61,7 @@ loop-again c =
     let s = l.loop.s in
     let fx : SFits w32 (get_or a.slots.now s (pos 0)) = search rules in (
       omega arith,
-      λ u e. upto-more (slot_right w d u) STATES s (l.loop.inv.1 u e)
+      λ u e. upto_more (slot_right w d u) STATES s (l.loop.inv.1 u e)
           (omega (arith, (in-loop-from-else1 c).loop-test.true, l.before.pre.1))
           (slot_tested w d u e s (omega (arith, l.before.pre.0, (in-loop-from-else1 c).loop-test.true, l.before.pre.1))
           (sym (not-false _ c.if1.false) ∙ rw (to_z-of_z fx) at (c.before.slot_fits.ensures u e))),

@@ -10,9 +10,9 @@ use Rattle.meaning.specs.declared.State.{State}
 use Rattle.meaning.specs.Lists.{every, from}
 use Rattle.meaning.specs.Foreign.{legal_at}
 use Rattle.sizes.specs.Sizes.{STATES}
-use Rattle.chart_rows.proofs.Rows.{states-most}
-use Rattle.widget.proofs.Every.{upto-more, upto-no, upto_done}
-use Rattle.queue_calls.proofs.Legal.{legal-rootless, legal-rooted}
+use Rattle.chart_rows.proofs.Rows.{states_most}
+use Rattle.widget.proofs.Every.{upto_more, upto_no, upto_done}
+use Rattle.queue_calls.proofs.Legal.{legal_rootless, legal_rooted}
 use Rattle.queue_calls.proofs.own.legal.Statement.{statement}
 use Rattle.queue_calls.proofs.own.legal.Tie as tie
 
@@ -26,7 +26,7 @@ abbrev decreases-loop : tie.decreases-loop
 decreases-loop chart active n all on s₀ s = n - s
 
 returns : tie.Need-returns invariant-loop decreases-loop
-returns c u e = legal-rootless (chart_of c.before.before.args.chart.now) u e (not-true _ c.if1.true)
+returns c u e = legal_rootless (chart_of c.before.before.args.chart.now) u e (not-true _ c.if1.true)
 
 loop-holds : tie.Need-loop-init invariant-loop decreases-loop
 loop-holds c = (omega arith, λ u e. refl)
@@ -38,7 +38,7 @@ within c =
       arith,
       c.loop-test.true,
       c.before.before.before.before.before.state_count.ensures,
-      states-most c.before.before.before.before.before.before.before.before.args.chart.now,
+      states_most c.before.before.before.before.before.before.before.before.args.chart.now,
     )
 
 legal-at-requires : tie.Need-legal-at-requires invariant-loop decreases-loop
@@ -49,9 +49,9 @@ returns-2 : tie.Need-returns-2 invariant-loop decreases-loop
 returns-2 c u e =
     let k = chart_of c.before.before.before.before.before.before.before.before.before.before.args.chart.now in
     let w = c.before.before.before.loop in
-    legal-rooted k u e c.before.before.before.before.before.before.before.state_count.ensures
+    legal_rooted k u e c.before.before.before.before.before.before.before.state_count.ensures
     (not-false _ c.before.before.before.before.before.before.before.before.if1.false)
-    (upto-no (legal_at k u) c.before.before.before.before.before.before.before.state_count.result w.s (w.invariant.1 u e)
+    (upto_no (legal_at k u) c.before.before.before.before.before.before.before.state_count.result w.s (w.invariant.1 u e)
     c.before.before.loop-test.true
     (sym (c.before.legal_at.ensures u e) ∙ not-true _ c.if2.true))
 
@@ -59,7 +59,7 @@ loop-again : tie.Need-loop-preserved invariant-loop decreases-loop
 loop-again c =
     let w = c.before.before.before.loop in (
       omega arith,
-      λ u e. upto-more
+      λ u e. upto_more
           (legal_at (chart_of c.before.before.before.before.before.before.before.before.before.before.args.chart.now) u)
           c.before.before.before.before.before.before.before.state_count.result w.s (w.invariant.1 u e)
           c.before.before.loop-test.true (sym (c.before.legal_at.ensures u e) ∙ not-false _ c.if2.false),
@@ -69,7 +69,7 @@ returns-3 : tie.Need-returns-3 invariant-loop decreases-loop
 returns-3 c u e =
     let k = chart_of c.before.before.before.before.before.before.before.before.args.chart.now in
     let w = c.before.loop in
-    legal-rooted k u e c.before.before.before.before.before.state_count.ensures
+    legal_rooted k u e c.before.before.before.before.before.state_count.ensures
     (not-false _ c.before.before.before.before.before.before.if1.false)
     (upto_done (legal_at k u) c.before.before.before.before.before.state_count.result w.s (w.invariant.1 u e) (omega arith))
 

@@ -3,7 +3,7 @@ use mathlib.Core.Path.{◌≡◌, refl, sym, ap, ◌∙◌}
 use native.Mathlib.Omega.{arith}
 use borrow.Author.Tests.{not-true, not-false}
 use Rattle.meaning.specs.Value.{chart_of}
-use Rattle.queue_calls.proofs.Whole.{own-illegal, own-marked, own_out, own-astray, own-rest}
+use Rattle.queue_calls.proofs.Whole.{own_illegal, own_marked, own_out, own_astray, own_rest}
 use borrow.Author.Rules.{rules}
 use Rattle.queue_calls.proofs.own.own.Statement.{statement}
 use Rattle.queue_calls.proofs.own.own.Tie as tie
@@ -45,11 +45,11 @@ abbrev start-from-queue-fits : tie.After-queue-fits → tie.Start
 start-from-queue-fits c = (else1-from-queue-fits c).before.before.before.before
 
 returns : tie.Need-returns
-returns c = own-illegal (chart_of (start-from-then1 c).args.chart.now) (start-from-then1 c).args.state
+returns c = own_illegal (chart_of (start-from-then1 c).args.chart.now) (start-from-then1 c).args.state
     (sym (c.before.legal.ensures (start-from-then1 c).args.state refl) ∙ not-true _ c.if1.true)
 
 returns-2 : tie.Need-returns-2
-returns-2 c = own-marked (chart_of (start-from-then2 c).args.chart.now)
+returns-2 c = own_marked (chart_of (start-from-then2 c).args.chart.now)
     (start-from-then2 c).args.state (sym ((else1-from-then2 c).before.legal.ensures (start-from-then2 c).args.state refl)
     ∙ not-false _ (else1-from-then2 c).if1.false)
     c.before.before.state_count.ensures (sym c.before.marks_fit.ensures ∙ not-true _ c.if2.true)
@@ -62,7 +62,7 @@ returns-3 c = own_out (chart_of (start-from-then3 c).args.chart.now) (start-from
     ∙ not-false _ c.before.before.before.if2.false) (sym c.before.values_fit.ensures ∙ not-true _ c.if3.true)
 
 returns-4 : tie.Need-returns-4
-returns-4 c = own-astray (chart_of (start-from-then4 c).args.chart.now) (start-from-then4 c).args.state
+returns-4 c = own_astray (chart_of (start-from-then4 c).args.chart.now) (start-from-then4 c).args.state
     (sym ((state-count-from-then4 c).before.before.before.legal.ensures (start-from-then4 c).args.state refl)
     ∙ not-false _ (state-count-from-then4 c).before.before.if1.false)
     (state-count-from-then4 c).state_count.ensures (sym (values-fit-from-then4 c).before.before.before.marks_fit.ensures
@@ -71,7 +71,7 @@ returns-4 c = own-astray (chart_of (start-from-then4 c).args.chart.now) (start-f
     (sym (c.before.slots_fit.ensures (start-from-then4 c).args.state refl) ∙ not-true _ c.if4.true)
 
 returns-5 : tie.Need-returns-5
-returns-5 c = own-rest (chart_of (start-from-queue-fits c).args.chart.now) (start-from-queue-fits c).args.state
+returns-5 c = own_rest (chart_of (start-from-queue-fits c).args.chart.now) (start-from-queue-fits c).args.state
     (sym ((else1-from-queue-fits c).before.legal.ensures (start-from-queue-fits c).args.state refl)
     ∙ not-false _ (else1-from-queue-fits c).if1.false) (else2-from-queue-fits c).before.before.state_count.ensures
     (sym (else2-from-queue-fits c).before.marks_fit.ensures ∙ not-false _ (else2-from-queue-fits c).if2.false)

@@ -12,7 +12,7 @@ use lib.ListN.{length, get_or, drop}
 use Rattle.sizes.specs.Sizes.{STATES}
 use Rattle.numbers.specs.Equal.{eq_z}
 use Rattle.meaning.specs.Lists.{every}
-use Rattle.widget.proofs.Every.{every-and, every-all}
+use Rattle.widget.proofs.Every.{every_and, every_all}
 use Rattle.queue_calls.proofs.own.rest_empty.Statement.{statement}
 use Rattle.queue_calls.proofs.own.rest_empty.Tie as tie
 
@@ -29,12 +29,12 @@ loop-again c =
     let a = l.before.args in
     let fx : SFits w32 (get_or a.slots.now l.loop.s (pos 0)) = search rules in
     rw (rw (to_z-of_z fx) at c.same.ensures)
-    (every-and (eq_z (negsuc 0)) a.slots.now l.loop.s l.loop.fit (pos 0) l.loop.invariant
+    (every_and (eq_z (negsuc 0)) a.slots.now l.loop.s l.loop.fit (pos 0) l.loop.invariant
     (omega (arith, l.before.requires, c.before.before.loop-test.true)))
 
 returns : tie.Need-returns invariant-loop decreases-loop
 returns c =
-    every-all (eq_z (negsuc 0)) c.before.before.args.slots.now c.before.loop.s c.before.loop.invariant
+    every_all (eq_z (negsuc 0)) c.before.before.args.slots.now c.before.loop.s c.before.loop.invariant
     (omega (arith, c.before.before.requires, c.loop-test.false))
 
 pub rest-empty-spec : {M : Type 1} → statement M

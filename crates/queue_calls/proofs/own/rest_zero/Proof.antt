@@ -12,7 +12,7 @@ use lib.ListN.{get_or, drop}
 use Rattle.sizes.specs.Sizes.{VARIABLES}
 use Rattle.numbers.specs.Equal.{eq_z}
 use Rattle.meaning.specs.Lists.{every}
-use Rattle.widget.proofs.Every.{every-and, every-all}
+use Rattle.widget.proofs.Every.{every_and, every_all}
 use Rattle.queue_calls.proofs.own.rest_zero.Statement.{statement}
 use Rattle.queue_calls.proofs.own.rest_zero.Tie as tie
 
@@ -29,12 +29,12 @@ loop-again c =
     let a = l.before.args in
     let fx : SFits w32 (get_or a.vars.now l.loop.v (pos 0)) = search rules in
     rw (rw (to_z-of_z fx) at c.same.ensures)
-    (every-and (eq_z (pos 0)) a.vars.now l.loop.v l.loop.fit (pos 0) l.loop.invariant
+    (every_and (eq_z (pos 0)) a.vars.now l.loop.v l.loop.fit (pos 0) l.loop.invariant
     (omega (arith, l.before.requires, c.before.before.loop-test.true)))
 
 returns : tie.Need-returns invariant-loop decreases-loop
 returns c =
-    every-all (eq_z (pos 0)) c.before.before.args.vars.now c.before.loop.v c.before.loop.invariant
+    every_all (eq_z (pos 0)) c.before.before.args.vars.now c.before.loop.v c.before.loop.invariant
     (omega (arith, c.before.before.requires, c.loop-test.false))
 
 pub rest-zero-spec : {M : Type 1} → statement M

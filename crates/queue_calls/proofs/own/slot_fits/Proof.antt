@@ -7,8 +7,8 @@ use lib.IntN.{pos}
 use Rattle.meaning.specs.Value.{chart_of}
 use mir.Facts.{to_z-of_z}
 use Rattle.meaning.specs.Tree.{kind_of, is_o}
-use Rattle.chart_rows.proofs.Rows.{states-most}
-use Rattle.queue_calls.proofs.Slots.{place_at, slot-empty, slot-nowhere, slot-not-o, slot-no-child, slot_child}
+use Rattle.chart_rows.proofs.Rows.{states_most}
+use Rattle.queue_calls.proofs.Slots.{place_at, slot_empty, slot_nowhere, slot_not_o, slot_no_child, slot_child}
 use borrow.Author.Rules.{rules}
 use Rattle.queue_calls.proofs.own.slot_fits.Statement.{statement}
 use Rattle.queue_calls.proofs.own.slot_fits.Tie as tie
@@ -23,21 +23,21 @@ returns : tie.Need-returns
 returns c u e =
     let k = c.before.before.before.before in
     (rw (to_z-of_z k.ranges.x) at c.same.ensures)
-    ∙ slot-empty k.args.whole (chart_of k.args.chart.now) u k.args.s k.args.x
+    ∙ slot_empty k.args.whole (chart_of k.args.chart.now) u k.args.s k.args.x
     (rw (to_z-of_z k.ranges.x) at c.before.before.before.place_of.ensures) c.before.enum_told.given.1
 
 returns-2 : tie.Need-returns-2
 returns-2 c u e =
     let d = c.before.before.before in
     let k = d.before.before.before.args in
-    slot-nowhere k.whole (chart_of k.chart.now) u k.s k.x (in_slot d) c.before.state_count.ensures c.if1.true
+    slot_nowhere k.whole (chart_of k.chart.now) u k.s k.x (in_slot d) c.before.state_count.ensures c.if1.true
 
 returns-3 : tie.Need-returns-3
 returns-3 c u e =
     let i = c.before.before.before in
     let d = i.before.before.before in
     let k = d.before.before.before.args in
-    slot-not-o k.whole (chart_of k.chart.now) u k.s k.x (in_slot d) i.before.state_count.ensures i.if1.false
+    slot_not_o k.whole (chart_of k.chart.now) u k.s k.x (in_slot d) i.before.state_count.ensures i.if1.false
     (sym (c.before.is_o.ensures ∙ ap is_o c.before.before.kind_of.ensures) ∙ not-true _ c.if2.true)
 
 -- past the test of the kind
@@ -56,7 +56,7 @@ returns-4 c u e =
     let i = past-nowhere o in
     let d = i.before.before.before in
     let k = (start i).args in
-    slot-no-child k.whole (chart_of k.chart.now) u k.s k.x (in_slot d) i.before.state_count.ensures i.if1.left
+    slot_no_child k.whole (chart_of k.chart.now) u k.s k.x (in_slot d) i.before.state_count.ensures i.if1.left
     (kind o) (sym c.before.is_child.ensures ∙ not-true _ c.if3.true)
 
 leads-on-requires : tie.Need-leads-on-requires
@@ -65,7 +65,7 @@ leads-on-requires c κs =
       (start i).pre,
       omega (
         arith,
-        states-most (start i).args.chart.now,
+        states_most (start i).args.chart.now,
         i.if1.left,
         i.before.state_count.ensures,
       ),

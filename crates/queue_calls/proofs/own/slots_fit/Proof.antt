@@ -6,20 +6,20 @@ use lib.IntN.{negsuc}
 use lib.ListN.{length}
 use Rattle.sizes.specs.Sizes.{STATES}
 use Rattle.numbers.specs.Equal.{eq_z}
-use Rattle.chart_rows.proofs.Rows.{states-most}
-use Rattle.widget.proofs.Every.{every-done}
+use Rattle.chart_rows.proofs.Rows.{states_most}
+use Rattle.widget.proofs.Every.{every_done}
 use Rattle.queue_calls.proofs.own.slots_fit.Statement.{statement}
 use Rattle.queue_calls.proofs.own.slots_fit.Tie as tie
 
 below-states : tie.Need-fit-below-requires
 below-states c κs =
     let k = c.before.before.before in
-    (k.requires, omega (arith, states-most k.args.chart.now), sym c.before.rest_empty.ensures ∙ c.if1.true)
+    (k.requires, omega (arith, states_most k.args.chart.now), sym c.before.rest_empty.ensures ∙ c.if1.true)
 
 below_all : tie.Need-fit-below-requires-2
 below_all c κs =
     let k = c.before.before.before in
-    (k.requires, omega arith, sym (every-done (eq_z (negsuc 0)) k.args.slots.now STATES refl (omega (arith, k.requires))))
+    (k.requires, omega arith, sym (every_done (eq_z (negsuc 0)) k.args.slots.now STATES refl (omega (arith, k.requires))))
 
 pub slots-fit-spec : {M : Type 1} → statement M
 slots-fit-spec =

@@ -4,7 +4,7 @@ use mir.Facts.{to_z-of_z}
 use mir.Syntax.{w32}
 use mir.Val.{SFits}
 use Rattle.meaning.specs.Value.{chart_of}
-use Rattle.queue_calls.proofs.Values.{value_there, value-unused}
+use Rattle.queue_calls.proofs.Values.{value_there, value_unused}
 use borrow.Author.Rules.{rules}
 use Rattle.queue_calls.proofs.own.value_fits.Statement.{statement}
 use Rattle.queue_calls.proofs.own.value_fits.Tie as tie
@@ -28,7 +28,7 @@ returns c = let fl : SFits w32 (var-row-from-between c).var_row.result.low = sea
 
 returns-2 : tie.Need-returns-2
 returns-2 c = (rw (to_z-of_z (start-from-same c).ranges.x) at c.same.ensures)
-    ∙ value-unused (chart_of (start-from-same c).args.chart.now).vars
+    ∙ value_unused (chart_of (start-from-same c).args.chart.now).vars
     (start-from-same c).args.v (start-from-same c).args.x c.before.before.var_count.ensures c.before.if1.false
 
 pub value-fits-spec : {M : Type 1} → statement M

@@ -14,8 +14,8 @@ use Rattle.sizes.specs.Sizes.{VARIABLES}
 use Rattle.numbers.specs.Equal.{eq_z}
 use Rattle.meaning.specs.Lists.{every}
 use Rattle.meaning.specs.Foreign.{values_fit}
-use Rattle.chart_rows.proofs.Rows.{vars-most}
-use Rattle.queue_calls.proofs.Values.{values-more, values-no, values-rest}
+use Rattle.chart_rows.proofs.Rows.{vars_most}
+use Rattle.queue_calls.proofs.Values.{values_more, values_no, values_rest}
 use Rattle.queue_calls.proofs.own.values_fit.Statement.{statement}
 use Rattle.queue_calls.proofs.own.values_fit.Tie as tie
 
@@ -54,7 +54,7 @@ within c =
       arith,
       c.loop-test.true,
       c.before.before.var_count.ensures,
-      vars-most c.before.before.before.args.chart.now,
+      vars_most c.before.before.before.args.chart.now,
     )
 
 returns : tie.Need-returns invariant-loop decreases-loop
@@ -62,7 +62,7 @@ returns c =
     let a = (start-from-then1 c).args in
     let fx : SFits w32 (get_or a.t2 (at-loop-from-then1 c).loop.v (pos 0)) = search rules in
     let long : length a.t2 ≡ VARIABLES = search rules in
-    values-no (chart_of a.chart.now).vars a.t2 (at-loop-from-then1 c).loop.v (at-loop-from-then1 c).loop.invariant.1
+    values_no (chart_of a.chart.now).vars a.t2 (at-loop-from-then1 c).loop.v (at-loop-from-then1 c).loop.invariant.1
     (omega (arith, within (in-loop-from-then1 c))) (sym (rw (to_z-of_z fx) at c.before.value_fits.ensures) ∙ not-true _ c.if1.true)
 
 loop-again : tie.Need-loop-preserved invariant-loop decreases-loop
@@ -71,7 +71,7 @@ loop-again c =
     let fx : SFits w32 (get_or a.t2 (at-loop-from-else1 c).loop.v (pos 0)) = search rules in
     let long : length a.t2 ≡ VARIABLES = search rules in (
       omega arith,
-      values-more (chart_of a.chart.now).vars a.t2 (at-loop-from-else1 c).loop.v (at-loop-from-else1 c).loop.invariant.1
+      values_more (chart_of a.chart.now).vars a.t2 (at-loop-from-else1 c).loop.v (at-loop-from-else1 c).loop.invariant.1
           (omega (arith, within (in-loop-from-else1 c)))
           (sym (rw (to_z-of_z fx) at c.before.value_fits.ensures) ∙ not-false _ c.if1.false),
     )
@@ -84,7 +84,7 @@ returns-2 c =
     let a = l.before.before.before.args in
     let e : n.result ≡ w.v = omega (arith, l.loop-test.false, w.invariant.0) in
     c.rest_zero.ensures ∙ ap (λ k. every (eq_z (pos 0)) (drop k a.t2)) e
-    ∙ values-rest (chart_of a.chart.now).vars a.t2 w.v w.invariant.1 (omega (arith, e, n.ensures))
+    ∙ values_rest (chart_of a.chart.now).vars a.t2 w.v w.invariant.1 (omega (arith, e, n.ensures))
 
 pub values-fit-spec : {M : Type 1} → statement M
 values-fit-spec = tie.close (tie.spec invariant-loop decreases-loop (λ c κs. search rules) loop-holds (λ c. omega (arith, within c))

@@ -1,7 +1,7 @@
 -- `react` makes one step and then null steps. Assumes nothing.
 use borrow.Author.Rules.{rules}
 use mir.Facts.{to_z-of_z}
-use Rattle.widget.proofs.Going.{then-on, then-stop}
+use Rattle.widget.proofs.Going.{then_on, then_stop}
 use Rattle.reaction.proofs.RunLaws.{step_ready}
 use Rattle.reaction.proofs.running.react.Statement.{statement}
 use Rattle.reaction.proofs.running.react.Tie as tie
@@ -16,7 +16,7 @@ abbrev start-from-settle-arg5 : tie.After-settle-arg5 → tie.Start
 start-from-settle-arg5 c = (else1-from-settle-arg5 c).before.before.before.before.before.before.before.before.before
 
 returns : tie.Need-returns
-returns c = then-stop _ (rw (to_z-of_z (start-from-then1 c).ranges.arg) at c.before.before.before.step.ensures) c.if1.true
+returns c = then_stop _ (rw (to_z-of_z (start-from-then1 c).ranges.arg) at c.before.before.before.step.ensures) c.if1.true
 
 settle-requires : tie.Need-settle-requires
 settle-requires c κs = (
@@ -27,7 +27,7 @@ settle-requires c κs = (
 
 returns-2 : tie.Need-returns-2
 returns-2 c =
-    then-on (rw (to_z-of_z (start-from-settle-arg5 c.before.before).ranges.arg) at
+    then_on (rw (to_z-of_z (start-from-settle-arg5 c.before.before).ranges.arg) at
     (else1-from-settle-arg5 c.before.before).before.before.before.step.ensures)
     (else1-from-settle-arg5 c.before.before).if1.false c.before.settle.ensures
 

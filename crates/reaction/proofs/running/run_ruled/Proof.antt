@@ -9,7 +9,7 @@ use mir.Val.{SFits}
 use Rattle.numbers.specs.Reference.{ref}
 use Rattle.invariants.specs.Good.{Sized}
 use Rattle.ends.proofs.Ending.{ends_as}
-use Rattle.reaction.proofs.RunLaws.{run-7, run-6, run-8, run-ready, run_ends}
+use Rattle.reaction.proofs.RunLaws.{run_7, run_6, run_8, run_ready, run_ends}
 use Rattle.reaction.proofs.running.run_ruled.Statement.{statement}
 use Rattle.reaction.proofs.running.run_ruled.Tie as tie
 
@@ -55,19 +55,19 @@ else1-from-trace5 c = (remove-from-trace5 c).before.before.before.before
 returns : tie.Need-returns
 returns c =
     ends_as c.before.before.before.before.before.args.trace.now
-    (run-7 _ _ _ (not-true _ c.before.before.before.if1.true)) c.before.refuse.ensures
+    (run_7 _ _ _ (not-true _ c.before.before.before.if1.true)) c.before.refuse.ensures
 
 returns-2 : tie.Need-returns-2
 returns-2 c =
     ends_as (own-from-trace2 c).before.before.before.args.trace.now
-    (run-6 _ _ _ (not-false _ (own-from-trace2 c).before.if1.false)
+    (run_6 _ _ _ (not-false _ (own-from-trace2 c).before.if1.false)
     (sym (own-from-trace2 c).own.ensures ∙ not-true _ c.before.before.before.if2.true))
     c.before.refuse2.ensures
 
 returns-3 : tie.Need-returns-3
 returns-3 c =
     ends_as (else1-from-trace3 c).before.before.args.trace.now
-    (run-8 _ _ _ _ (remove-from-trace3 c).remove.ensures (not-false _ (else1-from-trace3 c).if1.false)
+    (run_8 _ _ _ _ (remove-from-trace3 c).remove.ensures (not-false _ (else1-from-trace3 c).if1.false)
     (sym (remove-from-trace3 c).before.before.before.own.ensures ∙ not-false _
     (remove-from-trace3 c).before.before.if2.false) (not-true _ c.before.before.before.if3.true))
     c.before.refuse3.ensures
@@ -75,7 +75,7 @@ returns-3 c =
 react-requires : tie.Need-react-requires
 react-requires c κs =
     let k = (else2-from-struct-told2 c).before.before.before.before in (
-      run-ready _ k.pre _ (sized_of k) _ (else3-from-struct-told2 c).before.before.remove.ensures
+      run_ready _ k.pre _ (sized_of k) _ (else3-from-struct-told2 c).before.before.remove.ensures
           (not-false _ (else2-from-struct-told2 c).before.before.if1.false)
           (sym (else2-from-struct-told2 c).before.own.ensures ∙ not-false _
           (else2-from-struct-told2 c).if2.false) (not-false _ (else3-from-struct-told2 c).if3.false) _

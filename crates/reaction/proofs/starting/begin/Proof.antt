@@ -2,15 +2,15 @@
 use borrow.Author.Rules.{rules}
 use Rattle.meaning.specs.Calls.{start_steps}
 use Rattle.widget.specs.View.{Lent, all_lent}
-use Rattle.widget.proofs.Going.{then-on, then-stop}
-use Rattle.reaction.proofs.Going.{ready-next, ready_led}
-use Rattle.reaction.proofs.StartLaws.{root-inside, root-good, defaults-good}
+use Rattle.widget.proofs.Going.{then_on, then_stop}
+use Rattle.reaction.proofs.Going.{ready_next, ready_led}
+use Rattle.reaction.proofs.StartLaws.{root_inside, root_good, defaults_good}
 use Rattle.reaction.proofs.starting.begin.Statement.{statement}
 use Rattle.reaction.proofs.starting.begin.Tie as tie
 
 -- what is lent when it begins
-abbrev at-start : tie.Start → Lent
-at-start c = all_lent c.args.active.now c.args.slots.now c.args.vars.now c.args.queue.now c.args.trace.now
+abbrev at_start : tie.Start → Lent
+at_start c = all_lent c.args.active.now c.args.slots.now c.args.vars.now c.args.queue.now c.args.trace.now
 
 abbrev start-from-enter : tie.After-enter → tie.Start
 start-from-enter c = c.before.before.before.before.before
@@ -33,7 +33,7 @@ returns : tie.Need-returns
 unfolding start_steps
 returns c =
     let e = c.before.before.before in
-    then-stop _ (then-stop _ (e.enter.ensures.1 (at-start (start-from-enter e))) c.if1.true) c.if1.true
+    then_stop _ (then_stop _ (e.enter.ensures.1 (at_start (start-from-enter e))) c.if1.true) c.if1.true
 
 descend-requires : tie.Need-descend-requires
 descend-requires c κs =
@@ -43,8 +43,8 @@ descend-requires c κs =
     let h = start.pre.0 in (
       record { ruled = h.ruled; indexed = start.pre.1 },
       tt,
-      root-inside _ h.ruled,
-      ready_led (ready-next _ (root-good _ h.ruled) (e.enter.ensures.1 (at-start start)) k.if1.false h),
+      root_inside _ h.ruled,
+      ready_led (ready_next _ (root_good _ h.ruled) (e.enter.ensures.1 (at_start start)) k.if1.false h),
       e.enter.ensures.0.fits,
     )
 
@@ -54,7 +54,7 @@ returns-2 c =
     let d = c.before.before.before in
     let k = else1-from-descend d in
     let e = enter-from-else1 k in
-    then-stop _ (then-on (e.enter.ensures.1 (at-start (start-from-enter e))) k.if1.left d.descend.ensures) c.if2.true
+    then_stop _ (then_on (e.enter.ensures.1 (at_start (start-from-enter e))) k.if1.left d.descend.ensures) c.if2.true
 
 settle-requires : tie.Need-settle-requires
 settle-requires c κs =
@@ -64,8 +64,8 @@ settle-requires c κs =
     let e = enter-from-else1 k in
     let start = start-from-enter e in
     let h = start.pre.0 in (
-      ready-next _ (defaults-good _ h.ruled) d.descend.ensures m.if2.false
-          (ready-next _ (root-good _ h.ruled) (e.enter.ensures.1 (at-start start)) k.if1.left h),
+      ready_next _ (defaults_good _ h.ruled) d.descend.ensures m.if2.false
+          (ready_next _ (root_good _ h.ruled) (e.enter.ensures.1 (at_start start)) k.if1.left h),
       start.pre.1,
     )
 
@@ -76,7 +76,7 @@ returns-3 c =
     let d = descend-from-else2 m in
     let k = else1-from-descend d in
     let e = enter-from-else1 k in
-    then-on (then-on (e.enter.ensures.1 (at-start (start-from-enter e))) k.if1.left d.descend.ensures) m.if2.false
+    then_on (then_on (e.enter.ensures.1 (at_start (start-from-enter e))) k.if1.left d.descend.ensures) m.if2.false
     c.before.settle.ensures
 
 pub begin-spec : {M : Type 1} → statement M

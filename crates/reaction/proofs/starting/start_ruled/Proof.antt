@@ -1,6 +1,6 @@
 -- `start_ruled` begins with a fresh widget. Assumes nothing.
 use borrow.Author.Rules.{rules}
-use Rattle.reaction.proofs.StartLaws.{fresh-ready, start_ends}
+use Rattle.reaction.proofs.StartLaws.{fresh_ready, start_ends}
 use Rattle.reaction.proofs.starting.start_ruled.Statement.{statement}
 use Rattle.reaction.proofs.starting.start_ruled.Tie as tie
 
@@ -9,7 +9,7 @@ begin-requires c κs =
     let made = c.before.before.before.before.before.before in
     let lend = made.before in (
       rw (lend.before.before.first_values.ensures, lend.lend.ensures, lend.before.empty.ensures)
-          (fresh-ready _ lend.before.before.before.requires _),
+          (fresh_ready _ lend.before.before.before.requires _),
       made.index_of.ensures,
     )
 

@@ -7,7 +7,7 @@ use borrow.Author.Rules.{rules}
 use Rattle.sizes.specs.Sizes.{NULL_STEPS}
 use Rattle.choice.specs.Choice.{PICKS}
 use Rattle.widget.specs.View.{all_lent}
-use Rattle.reaction.proofs.Settling.{Settling, settling-begin, settling-end, settling-full, settling-stop, settling-on, chose_fires}
+use Rattle.reaction.proofs.Settling.{Settling, settling_begin, settling_end, settling_full, settling_stop, settling_on, chose_fires}
 use Rattle.reaction.proofs.steps.settle.Statement.{statement}
 use Rattle.reaction.proofs.steps.settle.Tie as tie
 
@@ -33,7 +33,7 @@ abbrev at-loop-from-else3 : tie.Else3 invariant-loop decreases-loop → tie.At-l
 at-loop-from-else3 c = (else2-from-else3 c).before.before.before.before.before.before
 
 loop-holds : tie.Need-loop-init invariant-loop decreases-loop
-loop-holds c = (settling-begin c.requires.0, length-replicate {A = ℕ} PICKS 0)
+loop-holds c = (settling_begin c.requires.0, length-replicate {A = ℕ} PICKS 0)
 
 choose-requires : tie.Need-choose-requires invariant-loop decreases-loop
 choose-requires c κs = (c.before.before.before.loop.invariant.0.ready.ruled, c.before.before.before.loop.invariant.1)
@@ -54,22 +54,22 @@ loop-less c = omega (arith, (at-loop-from-else3 c).loop.invariant.0.few, (else2-
 loop-again : tie.Need-loop-preserved invariant-loop decreases-loop
 loop-again c =
     let g = (else2-from-else3 c).before.before.choose.ensures in (
-      settling-on (at-loop-from-else3 c).loop.invariant.0 g (else2-from-else3 c).before.if1.false
+      settling_on (at-loop-from-else3 c).loop.invariant.0 g (else2-from-else3 c).before.if1.false
           (else2-from-else3 c).if2.false c.before.before.before.fire_all.ensures c.if3.false,
       g.size,
     )
 
 returns : tie.Need-returns invariant-loop decreases-loop
-returns c = settling-end c.before.before.before.before.before.loop.invariant.0 c.before.choose.ensures c.if1.true
+returns c = settling_end c.before.before.before.before.before.loop.invariant.0 c.before.choose.ensures c.if1.true
 
 returns-2 : tie.Need-returns-2 invariant-loop decreases-loop
 returns-2 c =
-    settling-full c.before.before.before.before.before.before.loop.invariant.0
+    settling_full c.before.before.before.before.before.before.loop.invariant.0
     c.before.before.choose.ensures c.before.if1.false c.if2.true
 
 returns-3 : tie.Need-returns-3 invariant-loop decreases-loop
 returns-3 c =
-    settling-stop (else2-from-then3 c).before.before.before.before.before.before.loop.invariant.0
+    settling_stop (else2-from-then3 c).before.before.before.before.before.before.loop.invariant.0
     (else2-from-then3 c).before.before.choose.ensures (else2-from-then3 c).before.if1.false
     (else2-from-then3 c).if2.false c.before.before.before.fire_all.ensures c.if3.true
 

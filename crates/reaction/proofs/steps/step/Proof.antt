@@ -4,7 +4,7 @@ use lib.ListN.{length-replicate}
 use borrow.Author.Rules.{rules}
 use mir.Facts.{to_z-of_z}
 use Rattle.choice.specs.Choice.{PICKS}
-use Rattle.reaction.proofs.Settling.{step-here, chose_fires}
+use Rattle.reaction.proofs.Settling.{step_here, chose_fires}
 use Rattle.reaction.proofs.steps.step.Statement.{statement}
 use Rattle.reaction.proofs.steps.step.Tie as tie
 
@@ -24,7 +24,7 @@ fire-all-requires c κs = (
 returns : tie.Need-returns
 returns c =
     rw (to_z-of_z (choose-from-fire-all-arg5 c.before.before).before.before.before.before.ranges.arg) at
-    (step-here _ (choose-from-fire-all-arg5 c.before.before).choose.ensures _
+    (step_here _ (choose-from-fire-all-arg5 c.before.before).choose.ensures _
     c.before.fire_all.ensures)
 
 pub step_spec : {M : Type 1} → statement M

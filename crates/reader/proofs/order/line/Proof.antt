@@ -2,7 +2,7 @@
 use mathlib.Core.Path.{sym, ◌∙◌}
 use native.Mathlib.Omega.{arith}
 use borrow.Author.Rules.{rules}
-use Rattle.reader.proofs.OrderLaws.{misplaced, read-in-place, place_within}
+use Rattle.reader.proofs.OrderLaws.{misplaced, read_in_place, place_within}
 use Rattle.reader.proofs.order.line.Statement.{statement}
 use Rattle.reader.proofs.order.line.Tie as tie
 
@@ -36,7 +36,7 @@ returns : tie.Need-returns
 returns c =
     let i = c.before.before.before.before.before in
     let e = i.before.before.before in
-    read-in-place _ _ _ _ _ _ _ _ _ (sym e.before.placed.ensures ∙ e.if1.true) i.before.before.turn.ensures
+    read_in_place _ _ _ _ _ _ _ _ _ (sym e.before.placed.ensures ∙ e.if1.true) i.before.before.turn.ensures
     i.before.kind_of.ensures i.entry.ensures.0 c.before.line.ensures
 
 returns-2 : tie.Need-returns-2

@@ -1,5 +1,5 @@
 -- `reader::read::read_rows` meets its contract: each way out is a law of the files beside. Assumes nothing.
-use Rattle.reader.proofs.ReadLaws.{rows_long, rows-fault, rows_few, rows-done, all_zero, zero_again, scanned_at, zero_length, few_at}
+use Rattle.reader.proofs.ReadLaws.{rows_long, rows_fault, rows_few, rows_done, all_zero, zero_again, scanned_at, zero_length, few_at}
 use Rattle.reader.proofs.ReadLaws.{enough_at}
 use borrow.Author.Rules.{rules}
 use Rattle.reader.proofs.read.read_rows.Statement.{statement}
@@ -26,7 +26,7 @@ walk-requires c κs = all_zero _ _ c.before.before.before.clear.ensures
 returns-2 : tie.Need-returns-2
 returns-2 c =
     let q = scanned_at (zero_length _ _ (walk-from-chart3 c).before.before.before.before.clear.ensures)
-    (walk-from-chart3 c).walk.ensures in rows-fault _ _ (walk-from-chart3 c).before.before.if1.false _ _
+    (walk-from-chart3 c).walk.ensures in rows_fault _ _ (walk-from-chart3 c).before.before.if1.false _ _
     q _ c.before.before.before.if2.true (zero_again _ _ _ q.size c.before.clear2.ensures)
 
 returns-3 : tie.Need-returns-3
@@ -40,7 +40,7 @@ returns-3 c =
 returns-4 : tie.Need-returns-4
 returns-4 c =
     let q = scanned_at (zero_length _ _ (walk-from-else3 c).before.before.before.before.clear.ensures)
-    (walk-from-else3 c).walk.ensures in rows-done _ _ (walk-from-else3 c).before.before.if1.false _ _ q
+    (walk-from-else3 c).walk.ensures in rows_done _ _ (walk-from-else3 c).before.before.if1.false _ _ q
     c.before.if2.false (enough_at q.size c.if3.false)
 
 pub read-rows-spec : {M : Type 1} → statement M

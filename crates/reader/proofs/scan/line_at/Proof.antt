@@ -3,8 +3,8 @@ use borrow.Author.Rules.{rules}
 use native.Mathlib.Omega.{arith}
 use mathlib.Core.Path.{refl}
 use Rattle.reader.specs.Heard.{heard_line, heard_last}
-use Rattle.reader.proofs.ScanLaws.{walking-within, scan-cut, scan-missing, scan-done, scan-fault, scan-next, onward-over}
-use Rattle.reader.proofs.ScanLaws.{onward-next}
+use Rattle.reader.proofs.ScanLaws.{walking_within, scan_cut, scan_missing, scan_done, scan_fault, scan_next, onward_over}
+use Rattle.reader.proofs.ScanLaws.{onward_next}
 use Rattle.reader.proofs.scan.line_at.Statement.{statement}
 use Rattle.reader.proofs.scan.line_at.Tie as tie
 
@@ -43,26 +43,26 @@ start-from-over3 c = start-from-put-counts-arg c.before.before.before
 
 returns : tie.Need-returns
 returns c =
-    onward-over _ _ _ _ _ _ c.over.ensures
-    (scan-cut _ _ _ _ _ _ (start-from-over c).requires _ (heard_last _ _ _
+    onward_over _ _ _ _ _ _ c.over.ensures
+    (scan_cut _ _ _ _ _ _ (start-from-over c).requires _ (heard_last _ _ _
     c.before.before.enum_told.given.1 c.before.before.before.before.next_line.ensures
     (start-from-over c).requires.inside) refl c.before.if1.true)
 
 returns-2 : tie.Need-returns-2
 returns-2 c =
-    onward-over _ _ _ _ _ _ c.over2.ensures
-    (scan-missing _ _ _ _ _ _ (start-from-over2 c).requires _ (heard_last _ _ _
+    onward_over _ _ _ _ _ _ c.over2.ensures
+    (scan_missing _ _ _ _ _ _ (start-from-over2 c).requires _ (heard_last _ _ _
     (enum-told-from-over2 c).enum_told.given.1 (enum-told-from-over2 c).before.before.next_line.ensures
     (start-from-over2 c).requires.inside) refl
     c.before.before.before.if1.false c.before.if2.true)
 
 put-counts-requires : tie.Need-put-counts-requires
-put-counts-requires c κs = walking-within _ _ _ _ _ _ (start-from-put-counts-arg c).requires
+put-counts-requires c κs = walking_within _ _ _ _ _ _ (start-from-put-counts-arg c).requires
 
 returns-3 : tie.Need-returns-3
 returns-3 c =
-    onward-over _ _ _ _ _ _ c.over3.ensures
-    (scan-done _ _ _ _ _ _ (start-from-over3 c).requires _
+    onward_over _ _ _ _ _ _ c.over3.ensures
+    (scan_done _ _ _ _ _ _ (start-from-over3 c).requires _
     (heard_last _ _ _ (else2-from-over3 c).before.before.before.enum_told.given.1
     (else2-from-over3 c).before.before.before.before.before.next_line.ensures
     (start-from-over3 c).requires.inside) _
@@ -79,20 +79,20 @@ line-requires c κs =
     c.before.before.before.before.before.next_line.ensures in (
       d.stop.low,
       d.stop.high,
-      walking-within _ _ _ _ _ _ c.before.before.before.before.before.before.before.before.requires,
+      walking_within _ _ _ _ _ _ c.before.before.before.before.before.before.before.before.requires,
     )
 
 returns-4 : tie.Need-returns-4
 returns-4 c =
     let d = heard_line _ _ _ _ (letter-at-from-over4 c).before.before.step.given.1
     (next-line-from-over4 c).next_line.ensures in
-    onward-over _ _ _ _ _ _ c.over4.ensures
-    (scan-fault _ _ _ _ _ _ (next-line-from-over4 c).before.before.before.requires _
+    onward_over _ _ _ _ _ _ c.over4.ensures
+    (scan_fault _ _ _ _ _ _ (next-line-from-over4 c).before.before.before.requires _
     d.stop d.more _ _ _ (letter-at-from-over4 c).letter_at.ensures
     c.before.before.before.line.ensures c.before.if3.true)
 
 counted-requires : tie.Need-counted-requires
-counted-requires c κs = walking-within _ _ _ _ _ _ (start-from-else3 c).requires
+counted-requires c κs = walking_within _ _ _ _ _ _ (start-from-else3 c).requires
 
 add-t20 : tie.Need-overflow-add-t20
 add-t20 c =
@@ -107,8 +107,8 @@ returns-5 c =
     let d = heard_line _ _ _ _ (step-from-counted c).step.given.1
     (next-line-from-counted c).next_line.ensures in
     let lo = d.stop.low in
-    onward-next _ _ _ _ _ _ _
-    (scan-next _ _ _ _ _ _ (start-from-else3 c.before).requires _
+    onward_next _ _ _ _ _ _ _
+    (scan_next _ _ _ _ _ _ (start-from-else3 c.before).requires _
     d.stop d.more _ _ _ c.before.before.before.before.before.letter_at.ensures
     c.before.before.before.line.ensures _ c.counted.ensures c.before.if3.false)
     (omega arith)

@@ -45,7 +45,7 @@ use Rattle.reader.specs.Scanned.{zeros, Scanned}
 use Rattle.reader.specs.Onward.{Walking, Onward, begun}
 use Rattle.reader.specs.declared.Reader.{Reader}
 use Rattle.reader.specs.declared.scan.Progress.{Progress}
-use Rattle.reader.proofs.ScanLaws.{left, left_falls, onward-start}
+use Rattle.reader.proofs.ScanLaws.{left, left_falls, onward_start}
 use Rattle.reader.proofs.Again.{LentAgain, lends_again, comes_back}
 use Rattle.reader.specs.contracts.Reader as T
 use Rattle.reader.proofs.Reader.TheLaws as T'
@@ -315,7 +315,7 @@ module _ {M : Type 1} {𝓤 : Ura M} (𝓛 : Logic 𝓤) (mem : Memory → SProp
     so_far = begun;
     numbers = ys;
     long = refl;
-    on = onward-start s.now n ys none;
+    on = onward_start s.now n ys none;
     is = subst (λ
         (y : Progress). Is P.the_row y (P'.lowered y ∷ [])) e (is-lowered z u is);
   }

@@ -14,8 +14,8 @@ use Rattle.promises.specs.Replay.{items_of}
 use Rattle.queue.specs.Queue.{item, no_item}
 use Rattle.widget.specs.View.{all_lent, widget}
 use Rattle.plan_invariants.proofs.Well.{well}
-use Rattle.replaying.proofs.Coursing.{Coursing, coursing_begin, coursing-end, coursing-free, coursing-more, coursing-slots}
-use Rattle.replaying.proofs.Coursing.{coursing-stop}
+use Rattle.replaying.proofs.Coursing.{Coursing, coursing_begin, coursing_end, coursing_free, coursing_more, coursing_slots}
+use Rattle.replaying.proofs.Coursing.{coursing_stop}
 use Rattle.replaying.proofs.Events.{event_at, so_many}
 use Rattle.replaying.proofs.course.go_through.Statement.{statement}
 use Rattle.replaying.proofs.course.go_through.Tie as tie
@@ -52,7 +52,7 @@ next-there c =
     let n = so_many s.args.events.now s.args.count s.pre.1 in
     omega (arith, n, (in-loop-from-call c.before).loop-test.taken)
 
-next-is : (c : tie.After-post-and-run invariant-loop decreases-loop)
+next_is : (c : tie.After-post-and-run invariant-loop decreases-loop)
     → get_or (take (in-loop-from-call c.before).before.before.args.count
     (items_of (in-loop-from-call c.before).before.before.args.events.now))
     (in-loop-from-call c.before).before.loop.done no_item
@@ -60,7 +60,7 @@ next-is : (c : tie.After-post-and-run invariant-loop decreases-loop)
     (2 * (in-loop-from-call c.before).before.loop.done) (pos 0))))
     (to_z w32 (of_z w32 (get_or (in-loop-from-call c.before).before.before.args.events.now
     (2 * (in-loop-from-call c.before).before.loop.done + 1) (pos 0))))
-next-is c =
+next_is c =
     let s = (in-loop-from-call c.before).before.before in
     event_at s.args.events.now s.args.count (in-loop-from-call c.before).before.loop.done _ _
     (in-loop-from-call c.before).loop-test.taken s.pre.1
@@ -72,14 +72,14 @@ post-and-run-requires c κs =
     let s = (in-loop-from-call c).before.before in
     let i = (in-loop-from-call c).before.loop.invariant in
     let w = well s.args.plan.now s.pre.0.formed in
-    (s.pre.0, i.1, coursing-slots w i.0, i.0.whole, coursing-free w i.0, s.pre.3)
+    (s.pre.0, i.1, coursing_slots w i.0, i.0.whole, coursing_free w i.0, s.pre.3)
 
 returns : tie.Need-returns invariant-loop decreases-loop
 returns c =
     let q = call-from-then1 c in
     let s = (in-loop-from-call q.before).before.before in
     let a = s.args in
-    coursing-stop (well a.plan.now s.pre.0.formed) (in-loop-from-call q.before).before.loop.inv.0 (next-there q) (next-is q)
+    coursing_stop (well a.plan.now s.pre.0.formed) (in-loop-from-call q.before).before.loop.inv.0 (next-there q) (next_is q)
     q.post_and_run.ensures.0 c.if1.true
     (all_lent a.active.now a.slots.now a.vars.now a.queue.now a.trace.now) refl refl
 
@@ -87,8 +87,8 @@ loop-again : tie.Need-loop-preserved invariant-loop decreases-loop
 loop-again c =
     let q = call-from-else1 c in
     let s = (in-loop-from-call q.before).before.before in (
-      coursing-more (well s.args.plan.now s.pre.0.formed) (in-loop-from-call q.before).before.loop.inv.0 (next-there q)
-          (next-is q) q.post_and_run.ensures.0 c.if1.false,
+      coursing_more (well s.args.plan.now s.pre.0.formed) (in-loop-from-call q.before).before.loop.inv.0 (next-there q)
+          (next_is q) q.post_and_run.ensures.0 c.if1.false,
       q.post_and_run.ensures.1,
       omega (arith, (in-loop-from-call q.before).loop-test.taken),
     )
@@ -98,7 +98,7 @@ returns-2 c =
     let s = c.before.before in
     let a = s.args in
     let n = so_many a.events.now a.count s.requires.1 in
-    coursing-end (well a.plan.now s.requires.0.formed) c.before.loop.invariant.0
+    coursing_end (well a.plan.now s.requires.0.formed) c.before.loop.invariant.0
     (all_lent a.active.now a.slots.now a.vars.now a.queue.now a.trace.now) refl refl
     (omega (arith, n, c.loop-test.false))
 

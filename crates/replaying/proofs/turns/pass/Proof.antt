@@ -9,7 +9,7 @@ use Rattle.numbers.proofs.Laws.{back32}
 use Rattle.numbers.specs.Reference.{ref}
 use Rattle.queue.specs.Queue.{appended, removed}
 use Rattle.queue.specs.declared.Queued.{Queued}
-use Rattle.replaying.proofs.Passing.{pass-full, pass-empty, pass_on}
+use Rattle.replaying.proofs.Passing.{pass_full, pass_empty, pass_on}
 use Rattle.replaying.proofs.turns.pass.Statement.{statement}
 use Rattle.replaying.proofs.turns.pass.Tie as tie
 
@@ -19,7 +19,7 @@ reference-from-front c = c.before.before.before.before.before.before.before.befo
 returns : tie.Need-returns
 returns c =
     let s = c.before.before.before in
-    pass-full s.args.queue.now s.requires.0 _
+    pass_full s.args.queue.now s.requires.0 _
     (c.before.reference.ensures ∙ ap ref (back32 (get_or s.args.queue.now 0 (pos 0)) c.before.before.reference-arg.given))
     _ _ c.if1.true _
 
@@ -27,7 +27,7 @@ returns-2 : tie.Need-returns-2
 returns-2 c =
     let s = c.before.before.before.before in
     rw (to_z-of_z s.ranges.event, to_z-of_z s.ranges.arg)
-    (pass-empty s.args.queue.now s.requires.0 _
+    (pass_empty s.args.queue.now s.requires.0 _
     (c.before.before.reference.ensures ∙ ap ref
     (back32 (get_or s.args.queue.now 0 (pos 0)) c.before.before.before.reference-arg.given))
     s.args.event s.args.arg c.before.if1.false c.if2.true s.requires.1)

@@ -10,8 +10,8 @@ use Rattle.numbers.specs.Reference.{ref}
 use Rattle.queue.specs.Queue.{item}
 use Rattle.meaning.specs.WellFormed.{plan_by}
 use Rattle.widget.specs.View.{all_lent}
-use Rattle.plan_own.proofs.Clauses.{events-is}
-use Rattle.replaying.proofs.Turning.{turned-6, turned-10, turned-9, turned-run}
+use Rattle.plan_own.proofs.Clauses.{events_is}
+use Rattle.replaying.proofs.Turning.{turned_6, turned_10, turned_9, turned_run}
 use Rattle.replaying.proofs.turns.post_and_run.Statement.{statement}
 use Rattle.replaying.proofs.turns.post_and_run.Tie as tie
 
@@ -31,7 +31,7 @@ returns : tie.Need-returns
 returns c =
     let s = c.before.before in
     let a = s.args in (
-      turned-6 (plan_by a.plan.now) (item a.event a.arg)
+      turned_6 (plan_by a.plan.now) (item a.event a.arg)
           (all_lent a.active.now a.slots.now a.vars.now a.queue.now a.trace.now) (not-true _ c.if1.true),
       s.requires.1,
     )
@@ -40,9 +40,9 @@ returns-2 : tie.Need-returns-2
 returns-2 c =
     let s = c.before.before.before.before in
     let a = s.args in (
-      turned-10 (plan_by a.plan.now) (item a.event a.arg)
+      turned_10 (plan_by a.plan.now) (item a.event a.arg)
           (all_lent a.active.now a.slots.now a.vars.now a.queue.now a.trace.now)
-          (not-false _ c.before.before.if1.false) (events-is s.requires.0)
+          (not-false _ c.before.before.if1.false) (events_is s.requires.0)
           (sym (rw (to_z-of_z s.ranges.event, to_z-of_z s.ranges.arg) at c.before.event_fits.ensures) ∙ not-true _ c.if2.true),
       s.requires.1,
     )
@@ -52,9 +52,9 @@ returns-3 c =
     let q = pass-from-then3 c in
     let s = start-from-pass q in
     let a = s.args in (
-      turned-9 (plan_by a.plan.now) (item a.event a.arg)
+      turned_9 (plan_by a.plan.now) (item a.event a.arg)
           (all_lent a.active.now a.slots.now a.vars.now a.queue.now a.trace.now)
-          (not-false _ q.before.before.before.before.if1.left) (events-is s.pre.0)
+          (not-false _ q.before.before.before.before.if1.left) (events_is s.pre.0)
           (sym (rw (to_z-of_z s.fits.event, to_z-of_z s.fits.arg) at q.before.before.before.event_fits.ensures)
           ∙ not-false _ q.before.before.if2.left)
           (rw (to_z-of_z s.fits.event, to_z-of_z s.fits.arg) at q.pass.ensures) (not-true _ c.if3.true),
@@ -90,9 +90,9 @@ returns-4 c =
     let q = o.before.before in
     let s = start-from-pass q in
     let a = s.args in (
-      turned-run (plan_by a.plan.now) (item a.event a.arg)
+      turned_run (plan_by a.plan.now) (item a.event a.arg)
           (all_lent a.active.now a.slots.now a.vars.now a.queue.now a.trace.now)
-          (not-false _ q.before.before.before.before.if1.left) (events-is s.pre.0)
+          (not-false _ q.before.before.before.before.if1.left) (events_is s.pre.0)
           (sym (rw (to_z-of_z s.fits.event, to_z-of_z s.fits.arg) at q.before.before.before.event_fits.ensures)
           ∙ not-false _ q.before.before.if2.left)
           (rw (to_z-of_z s.fits.event, to_z-of_z s.fits.arg) at q.pass.ensures) (not-false _ o.if3.left) s.pre.3

@@ -4,9 +4,9 @@ use native.Mathlib.Omega.{arith}
 use borrow.Author.Rules.{rules}
 use Rattle.meaning.specs.Value.{chart_of, owner_by, act_by}
 use Rattle.chart_rows.proofs.Said.{said_of2, said_of3}
-use Rattle.chart_rows.proofs.Rows.{actions-most}
-use Rattle.chart_rows.proofs.Rows.{act-said, owner_said}
-use Rattle.rules.proofs.Fields.{no-owner, by-act}
+use Rattle.chart_rows.proofs.Rows.{actions_most}
+use Rattle.chart_rows.proofs.Rows.{act_said, owner_said}
+use Rattle.rules.proofs.Fields.{no_owner, by_act}
 use Rattle.rules.proofs.records.action_fits.Statement.{statement}
 use Rattle.rules.proofs.records.action_fits.Tie as tie
 
@@ -20,29 +20,29 @@ abbrev number-at2-from-act-fits : tie.After-act-fits → tie.After-number-at2
 number-at2-from-act-fits c = (number-at3-from-act-fits c).before.before.before.before
 
 mul_at : tie.Need-overflow-mul-at
-mul_at c = omega (arith, actions-most c.args.chart.now)
+mul_at c = omega (arith, actions_most c.args.chart.now)
 
 add_at : tie.Need-overflow-add-at
-add_at c = omega (arith, actions-most c.args.chart.now)
+add_at c = omega (arith, actions_most c.args.chart.now)
 
 add-number-at : tie.Need-overflow-add-number-at
-add-number-at c = omega (arith, actions-most c.before.args.chart.now)
+add-number-at c = omega (arith, actions_most c.before.args.chart.now)
 
 add-number-at-2 : tie.Need-overflow-add-number-at-2
-add-number-at-2 c = omega (arith, actions-most c.before.before.before.before.before.args.chart.now)
+add-number-at-2 c = omega (arith, actions_most c.before.before.before.before.before.args.chart.now)
 
 add-number-at-3 : tie.Need-overflow-add-number-at-3
-add-number-at-3 c = omega (arith, actions-most c.before.before.before.before.before.before.args.chart.now)
+add-number-at-3 c = omega (arith, actions_most c.before.before.before.before.before.before.args.chart.now)
 
 add-number-at-4 : tie.Need-overflow-add-number-at-4
-add-number-at-4 c = omega (arith, actions-most c.before.before.before.before.before.before.before.args.chart.now)
+add-number-at-4 c = omega (arith, actions_most c.before.before.before.before.before.before.before.args.chart.now)
 
 returns : tie.Need-returns
 returns c =
     let k = (number-at-from-then1 c).before in
     let m = (number-at-from-then1 c).number_at in
     let n = c.before.before.before.number-at2 in
-    no-owner (chart_of k.args.chart.now) _ (said_of2 owner_by m.ok m.ensures n.type-inv n.ensures
+    no_owner (chart_of k.args.chart.now) _ (said_of2 owner_by m.ok m.ensures n.type-inv n.ensures
     c.before.before.owner_by.ensures
     ∙ owner_said k.args.chart.now k.args.i k.pre) c.before.owner_fits.ensures c.if1.true
 
@@ -54,12 +54,12 @@ returns-2 c =
     let x = (number-at3-from-act-fits c).number-at3 in
     let y = c.before.before.before.number-at4 in
     let z = c.before.before.number-at5 in
-    by-act (chart_of k.args.chart.now) _ (said_of2 owner_by m.ok m.ensures n.ok n.ensures
+    by_act (chart_of k.args.chart.now) _ (said_of2 owner_by m.ok m.ensures n.ok n.ensures
     (number-at3-from-act-fits c).before.before.before.owner_by.ensures
     ∙ owner_said k.args.chart.now k.args.i k.pre) (number-at3-from-act-fits c).before.before.owner_fits.ensures
     (number-at3-from-act-fits c).before.if1.false
     (said_of3 act_by x.ok x.ensures y.type-inv y.ensures z.type-inv z.ensures c.before.act_by.ensures
-    ∙ act-said k.args.chart.now k.args.i k.pre) c.act_fits.ensures
+    ∙ act_said k.args.chart.now k.args.i k.pre) c.act_fits.ensures
 
 pub action-fits-spec : {M : Type 1} → statement M
 action-fits-spec = tie.close (tie.spec mul_at add_at (λ c κs. search rules) add-number-at (λ c κs. search rules)

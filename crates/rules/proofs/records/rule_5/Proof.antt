@@ -9,7 +9,7 @@ use Rattle.meaning.specs.Tree.{var_row}
 use Rattle.meaning.specs.Rules.{row_fits, rule_5}
 use Rattle.meaning.specs.Value.{chart_of}
 use Rattle.rules.proofs.Tests.{refuted, held}
-use Rattle.rules.proofs.Every.{every-stop, every-next, every-done}
+use Rattle.rules.proofs.Every.{every_stop, every_next, every_done}
 use borrow.Author.Rules.{rules}
 use Rattle.rules.proofs.records.rule_5.Statement.{statement}
 use Rattle.rules.proofs.records.rule_5.Tie as tie
@@ -35,7 +35,7 @@ unfolding var_row
 returns c =
     let w = (at-loop-from-then1 c).loop in
     let k = chart_of (at-loop-from-then1 c).before.before.args.chart.now in
-    every-stop row_fits k.vars no_var w.i (omega arith)
+    every_stop row_fits k.vars no_var w.i (omega arith)
     (refuted (c.before.row_fits.ensures ∙ ap row_fits c.before.before.var_row.ensures) c.if1.true) w.inv
 
 loop-again : tie.Need-loop-preserved invariant-loop decreases-loop
@@ -43,14 +43,14 @@ unfolding var_row
 loop-again c =
     let w = (at-loop-from-else1 c).loop in
     let k = chart_of (at-loop-from-else1 c).before.before.args.chart.now in
-    every-next row_fits k.vars no_var w.i (omega arith)
+    every_next row_fits k.vars no_var w.i (omega arith)
     (held (c.before.row_fits.ensures ∙ ap row_fits c.before.before.var_row.ensures) c.if1.false) w.inv
 
 returns-2 : tie.Need-returns-2 invariant-loop decreases-loop
 returns-2 c =
     let w = c.before.loop in
     let k = chart_of c.before.before.before.args.chart.now in
-    every-done row_fits k.vars no_var w.i (omega arith) w.invariant
+    every_done row_fits k.vars no_var w.i (omega arith) w.invariant
 
 pub rule-5-spec : {M : Type 1} → statement M
 rule-5-spec = tie.close (tie.spec invariant-loop decreases-loop (λ c κs. search rules)

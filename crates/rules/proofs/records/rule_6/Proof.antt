@@ -9,7 +9,7 @@ use Rattle.meaning.specs.Tree.{trans_row}
 use Rattle.meaning.specs.Rules.{transition_fits, rule_6}
 use Rattle.meaning.specs.Value.{chart_of}
 use Rattle.rules.proofs.Tests.{refuted, held}
-use Rattle.rules.proofs.Every.{every-stop, every-next, every-done}
+use Rattle.rules.proofs.Every.{every_stop, every_next, every_done}
 use borrow.Author.Rules.{rules}
 use Rattle.rules.proofs.records.rule_6.Statement.{statement}
 use Rattle.rules.proofs.records.rule_6.Tie as tie
@@ -32,7 +32,7 @@ unfolding trans_row
 returns c =
     let w = c.before.before.before.loop in
     let k = chart_of c.before.before.before.before.before.args.chart.now in
-    every-stop (transition_fits k) k.transitions
+    every_stop (transition_fits k) k.transitions
     no_trans w.i (omega arith) (refuted c.before.transition_fits.ensures c.if1.true) w.invariant
 
 loop-again : tie.Need-loop-preserved invariant-loop decreases-loop
@@ -40,14 +40,14 @@ unfolding trans_row
 loop-again c =
     let w = c.before.before.before.loop in
     let k = chart_of c.before.before.before.before.before.args.chart.now in
-    every-next (transition_fits k) k.transitions
+    every_next (transition_fits k) k.transitions
     no_trans w.i (omega arith) (held c.before.transition_fits.ensures c.if1.false) w.invariant
 
 returns-2 : tie.Need-returns-2 invariant-loop decreases-loop
 returns-2 c =
     let w = c.before.loop in
     let k = chart_of c.before.before.before.args.chart.now in
-    every-done (transition_fits k) k.transitions no_trans w.i (omega arith) w.invariant
+    every_done (transition_fits k) k.transitions no_trans w.i (omega arith) w.invariant
 
 pub rule-6-spec : {M : Type 1} → statement M
 rule-6-spec = tie.close (tie.spec invariant-loop decreases-loop

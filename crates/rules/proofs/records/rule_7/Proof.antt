@@ -8,7 +8,7 @@ use Rattle.meaning.specs.Chart.{no_action}
 use Rattle.meaning.specs.Rules.{action_fits, rule_7}
 use Rattle.meaning.specs.Value.{chart_of}
 use Rattle.rules.proofs.Tests.{refuted, held}
-use Rattle.rules.proofs.Every.{every-stop, every-next, every-done}
+use Rattle.rules.proofs.Every.{every_stop, every_next, every_done}
 use borrow.Author.Rules.{rules}
 use Rattle.rules.proofs.records.rule_7.Statement.{statement}
 use Rattle.rules.proofs.records.rule_7.Tie as tie
@@ -30,20 +30,20 @@ returns : tie.Need-returns invariant-loop decreases-loop
 returns c =
     let w = c.before.before.before.loop in
     let k = chart_of c.before.before.before.before.before.args.chart.now in
-    every-stop (action_fits k) k.actions no_action
+    every_stop (action_fits k) k.actions no_action
     w.i (omega arith) (refuted c.before.action_fits.ensures c.if1.true) w.invariant
 
 loop-again : tie.Need-loop-preserved invariant-loop decreases-loop
 loop-again c =
     let w = c.before.before.before.loop in
     let k = chart_of c.before.before.before.before.before.args.chart.now in
-    every-next (action_fits k) k.actions no_action w.i (omega arith) (held c.before.action_fits.ensures c.if1.false) w.invariant
+    every_next (action_fits k) k.actions no_action w.i (omega arith) (held c.before.action_fits.ensures c.if1.false) w.invariant
 
 returns-2 : tie.Need-returns-2 invariant-loop decreases-loop
 returns-2 c =
     let w = c.before.loop in
     let k = chart_of c.before.before.before.args.chart.now in
-    every-done (action_fits k) k.actions no_action w.i (omega arith) w.invariant
+    every_done (action_fits k) k.actions no_action w.i (omega arith) w.invariant
 
 pub rule-7-spec : {M : Type 1} → statement M
 rule-7-spec = tie.close (tie.spec invariant-loop decreases-loop

@@ -5,9 +5,9 @@ use borrow.Author.Rules.{rules}
 use Rattle.numbers.specs.Reference.{ref}
 use Rattle.meaning.specs.Value.{chart_of, guard_by, target_by}
 use Rattle.chart_rows.proofs.Said.{said_of, said_of2, said_of3}
-use Rattle.chart_rows.proofs.Rows.{transitions-most}
-use Rattle.chart_rows.proofs.Rows.{guard-said, source-said, target_said, trigger-said}
-use Rattle.rules.proofs.Fields.{no_source, no-trigger, no-guard, by-target}
+use Rattle.chart_rows.proofs.Rows.{transitions_most}
+use Rattle.chart_rows.proofs.Rows.{guard_said, source_said, target_said, trigger_said}
+use Rattle.rules.proofs.Fields.{no_source, no_trigger, no_guard, by_target}
 use Rattle.rules.proofs.records.transition_fits.Statement.{statement}
 use Rattle.rules.proofs.records.transition_fits.Tie as tie
 
@@ -61,81 +61,81 @@ abbrev number-at-from-target-fits : tie.After-target-fits → tie.After-number-a
 number-at-from-target-fits c = (number-at2-from-target-fits c).before.before.before.before.before
 
 mul_at : tie.Need-overflow-mul-at
-mul_at c = omega (arith, transitions-most c.args.chart.now)
+mul_at c = omega (arith, transitions_most c.args.chart.now)
 
 add_at : tie.Need-overflow-add-at
-add_at c = omega (arith, transitions-most c.args.chart.now)
+add_at c = omega (arith, transitions_most c.args.chart.now)
 
 add-number-at : tie.Need-overflow-add-number-at
-add-number-at c = omega (arith, transitions-most c.before.before.before.before.before.args.chart.now)
+add-number-at c = omega (arith, transitions_most c.before.before.before.before.before.args.chart.now)
 
 add-number-at-2 : tie.Need-overflow-add-number-at-2
-add-number-at-2 c = omega (arith, transitions-most c.before.before.before.before.before.before.before.before.args.chart.now)
+add-number-at-2 c = omega (arith, transitions_most c.before.before.before.before.before.before.before.before.args.chart.now)
 
 add-number-at-3 : tie.Need-overflow-add-number-at-3
-add-number-at-3 c = omega (arith, transitions-most (start-from-number-at3 c).args.chart.now)
+add-number-at-3 c = omega (arith, transitions_most (start-from-number-at3 c).args.chart.now)
 
 add-number-at-4 : tie.Need-overflow-add-number-at-4
-add-number-at-4 c = omega (arith, transitions-most (start-from-number-at3 c.before).args.chart.now)
+add-number-at-4 c = omega (arith, transitions_most (start-from-number-at3 c.before).args.chart.now)
 
 add-number-at-5 : tie.Need-overflow-add-number-at-5
-add-number-at-5 c = omega (arith, transitions-most (start-from-number-at3 c.before.before.before.before.before).args.chart.now)
+add-number-at-5 c = omega (arith, transitions_most (start-from-number-at3 c.before.before.before.before.before).args.chart.now)
 
 add-number-at-6 : tie.Need-overflow-add-number-at-6
-add-number-at-6 c = omega (arith, transitions-most (start-from-number-at6 c).args.chart.now)
+add-number-at-6 c = omega (arith, transitions_most (start-from-number-at6 c).args.chart.now)
 
 returns : tie.Need-returns
 returns c =
     let k = (number-at-from-then1 c).before in
     no_source (chart_of k.args.chart.now) _ (said_of ref (number-at-from-then1 c).number_at.type-inv
     (number-at-from-then1 c).number_at.ensures c.before.before.reference.ensures
-    ∙ source-said k.args.chart.now k.args.i k.pre)
+    ∙ source_said k.args.chart.now k.args.i k.pre)
     c.before.is_state.ensures c.if1.true
 
 returns-2 : tie.Need-returns-2
 returns-2 c =
     let k = (number-at-from-then2 c).before in
-    no-trigger (chart_of k.args.chart.now) _ (said_of ref (number-at-from-then2 c).number_at.type-inv
+    no_trigger (chart_of k.args.chart.now) _ (said_of ref (number-at-from-then2 c).number_at.type-inv
     (number-at-from-then2 c).number_at.ensures
     (else1-from-then2 c).before.before.reference.ensures
-    ∙ source-said k.args.chart.now k.args.i k.pre)
+    ∙ source_said k.args.chart.now k.args.i k.pre)
     (else1-from-then2 c).before.is_state.ensures (else1-from-then2 c).if1.false
     (said_of ref c.before.before.number-at2.type-inv c.before.before.number-at2.ensures c.before.reference2.ensures
-    ∙ trigger-said k.args.chart.now k.args.i k.pre)
+    ∙ trigger_said k.args.chart.now k.args.i k.pre)
     c.before.before.before.event_count.ensures c.if2.true
 
 returns-3 : tie.Need-returns-3
 returns-3 c =
     let k = (number-at-from-then3 c).before in
-    no-guard (chart_of k.args.chart.now) _ (said_of ref (number-at-from-then3 c).number_at.type-inv
+    no_guard (chart_of k.args.chart.now) _ (said_of ref (number-at-from-then3 c).number_at.type-inv
     (number-at-from-then3 c).number_at.ensures (number-at2-from-then3 c).before.before.before.before.reference.ensures
-    ∙ source-said k.args.chart.now k.args.i k.pre)
+    ∙ source_said k.args.chart.now k.args.i k.pre)
     (number-at2-from-then3 c).before.before.before.is_state.ensures
     (number-at2-from-then3 c).before.before.if1.false
     (said_of ref (number-at2-from-then3 c).number-at2.type-inv
     (number-at2-from-then3 c).number-at2.ensures
     (number-at3-from-then3 c).before.before.reference2.ensures
-    ∙ trigger-said k.args.chart.now k.args.i k.pre)
+    ∙ trigger_said k.args.chart.now k.args.i k.pre)
     (number-at2-from-then3 c).before.event_count.ensures
     (number-at3-from-then3 c).before.if2.false
     (said_of3 guard_by (number-at3-from-then3 c).number-at3.type-inv
     (number-at3-from-then3 c).number-at3.ensures (number-at4-from-then3 c).number-at4.type-inv
     (number-at4-from-then3 c).number-at4.ensures
     (number-at5-from-then3 c).number-at5.type-inv (number-at5-from-then3 c).number-at5.ensures c.before.before.guard_by.ensures
-    ∙ guard-said k.args.chart.now k.args.i k.pre)
+    ∙ guard_said k.args.chart.now k.args.i k.pre)
     c.before.guard_fits.ensures c.if3.true
 
 returns-4 : tie.Need-returns-4
 returns-4 c =
     let k = (number-at-from-target-fits c).before in
-    by-target (chart_of k.args.chart.now) _ (said_of ref
+    by_target (chart_of k.args.chart.now) _ (said_of ref
     (number-at-from-target-fits c).number_at.type-inv (number-at-from-target-fits c).number_at.ensures
     (number-at2-from-target-fits c).before.before.before.before.reference.ensures
-    ∙ source-said k.args.chart.now k.args.i k.pre)
+    ∙ source_said k.args.chart.now k.args.i k.pre)
     (number-at2-from-target-fits c).before.before.before.is_state.ensures
     (number-at2-from-target-fits c).before.before.if1.false (said_of ref (number-at2-from-target-fits c).number-at2.type-inv
     (number-at2-from-target-fits c).number-at2.ensures (number-at3-from-target-fits c).before.before.reference2.ensures
-    ∙ trigger-said k.args.chart.now k.args.i k.pre)
+    ∙ trigger_said k.args.chart.now k.args.i k.pre)
     (number-at2-from-target-fits c).before.event_count.ensures
     (number-at3-from-target-fits c).before.if2.false
     (said_of3 guard_by (number-at3-from-target-fits c).number-at3.type-inv
@@ -145,7 +145,7 @@ returns-4 c =
     (number-at5-from-target-fits c).number-at5.type-inv
     (number-at5-from-target-fits c).number-at5.ensures
     (number-at6-from-target-fits c).before.before.before.guard_by.ensures
-    ∙ guard-said k.args.chart.now k.args.i k.pre)
+    ∙ guard_said k.args.chart.now k.args.i k.pre)
     (number-at6-from-target-fits c).before.before.guard_fits.ensures (number-at6-from-target-fits c).before.if3.false
     (said_of2 target_by (number-at6-from-target-fits c).number-at6.type-inv (number-at6-from-target-fits c).number-at6.ensures
     c.before.before.number-at7.type-inv c.before.before.number-at7.ensures

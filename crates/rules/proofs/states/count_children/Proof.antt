@@ -4,9 +4,9 @@ use Prim.Native.Nat.{◌-◌, ◌≤◌}
 use native.Mathlib.Omega.{arith}
 use lib.ListN.{length}
 use Rattle.meaning.specs.Value.{chart_of}
-use Rattle.chart_rows.proofs.Rows.{states-most}
+use Rattle.chart_rows.proofs.Rows.{states_most}
 use Rattle.rules.specs.Family.{Family}
-use Rattle.rules.proofs.Children.{family_none, family-root, family-far, family-more, young_length}
+use Rattle.rules.proofs.Children.{family_none, family_root, family_far, family_more, young_length}
 use borrow.Author.Rules.{rules}
 use Rattle.rules.proofs.states.count_children.Statement.{statement}
 use Rattle.rules.proofs.states.count_children.Tie as tie
@@ -42,7 +42,7 @@ loop-again : tie.Need-loop-preserved invariant-loop decreases-loop
 loop-again c =
     let k = chart_of c.before.before.before.before.before.before.before.args.chart.now in
     let w = c.before.before.before.before.before.loop in
-    (omega arith, family-root k w.next w.counts w.plain w.invariant.1 c.if1.true)
+    (omega arith, family_root k w.next w.counts w.plain w.invariant.1 c.if1.true)
 
 loop-less-2 : tie.Need-loop-smaller-2 invariant-loop decreases-loop
 loop-less-2 c = omega arith
@@ -52,7 +52,7 @@ loop-again-2 c =
     let k = chart_of c.before.before.before.before.before.before.before.before.args.chart.now in
     let w = c.before.before.before.before.before.before.loop in (
       omega arith,
-      family-far k w.next w.counts w.plain w.invariant.1 c.before.if1.false
+      family_far k w.next w.counts w.plain w.invariant.1 c.before.if1.false
           (rw c.before.before.before.before.parent_of.ensures at c.if2.true),
     )
 
@@ -74,7 +74,7 @@ add-counts c =
       young_length k
           w.next p,
       c.before.before.before.before.before.before.before.state_count.ensures,
-      states-most
+      states_most
           c.before.before.before.before.before.before.before.before.args.chart.now,
     )
 
@@ -101,7 +101,7 @@ loop-again-3 c =
     let k = chart_of c.before.before.before.before.before.before.before.before.before.args.chart.now in
     let w = c.before.before.before.before.before.before.before.loop in (
       omega arith,
-      family-more k w.next w.counts w.plain w.invariant.1 c.before.before.before.before.before.parent_of.result
+      family_more k w.next w.counts w.plain w.invariant.1 c.before.before.before.before.before.parent_of.result
           c.both.result c.before.before.if1.false c.before.before.before.before.before.parent_of.ensures
           c.before.if2.false
           (c.both.ensures ∙ rw (c.before.before.before.is_o.ensures, c.before.before.before.before.kind_of.ensures)),

@@ -9,9 +9,9 @@ use Rattle.meaning.specs.Chart.{Chart}
 use Rattle.meaning.specs.Tree.{kind_of, children, all_states}
 use Rattle.meaning.specs.Rules.{children_fit, rule_3}
 use Rattle.meaning.specs.Value.{chart_of}
-use Rattle.chart_rows.proofs.Rows.{states-most}
+use Rattle.chart_rows.proofs.Rows.{states_most}
 use Rattle.rules.proofs.Tests.{refuted, held}
-use Rattle.rules.proofs.Every.{all_start, all-stop, all-next, all_done}
+use Rattle.rules.proofs.Every.{all_start, all_stop, all_next, all_done}
 use Rattle.rules.proofs.Children.{counted_fits}
 use borrow.Author.Rules.{rules}
 use Rattle.rules.proofs.states.rule_3.Statement.{statement}
@@ -41,13 +41,13 @@ kind-of-requires : tie.Need-kind-of-requires invariant-loop decreases-loop
 kind-of-requires c κs = search rules
 
 mul-children-fit : tie.Need-overflow-mul-children-fit invariant-loop decreases-loop
-mul-children-fit c = omega (arith, states-most c.before.before.before.before.before.before.before.args.chart.now)
+mul-children-fit c = omega (arith, states_most c.before.before.before.before.before.before.before.args.chart.now)
 
 array-read-children-fit : tie.Need-array-read-children-fit invariant-loop decreases-loop
-array-read-children-fit c = omega (arith, states-most c.before.before.before.before.before.before.before.args.chart.now)
+array-read-children-fit c = omega (arith, states_most c.before.before.before.before.before.before.before.args.chart.now)
 
 array-read-children-fit-2 : tie.Need-array-read-children-fit-2 invariant-loop decreases-loop
-array-read-children-fit-2 c = omega (arith, states-most c.before.before.before.before.before.before.before.args.chart.now)
+array-read-children-fit-2 c = omega (arith, states_most c.before.before.before.before.before.before.before.args.chart.now)
 
 children-fit-requires : tie.Need-children-fit-requires invariant-loop decreases-loop
 children-fit-requires c κs = search rules
@@ -57,10 +57,10 @@ returns c =
     let k = chart_of c.before.before.before.before.before.before.before.before.before.args.chart.now in
     let w = c.before.before.before.before.loop in
     let f = c.before.before.before.before.before.before.before.count_children in
-    all-stop (tried k) (length k.states) w.s (omega arith)
+    all_stop (tried k) (length k.states) w.s (omega arith)
     (refuted (c.before.children_fit.ensures
     ∙ rw c.before.before.kind_of.ensures (counted_fits k f.result.counts f.result.plain w.s f.ensures
-    (omega (arith, states-most c.before.before.before.before.before.before.before.before.before.args.chart.now))))
+    (omega (arith, states_most c.before.before.before.before.before.before.before.before.before.args.chart.now))))
     c.if1.true) w.invariant
 
 add-s : tie.Need-overflow-add-s invariant-loop decreases-loop
@@ -74,10 +74,10 @@ loop-again c =
     let k = chart_of c.before.before.before.before.before.before.before.before.before.args.chart.now in
     let w = c.before.before.before.before.loop in
     let f = c.before.before.before.before.before.before.before.count_children in
-    all-next (tried k) (length k.states) w.s (omega arith)
+    all_next (tried k) (length k.states) w.s (omega arith)
     (held (c.before.children_fit.ensures
     ∙ rw c.before.before.kind_of.ensures (counted_fits k f.result.counts f.result.plain w.s f.ensures
-    (omega (arith, states-most c.before.before.before.before.before.before.before.before.before.args.chart.now))))
+    (omega (arith, states_most c.before.before.before.before.before.before.before.before.before.args.chart.now))))
     c.if1.false) w.invariant
 
 returns-2 : tie.Need-returns-2 invariant-loop decreases-loop

@@ -10,7 +10,7 @@ use Rattle.meaning.specs.Tree.{kind_of, all_states}
 use Rattle.meaning.specs.Rules.{default_fits, rule_4}
 use Rattle.meaning.specs.Value.{chart_of}
 use Rattle.rules.proofs.Tests.{refuted, held}
-use Rattle.rules.proofs.Every.{all_start, all-stop, all-next, all_done}
+use Rattle.rules.proofs.Every.{all_start, all_stop, all_next, all_done}
 use borrow.Author.Rules.{rules}
 use Rattle.rules.proofs.states.rule_4.Statement.{statement}
 use Rattle.rules.proofs.states.rule_4.Tie as tie
@@ -32,13 +32,13 @@ returns : tie.Need-returns invariant-loop decreases-loop
 returns c =
     let w = c.before.before.before.loop in
     let k = chart_of c.before.before.before.before.before.args.chart.now in
-    all-stop (tried k) (length k.states) w.s (omega arith) (refuted c.before.default_fits.ensures c.if1.true) w.invariant
+    all_stop (tried k) (length k.states) w.s (omega arith) (refuted c.before.default_fits.ensures c.if1.true) w.invariant
 
 loop-again : tie.Need-loop-preserved invariant-loop decreases-loop
 loop-again c =
     let w = c.before.before.before.loop in
     let k = chart_of c.before.before.before.before.before.args.chart.now in
-    all-next (tried k) (length k.states) w.s (omega arith) (held c.before.default_fits.ensures c.if1.false) w.invariant
+    all_next (tried k) (length k.states) w.s (omega arith) (held c.before.default_fits.ensures c.if1.false) w.invariant
 
 returns-2 : tie.Need-returns-2 invariant-loop decreases-loop
 returns-2 c =

@@ -9,7 +9,7 @@ use Rattle.meaning.specs.Value.{one_of_letters, ACTIONS_AT, ACT_ROW}
 use Rattle.rules.specs.Clauses.{number_if}
 use Rattle.chart_rows.proofs.Said.{said_of}
 use Rattle.rules.proofs.Tests.{refuted, held, on}
-use Rattle.rules.proofs.Letters.{action-read}
+use Rattle.rules.proofs.Letters.{action_read}
 use borrow.Author.Rules.{rules}
 use Rattle.rules.proofs.value.action_statable.Statement.{statement}
 use Rattle.rules.proofs.value.action_statable.Tie as tie
@@ -36,7 +36,7 @@ returns : tie.Need-returns
 returns c =
     let a = c.before.before.before.before.args in
     let n1 = c.before.before.number_at in
-    rw (action-read a.chart.now (ACTIONS_AT + a.i * ACT_ROW) a.i)
+    rw (action_read a.chart.now (ACTIONS_AT + a.i * ACT_ROW) a.i)
     (rw (refuted (said_of (one_of_letters (101 ∷ 120 ∷ 100 ∷ 116 ∷ [])) n1.type-inv n1.ensures c.before.one_of_letters.ensures)
     c.if1.true))
 
@@ -45,7 +45,7 @@ returns-2 c =
     let a = (one-of-letters-from-then2 c).before.before.before.args in
     let n1 = (one-of-letters-from-then2 c).before.number_at in
     let n2 = c.before.before.number-at2 in
-    rw (action-read a.chart.now (ACTIONS_AT + a.i * ACT_ROW) a.i)
+    rw (action_read a.chart.now (ACTIONS_AT + a.i * ACT_ROW) a.i)
     (on (held (said_of (one_of_letters (101 ∷ 120 ∷ 100 ∷ 116 ∷ [])) n1.ok
     n1.ensures (one-of-letters-from-then2 c).one_of_letters.ensures) c.before.before.before.if1.false)
     (rw (refuted (said_of in_range n2.type-inv n2.ensures c.before.in_range.ensures) c.if2.true)))
@@ -56,7 +56,7 @@ returns-3 c =
     let n1 = (one-of-letters-from-then3 c).before.number_at in
     let n2 = (else2-from-then3 c).before.before.number-at2 in
     let n3 = c.before.before.before.number-at3 in
-    rw (action-read a.chart.now (ACTIONS_AT + a.i * ACT_ROW) a.i)
+    rw (action_read a.chart.now (ACTIONS_AT + a.i * ACT_ROW) a.i)
     (on (held (said_of (one_of_letters (101 ∷ 120 ∷ 100 ∷ 116 ∷ [])) n1.ok
     n1.ensures (one-of-letters-from-then3 c).one_of_letters.ensures) (else2-from-then3 c).before.before.before.if1.false)
     (on (held (said_of in_range n2.ok n2.ensures (else2-from-then3 c).before.in_range.ensures) (else2-from-then3 c).if2.false)
@@ -70,7 +70,7 @@ returns-4 c =
     let n2 = (in-range-from-then4 c).before.number-at2 in
     let n3 = (one-of-letters2-from-then4 c).before.before.number-at3 in
     let n4 = c.before.before.number-at4 in
-    rw (action-read a.chart.now (ACTIONS_AT + a.i * ACT_ROW) a.i)
+    rw (action_read a.chart.now (ACTIONS_AT + a.i * ACT_ROW) a.i)
     (on (held (said_of (one_of_letters (101 ∷ 120 ∷ 100 ∷ 116 ∷ [])) n1.ok n1.ensures
     (in-range-from-then4 c).before.before.before.one_of_letters.ensures) (in-range-from-then4 c).before.before.if1.false)
     (on (held (said_of in_range n2.ok n2.ensures (in-range-from-then4 c).in_range.ensures)
@@ -87,7 +87,7 @@ returns-5 c =
     let n3 = c.before.before.before.before.before.before.before.before.before.before.number-at3 in
     let n4 = c.before.before.before.before.before.before.number-at4 in
     let n5 = c.before.number-at5 in
-    rw (action-read a.chart.now (ACTIONS_AT + a.i * ACT_ROW) a.i)
+    rw (action_read a.chart.now (ACTIONS_AT + a.i * ACT_ROW) a.i)
     (on (held (said_of (one_of_letters (101 ∷ 120 ∷ 100 ∷ 116 ∷ [])) n1.ok n1.ensures c.before.before.before.before.before.before.before.before.before.before.before.before.before.before.before.one_of_letters.ensures)
     c.before.before.before.before.before.before.before.before.before.before.before.before.before.before.if1.false)
     (on (held (said_of in_range n2.type-inv n2.ensures

@@ -1,7 +1,7 @@
 -- `kind_counted`: two states at least, of E no count. Assumes nothing.
 use native.Mathlib.Omega.{arith}
 use Rattle.meaning.specs.Grammar.{record_by}
-use Rattle.rules.proofs.KindTests.{few, states-counted, events-counted, kind_counted}
+use Rattle.rules.proofs.KindTests.{few, states_counted, events_counted, kind_counted}
 use borrow.Author.Rules.{rules}
 use Rattle.rules.proofs.value.kind_counted.Statement.{statement}
 use Rattle.rules.proofs.value.kind_counted.Tie as tie
@@ -18,6 +18,6 @@ kind-counted-spec =
     (λ c κs. search rules)
     (λ c κs. search rules)
     (λ c κs. (omega arith, rw c.kind.ensures.most (few (record_by c.before.before.args.kind))))
-    (λ c. states-counted c.before.before.args.chart.now _ c.before.match.keys1 c.count_fits.ensures)
-    (λ c. events-counted c.before.args.chart.now _ c.match.keys2)
+    (λ c. states_counted c.before.before.args.chart.now _ c.before.match.keys1 c.count_fits.ensures)
+    (λ c. events_counted c.before.args.chart.now _ c.match.keys2)
     returns-3)

@@ -6,7 +6,7 @@ use lib.ListN.{drop}
 use Rattle.meaning.specs.Grammar.{record_by}
 use Rattle.meaning.specs.Lists.{every_from}
 use Rattle.meaning.specs.Value.{laid, rows_of, statable, part_fits}
-use Rattle.rules.proofs.KindTests.{rows_end, row-stops, row_goes}
+use Rattle.rules.proofs.KindTests.{rows_end, row_stops, row_goes}
 use borrow.Author.Rules.{rules}
 use Rattle.rules.proofs.value.rows_statable.Statement.{statement}
 use Rattle.rules.proofs.value.rows_statable.Tie as tie
@@ -21,7 +21,7 @@ decreases-loop chart kind count i₀ i = count - i
 returns : tie.Need-returns invariant-loop decreases-loop
 returns c =
     let w = c.before.before.before.before in
-    row-stops w.before.args.chart.now _ _ _ w.how_many.ensures.0 _ c.before.before.loop-test.true
+    row_stops w.before.args.chart.now _ _ _ w.how_many.ensures.0 _ c.before.before.loop-test.true
     c.before.row_statable.ensures c.if1.true c.before.before.before.loop.invariant
 
 loop-again : tie.Need-loop-preserved invariant-loop decreases-loop

@@ -9,7 +9,7 @@ use Rattle.meaning.specs.Lists.{every}
 use Rattle.meaning.specs.Value.{PARTS, VALUE, part_fits, rule_0}
 use Rattle.rules.specs.Clauses.{kind_fits}
 use Rattle.rules.proofs.Tests.{on}
-use Rattle.rules.proofs.KindTests.{all_kinds, kind-stops, kind-goes, kinds-end}
+use Rattle.rules.proofs.KindTests.{all_kinds, kind_stops, kind_goes, kinds_end}
 use borrow.Author.Rules.{rules}
 use Rattle.rules.proofs.value.rule_0.Statement.{statement}
 use Rattle.rules.proofs.value.rule_0.Tie as tie
@@ -31,13 +31,13 @@ returns-2 c =
     let w = d.before.before in
     let v = w.before.before.args.chart.now in
     on (le-leb VALUE (length v) w.before.if1.false)
-    (kind-stops v _ w.loop.invariant d.before.loop-test.true _ d.letter.ensures _ c.before.kind_fits.ensures c.if2.true)
+    (kind_stops v _ w.loop.invariant d.before.loop-test.true _ d.letter.ensures _ c.before.kind_fits.ensures c.if2.true)
 
 loop-again : tie.Need-loop-preserved invariant-loop decreases-loop
 loop-again c =
     let d = c.before.before in
     let w = d.before.before in
-    kind-goes w.before.before.args.chart.now _ w.loop.invariant d.before.loop-test.true _ d.letter.ensures _
+    kind_goes w.before.before.args.chart.now _ w.loop.invariant d.before.loop-test.true _ d.letter.ensures _
     c.before.kind_fits.ensures c.if2.false
 
 returns-3 : tie.Need-returns-3 invariant-loop decreases-loop
@@ -45,7 +45,7 @@ unfolding rule_0
 returns-3 c =
     let w = c.before in
     let v = w.before.before.args.chart.now in
-    on (le-leb VALUE (length v) w.before.if1.false) (kinds-end v _ w.loop.invariant c.loop-test.false)
+    on (le-leb VALUE (length v) w.before.if1.false) (kinds_end v _ w.loop.invariant c.loop-test.false)
 
 pub rule-0-spec : {M : Type 1} → statement M
 rule-0-spec =

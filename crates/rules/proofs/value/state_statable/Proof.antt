@@ -12,7 +12,7 @@ use Rattle.meaning.specs.Value.{is_letter, one_of_letters, STATES_AT, STATE_ROW}
 use Rattle.rules.specs.Clauses.{number_if}
 use Rattle.chart_rows.proofs.Said.{said_of}
 use Rattle.rules.proofs.Tests.{refuted, held, on}
-use Rattle.rules.proofs.Letters.{state-read}
+use Rattle.rules.proofs.Letters.{state_read}
 use borrow.Author.Rules.{rules}
 use Rattle.rules.proofs.value.state_statable.Statement.{statement}
 use Rattle.rules.proofs.value.state_statable.Tie as tie
@@ -24,7 +24,7 @@ returns : tie.Need-returns
 returns c =
     let a = c.before.before.before.args in
     let x = c.before.before.number_at in
-    rw (state-read a.chart.now (STATES_AT + a.n * STATE_ROW) a.n)
+    rw (state_read a.chart.now (STATES_AT + a.n * STATE_ROW) a.n)
     (rw (refuted (said_of (number_if (not (eqb a.n 0))) x.type-inv x.ensures c.before.number_if.ensures) c.if1.true))
 
 returns-2 : tie.Need-returns-2
@@ -32,7 +32,7 @@ returns-2 c =
     let a = (else1-from-then2 c).before.before.before.args in
     let x = (else1-from-then2 c).before.before.number_at in
     let y = c.before.before.before.number-at2 in
-    rw (state-read a.chart.now (STATES_AT + a.n * STATE_ROW) a.n)
+    rw (state_read a.chart.now (STATES_AT + a.n * STATE_ROW) a.n)
     (on (held (said_of (number_if (not (eqb a.n 0))) x.ok x.ensures (else1-from-then2 c).before.number_if.ensures)
     (else1-from-then2 c).if1.false)
     (rw (refuted (said_of (one_of_letters (111 ∷ 97 ∷ 98 ∷ [])) y.type-inv y.ensures c.before.one_of_letters.ensures)
@@ -44,7 +44,7 @@ returns-3 c =
     let x = c.before.before.before.before.before.before.before.before.before.number_at in
     let y = c.before.before.before.before.before.before.number-at2 in
     let z = c.before.number-at3 in
-    rw (state-read a.chart.now (STATES_AT + a.n * STATE_ROW) a.n)
+    rw (state_read a.chart.now (STATES_AT + a.n * STATE_ROW) a.n)
     (on (held (said_of (number_if (not (eqb a.n 0)))
     x.type-inv x.ensures c.before.before.before.before.before.before.before.before.number_if.ensures)
     c.before.before.before.before.before.before.before.if1.false)

@@ -7,7 +7,7 @@ use Rattle.meaning.specs.Value.{TRANSITIONS_AT, TRANS_ROW}
 use Rattle.rules.specs.Clauses.{guard_statable, target_statable}
 use Rattle.chart_rows.proofs.Said.{said_of, said_of2, said_of3}
 use Rattle.rules.proofs.Tests.{refuted, held, on}
-use Rattle.rules.proofs.Letters.{trans-read}
+use Rattle.rules.proofs.Letters.{trans_read}
 use borrow.Author.Rules.{rules}
 use Rattle.rules.proofs.value.trans_statable.Statement.{statement}
 use Rattle.rules.proofs.value.trans_statable.Tie as tie
@@ -34,7 +34,7 @@ returns : tie.Need-returns
 returns c =
     let a = c.before.before.before.args in
     let x = c.before.before.number_at in
-    rw (trans-read a.chart.now (TRANSITIONS_AT + a.i * TRANS_ROW) a.i)
+    rw (trans_read a.chart.now (TRANSITIONS_AT + a.i * TRANS_ROW) a.i)
     (rw (refuted (said_of in_range x.type-inv x.ensures c.before.in_range.ensures) c.if1.true))
 
 returns-2 : tie.Need-returns-2
@@ -42,7 +42,7 @@ returns-2 c =
     let a = (in-range-from-then2 c).before.before.args in
     let x = (in-range-from-then2 c).before.number_at in
     let y = c.before.before.number-at2 in
-    rw (trans-read a.chart.now (TRANSITIONS_AT + a.i * TRANS_ROW) a.i)
+    rw (trans_read a.chart.now (TRANSITIONS_AT + a.i * TRANS_ROW) a.i)
     (on (held (said_of in_range x.ok x.ensures (in-range-from-then2 c).in_range.ensures) c.before.before.before.if1.false)
     (rw (refuted (said_of in_range y.type-inv y.ensures c.before.in-range2.ensures) c.if2.true)))
 
@@ -54,7 +54,7 @@ returns-3 c =
     let v = (number-at3-from-then3 c).number-at3 in
     let g = c.before.before.before.number-at4 in
     let k = c.before.before.number-at5 in
-    rw (trans-read a.chart.now (TRANSITIONS_AT + a.i * TRANS_ROW) a.i)
+    rw (trans_read a.chart.now (TRANSITIONS_AT + a.i * TRANS_ROW) a.i)
     (on (held (said_of in_range x.ok x.ensures (else1-from-then3 c).before.in_range.ensures) (else1-from-then3 c).if1.false)
     (on (held (said_of in_range y.ok y.ensures (number-at3-from-then3 c).before.before.in-range2.ensures)
     (number-at3-from-then3 c).before.if2.false)
@@ -71,7 +71,7 @@ returns-4 c =
     let k = (guard-statable-from-target-statable c).before.number-at5 in
     let h = c.before.before.number-at6 in
     let s = c.before.number-at7 in
-    rw (trans-read a.chart.now (TRANSITIONS_AT + a.i * TRANS_ROW) a.i)
+    rw (trans_read a.chart.now (TRANSITIONS_AT + a.i * TRANS_ROW) a.i)
     (on (held (said_of in_range x.ok x.ensures (in-range-from-target-statable c).in_range.ensures)
     (else2-from-target-statable c).before.before.before.if1.false)
     (on (held (said_of in_range y.ok y.ensures (else2-from-target-statable c).before.in-range2.ensures)

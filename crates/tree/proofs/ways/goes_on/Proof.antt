@@ -1,7 +1,7 @@
 -- `goes_on` goes by the kind of the state, and for an o state by its way. Assumes nothing.
 use native.Mathlib.Omega.{arith}
-use Rattle.chart_rows.proofs.Rows.{states-most}
-use Rattle.tree.proofs.Among.{on-inside, default-inside, among_one, among-default, among-stop, among-all, among_none}
+use Rattle.chart_rows.proofs.Rows.{states_most}
+use Rattle.tree.proofs.Among.{on_inside, default_inside, among_one, among_default, among_stop, among_all, among_none}
 use borrow.Author.Rules.{rules}
 use Rattle.tree.proofs.ways.goes_on.Statement.{statement}
 use Rattle.tree.proofs.ways.goes_on.Tie as tie
@@ -37,8 +37,8 @@ add-t9 : tie.Need-overflow-add-t9
 add-t9 c =
     omega (
       arith,
-      states-most (start-from-known-told c).args.chart.now,
-      on-inside _ (start-from-known-told c).requires.0 _ (start-from-known-told c).requires.1
+      states_most (start-from-known-told c).args.chart.now,
+      on_inside _ (start-from-known-told c).requires.0 _ (start-from-known-told c).requires.1
           (start-from-known-told c).args.next (start-from-known-told c).requires.2 _
           (kind-of-from-known-told c).kind_of.ensures _ (enum-told-from-known-told c).enum_told.given.1
           c.before.next.given.1,
@@ -48,15 +48,15 @@ add-t10 : tie.Need-overflow-add-t10
 add-t10 c =
     omega (
       arith,
-      states-most (start-from-default-child c).args.chart.now,
-      default-inside _ (start-from-default-child c).requires.0 _ (start-from-default-child c).requires.1
+      states_most (start-from-default-child c).args.chart.now,
+      default_inside _ (start-from-default-child c).requires.0 _ (start-from-default-child c).requires.1
           (start-from-default-child c).args.next (start-from-default-child c).requires.2 _
           (kind-of-from-default-child c).kind_of.ensures _
           (enum-told-from-default-child c).enum_told.given.1 c.default_child.ensures,
     )
 
 add-t11 : tie.Need-overflow-add-t11
-add-t11 c = omega (arith, states-most c.before.before.before.args.chart.now)
+add-t11 c = omega (arith, states_most c.before.before.before.args.chart.now)
 
 returns : tie.Need-returns
 returns c =
@@ -67,21 +67,21 @@ returns c =
 
 returns-2 : tie.Need-returns-2
 returns-2 c =
-    among-default _ (start-from-default-child c).requires.0 _ (start-from-default-child c).requires.1
+    among_default _ (start-from-default-child c).requires.0 _ (start-from-default-child c).requires.1
     (start-from-default-child c).args.next (start-from-default-child c).requires.2 _
     (kind-of-from-default-child c).kind_of.ensures _ (enum-told-from-default-child c).enum_told.given.1
     c.before.enum-told2.given.1 c.default_child.ensures
 
 returns-3 : tie.Need-returns-3
 returns-3 c =
-    among-stop _ (start-from-enum-told3 c).requires.0 _ (start-from-enum-told3 c).requires.1
+    among_stop _ (start-from-enum-told3 c).requires.0 _ (start-from-enum-told3 c).requires.1
     (start-from-enum-told3 c).args.next (start-from-enum-told3 c).requires.2 _
     c.before.before.before.before.kind_of.ensures c.before.before.enum_told.given.1
     c.enum-told3.given.1
 
 returns-4 : tie.Need-returns-4
 returns-4 c =
-    among-all _ (start-from-state-count c).requires.0 _ (start-from-state-count c).requires.1
+    among_all _ (start-from-state-count c).requires.0 _ (start-from-state-count c).requires.1
     (start-from-state-count c).args.next (start-from-state-count c).requires.2 _
     c.before.before.before.kind_of.ensures c.before.enum-told4.given.1 _
     c.state_count.ensures

@@ -7,7 +7,7 @@ use mathlib.Core.Bool.{not, false, ◌&&◌}
 use lib.ListN.{drop, length}
 use Rattle.sizes.specs.Sizes.{STATES}
 use Rattle.meaning.specs.Lists.{every}
-use Rattle.widget.proofs.Every.{every-and, every-all}
+use Rattle.widget.proofs.Every.{every_and, every_all}
 use Rattle.widget.proofs.fits.marks_fit.Statement.{statement}
 use Rattle.widget.proofs.fits.marks_fit.Tie as tie
 
@@ -22,12 +22,12 @@ long c = search rules
 
 loop-again : tie.Need-loop-preserved invariant-loop decreases-loop
 loop-again c =
-    every-and not c.before.before.args.t2 c.before.loop.i c.before.loop.fit false c.before.loop.invariant
+    every_and not c.before.before.args.t2 c.before.loop.i c.before.loop.fit false c.before.loop.invariant
     (omega (arith, long c.before.before))
 
 returns : tie.Need-returns invariant-loop decreases-loop
 returns c =
-    every-all not c.before.before.args.t2 c.before.loop.i c.before.loop.invariant (omega (arith, long c.before.before))
+    every_all not c.before.before.args.t2 c.before.loop.i c.before.loop.invariant (omega (arith, long c.before.before))
 
 pub marks-fit-spec : {M : Type 1} → statement M
 marks-fit-spec =

@@ -9,7 +9,7 @@ use Rattle.sizes.specs.Sizes.{QUEUE}
 use Rattle.queue.specs.Queue.{no_item}
 use Rattle.meaning.specs.Lists.{every}
 use Rattle.meaning.specs.Foreign.{is_none}
-use Rattle.widget.proofs.Every.{every-and, every-all}
+use Rattle.widget.proofs.Every.{every_and, every_all}
 use Rattle.widget.proofs.fits.rest_free.Statement.{statement}
 use Rattle.widget.proofs.fits.rest_free.Tie as tie
 
@@ -26,12 +26,12 @@ loop-again : tie.Need-loop-preserved invariant-loop decreases-loop
 loop-again c =
     let at = c.before.before.before in
     ap (λ b. (at.loop.fit && b) && every is_none (drop (at.loop.i + 1) at.before.args.t1.items)) c.is_free.ensures
-    ∙ every-and is_none at.before.args.t1.items
+    ∙ every_and is_none at.before.args.t1.items
     at.loop.i at.loop.fit no_item at.loop.invariant (omega (arith, long at.before))
 
 returns : tie.Need-returns invariant-loop decreases-loop
 returns c =
-    every-all is_none c.before.before.args.t1.items c.before.loop.i c.before.loop.invariant
+    every_all is_none c.before.before.args.t1.items c.before.loop.i c.before.loop.invariant
     (omega (arith, long c.before.before))
 
 pub rest-free-spec : {M : Type 1} → statement M

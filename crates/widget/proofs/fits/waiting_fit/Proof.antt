@@ -12,8 +12,8 @@ use Rattle.sizes.specs.Sizes.{QUEUE}
 use Rattle.queue.specs.Queue.{no_item, waiting}
 use Rattle.meaning.specs.Lists.{every}
 use Rattle.meaning.specs.Foreign.{item_fits}
-use Rattle.widget.proofs.Every.{every_more, every-no, every-done}
-use Rattle.widget.proofs.Tests.{waiting-long, waiting-at}
+use Rattle.widget.proofs.Every.{every_more, every_no, every_done}
+use Rattle.widget.proofs.Tests.{waiting_long, waiting_at}
 use Rattle.widget.proofs.fits.waiting_fit.Statement.{statement}
 use Rattle.widget.proofs.fits.waiting_fit.Tie as tie
 
@@ -48,10 +48,10 @@ returns c =
     (get_or (start-from-then1 c).args.t2.items (at-loop-from-then1 c).loop.i no_item).event = search rules in
     let fa : SFits w32
     (get_or (start-from-then1 c).args.t2.items (at-loop-from-then1 c).loop.i no_item).arg = search rules in
-    every-no (item_fits (start-from-then1 c).args.events) (waiting (start-from-then1 c).args.t2)
+    every_no (item_fits (start-from-then1 c).args.events) (waiting (start-from-then1 c).args.t2)
     (at-loop-from-then1 c).loop.i no_item (at-loop-from-then1 c).loop.invariant.1
-    (rw (waiting-long (start-from-then1 c).args.t2 (long (start-from-then1 c)) (start-from-then1 c).requires 0)
-    (omega arith)) (waiting-at (start-from-then1 c).args.t2 (long (start-from-then1 c))
+    (rw (waiting_long (start-from-then1 c).args.t2 (long (start-from-then1 c)) (start-from-then1 c).requires 0)
+    (omega arith)) (waiting_at (start-from-then1 c).args.t2 (long (start-from-then1 c))
     (start-from-then1 c).requires (at-loop-from-then1 c).loop.i (start-from-then1 c).args.events _
     (omega arith)
     (sym (not-true _ c.if1.true) ∙ rw (to_z-of_z fe, to_z-of_z fa) at c.before.event_fits.ensures))
@@ -66,18 +66,18 @@ loop-again c = (
       rules in every_more (item_fits (start-from-else1 c).args.events)
       (waiting (start-from-else1 c).args.t2) (at-loop-from-else1 c).loop.i no_item
       (at-loop-from-else1 c).loop.invariant.1
-      (rw (waiting-long (start-from-else1 c).args.t2 (long (start-from-else1 c))
+      (rw (waiting_long (start-from-else1 c).args.t2 (long (start-from-else1 c))
       (start-from-else1 c).requires 0) (omega arith))
-      (waiting-at (start-from-else1 c).args.t2 (long (start-from-else1 c)) (start-from-else1 c).requires
+      (waiting_at (start-from-else1 c).args.t2 (long (start-from-else1 c)) (start-from-else1 c).requires
       (at-loop-from-else1 c).loop.i (start-from-else1 c).args.events _ (omega arith)
       (sym (not-false _ c.if1.false) ∙ rw (to_z-of_z fe, to_z-of_z fa) at c.before.event_fits.ensures)),
 )
 
 returns-2 : tie.Need-returns-2 invariant-loop decreases-loop
 returns-2 c =
-    every-done (item_fits c.before.before.args.events) (waiting c.before.before.args.t2)
+    every_done (item_fits c.before.before.args.events) (waiting c.before.before.args.t2)
     c.before.loop.i c.before.loop.invariant.1
-    (rw (waiting-long c.before.before.args.t2 (long c.before.before) c.before.before.requires 0)
+    (rw (waiting_long c.before.before.args.t2 (long c.before.before) c.before.before.requires 0)
     (omega arith))
 
 pub waiting-fit-spec : {M : Type 1} → statement M

@@ -7,15 +7,15 @@ use Rattle.meaning.specs.Grammar.{record_by, row_size}
 use Rattle.meaning.specs.Value.{laid, place, rows_of}
 use Rattle.meaning.specs.Line.{text_of_row}
 use Rattle.pen.specs.Pen.{pen, put_all}
-use Rattle.writer.proofs.RowLaws.{left-from, row_statable, row_more, rows-done, next-near, next_row}
+use Rattle.writer.proofs.RowLaws.{left_from, row_statable, row_more, rows_done, next_near, next_row}
 use borrow.Author.Rules.{rules}
 use Rattle.writer.proofs.rows.put_rows.Statement.{statement}
 use Rattle.writer.proofs.rows.put_rows.Tie as tie
 
 abbrev invariant-loop : tie.invariant-loop
 invariant-loop chart kind text₀ p a count q₀ at₀ n₀ text q at n =
-    (put_all (left-from (text_of_row (record_by kind)) (rows_of chart (record_by kind)) n) (pen text q)
-    ≡ put_all (left-from (text_of_row (record_by kind)) (rows_of chart (record_by kind)) 0) (pen text₀ p))
+    (put_all (left_from (text_of_row (record_by kind)) (rows_of chart (record_by kind)) n) (pen text q)
+    ≡ put_all (left_from (text_of_row (record_by kind)) (rows_of chart (record_by kind)) 0) (pen text₀ p))
     × (at ≡ place (laid (record_by kind)) + n * row_size (record_by kind)) × (length text ≡ length text₀)
 
 abbrev decreases-loop : tie.decreases-loop
@@ -42,7 +42,7 @@ add_at c =
     let w = h.before in
     let s = start-from-at-loop w in
     let k = w.before.before.kind.ensures.size in
-    let m = next-near s.args.chart.now s.pre _ _ w.before.how_many.ensures _ _ w.loop.inv.1 h.loop-test.taken in
+    let m = next_near s.args.chart.now s.pre _ _ w.before.how_many.ensures _ _ w.loop.inv.1 h.loop-test.taken in
     omega arith
 
 loop-again : tie.Need-loop-preserved invariant-loop decreases-loop
@@ -64,7 +64,7 @@ returns : tie.Need-returns invariant-loop decreases-loop
 returns c =
     let w = c.before in
     let s = start-from-at-loop w in
-    rows-done s.args.chart.now s.pre _ _ w.before.how_many.ensures _ _ w.loop.invariant.1 _ _ c.loop-test.false
+    rows_done s.args.chart.now s.pre _ _ w.before.how_many.ensures _ _ w.loop.invariant.1 _ _ c.loop-test.false
     w.loop.invariant.0
 
 pub put-rows-spec : {M : Type 1} → statement M

@@ -1,5 +1,5 @@
 -- `Digits::number` is `digits_number`, case by case. Assumes nothing.
-use Rattle.console.proofs.ScanLaws.{number_zero, number-plain, number-negative}
+use Rattle.console.proofs.ScanLaws.{number_zero, number_plain, number_negative}
 use borrow.Author.Rules.{rules}
 use Rattle.console.specs.Scan.{digits_number}
 use Rattle.console.proofs.scan.Digits.number.Statement.{statement}
@@ -9,10 +9,10 @@ returns : tie.Need-returns
 returns c = number_zero _ c.enum_told.given.1
 
 returns-2 : tie.Need-returns-2
-returns-2 c = number-plain _ _ _ c.before.before.self.given.1 c.plain_number.ensures
+returns-2 c = number_plain _ _ _ c.before.before.self.given.1 c.plain_number.ensures
 
 returns-3 : tie.Need-returns-3
-returns-3 c = number-negative _ _ _ c.before.before.self2.given.1 c.minus_number.ensures
+returns-3 c = number_negative _ _ _ c.before.before.self2.given.1 c.minus_number.ensures
 
 returns-4 : tie.Need-returns-4
 unfolding digits_number

@@ -1,12 +1,12 @@
 -- `Scan::line` is `line_at`: both fields as numbers. Assumes nothing.
-use Rattle.console.proofs.ScanLaws.{line-whole}
+use Rattle.console.proofs.ScanLaws.{line_whole}
 use borrow.Author.Rules.{rules}
 use Rattle.console.specs.Scan.{line_at}
 use Rattle.console.proofs.scan.Scan.line.Statement.{statement}
 use Rattle.console.proofs.scan.Scan.line.Tie as tie
 
 returns : tie.Need-returns
-returns c = line-whole _ _ _ _ _ _ c.before.before.before.before.self.given.1
+returns c = line_whole _ _ _ _ _ _ c.before.before.before.before.self.given.1
     c.before.before.number.ensures c.before.number2.ensures c.line_of.ensures
 
 returns-2 : tie.Need-returns-2
