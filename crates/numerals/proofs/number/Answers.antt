@@ -23,5 +23,5 @@ plain_of-requires c = rw c.natural-2.ensures (nat_small _)
 pub returns : goal.returns
 returns c =
     let h : c.args.from < c.args.to = omega arith in
-    c.plain_of_lem.ensures ∙ ap with_no_sign c.natural-2.ensures
+    c.plain_of.ensures ∙ ap with_no_sign c.natural-2.ensures
     ∙ sym (num_plain _ _ _ h c.requires.1 c.if-s-from-eq45.false)
