@@ -12,16 +12,8 @@ use Rattle.choice.proofs.Loop.{row_fits, row_enabled, up_to, held_none}
 use Rattle.choice.proofs.All.{chosen_all, none_left, source_off, source_begins, source_ends}
 use Rattle.choice.proofs.Turns.{Turn, meant_aims, turn_of, choosing_passed, choosing_off}
 use Rattle.choice.proofs.Turns.{choosing_clash, choosing_room, choosing_noted}
-use Rattle.choice.proofs.choose.Invariants.{invariant-loop-x, decreases-loop-x, invariant-transitions, decreases-transitions, invariant-sources, decreases-sources}
-use Rattle.choice.proofs.choose.Goals.{After-mark_gone, At-transitions}
+use Rattle.choice.proofs.choose.Goals.{After-mark_gone, After-span_of-span}
 use Rattle.choice.proofs.choose.Goals as goal
-
-abbrev At-span : Type 0
-At-span = tie.After-span-of invariant-loop-x decreases-loop-x invariant-transitions decreases-transitions invariant-sources decreases-sources
-
-abbrev at-transitions-from-span-of : At-span
-    → At-transitions
-at-transitions-from-span-of c = c.before.before.before.before.before.before.before
 
 pub sources-init : goal.sources-init
 sources-init c = (
@@ -113,7 +105,7 @@ pub loop-x-init : goal.loop-x-init
 loop-x-init c = (refl, omega arith, λ y p q. absurd (omega arith))
 
 -- the row under way, enabled, with its span
-row_there : (c : At-span) → c.transitions.t < length
+row_there : (c : After-span_of-span) → c.transitions.t < length
     (chart_of c.args.chart.now).transitions
 row_there c = omega (
   arith,
@@ -121,7 +113,7 @@ row_there c = omega (
   c.transition_count-n.ensures,
 )
 
-turn : (c : At-span)
+turn : (c : After-span_of-span)
     → Turn (chart_of c.args.chart.now) c.args.event
     (seen c.args.active.now c.args.vars.now)
     (c.sources.s - 1) c.transitions.t
@@ -151,36 +143,32 @@ mark_gone-requires c =
     let k = c.before.before.before in
     ((turn k).spans.some, (turn k).ends, c.transitions.invariant.held.long)
 
--- the numbers of the span are walked: none of its states is gone
-abbrev span-of-from-mark-gone : After-mark_gone → At-span
-span-of-from-mark-gone c = c.before.before.before.before
-
 free : (c : After-mark_gone) (y : ℕ)
-    → (span-of-from-mark-gone c).span_of-span.result.first ≤ y → y < (span-of-from-mark-gone c).span_of-span.result.end
-    → get_or (at-transitions-from-span-of (span-of-from-mark-gone c)).transitions.gone y false ≡ false
+    → c.span_of-span.result.first ≤ y → y < c.span_of-span.result.end
+    → get_or c.transitions.gone y false ≡ false
 free c y p q = c.loop-x.invariant.2 y (omega (arith, q, c.loop-x-test.false)) p
 
 pub note-requires : goal.note-requires
 note-requires c =
-    let k = span-of-from-mark-gone c.before in
-    let most = transitions_most k.args.chart.now in
-    let w = k.transitions.invariant in (
+    let k = c.before.before.before.before.before in
+    let most = transitions_most c.args.chart.now in
+    let w = c.transitions.invariant in (
       omega (arith, row_there k, most, c.loop-x.invariant.0),
       omega (arith, (turn k).found.ends),
       (turn k).ends,
-      choosing_room w k.transitions-test.true (turn k) (free c.before) most,
+      choosing_room w c.transitions-test.true (turn k) (free c.before) most,
       w.held.size,
     )
 
 pub overflow_add-count : goal.overflow_add-count
-overflow_add-count c = omega (arith, (at-transitions-from-span-of (span-of-from-mark-gone c.before.before)).transitions.invariant.held.few)
+overflow_add-count c = omega (arith, c.transitions.invariant.held.few)
 
 pub transitions-preserved : goal.transitions-preserved
 transitions-preserved c =
     let m = c.before.before in
-    let k = span-of-from-mark-gone m in
-    choosing_noted k.transitions.invariant k.transitions-test.true (turn k)
-    (free m) (transitions_most k.args.chart.now) c.loop-x.invariant.0 c.note.ensures
+    let k = c.before.before.before.before.before.before in
+    choosing_noted c.transitions.invariant c.transitions-test.true (turn k)
+    (free m) (transitions_most c.args.chart.now) c.loop-x.invariant.0 c.note.ensures
     c.mark_gone.ensures
 
 pub returns : goal.returns

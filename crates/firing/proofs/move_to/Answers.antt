@@ -1,10 +1,10 @@
 -- `move_to` leaves the span, performs the transition's actions, and goes down to the goal. Assumes nothing.
 use mir.Facts.{to_z-of_z}
 use Rattle.firing.proofs.Taking.{moved_stop, moved_stop_acts, moved_on, left_led}
-use Rattle.firing.proofs.move_to.Goals.{After-trace-3-1, Start}
+use Rattle.firing.proofs.move_to.Goals.{After-descend-arg-4-1, After-trace-3-1, Start}
 use Rattle.firing.proofs.move_to.Goals as goal
 
-abbrev start-from-descend-arg5 : tie.After-descend-arg5 → Start
+abbrev start-from-descend-arg5 : After-descend-arg-4-1 → Start
 start-from-descend-arg5 c = c.before.before.before.before.before.before.before.before.before.before.before.before.before.before.before.before.before.before.before.before.before
 
 abbrev start-from-trace3 : After-trace-3-1 → Start

@@ -13,21 +13,13 @@ use Rattle.plan_choice.proofs.Facts.{counts_sized}
 use Rattle.plan_code.specs.Code.{Row, instr_from}
 use Rattle.plan_code.proofs.Named.{block_near, instr_whole, in_code, instr_is, instr_runs}
 use Rattle.plan_code.proofs.Walk.{walking_begin, walking_end, walking_stop, standing_on, standing_past, block_by}
-use Rattle.plan_code.proofs.run_block.Invariants.{invariant-loop-row, decreases-loop-row}
-use Rattle.plan_code.proofs.run_block.Goals.{After-exec-done, In-loop-row}
+use Rattle.plan_code.proofs.run_block.Goals.{After-code_at-base, After-exec-done, In-loop-row}
 use Rattle.plan_code.proofs.run_block.Goals as goal
 
 pub code_at-base-requires : goal.code_at-base-requires
 code_at-base-requires c = counts_sized c.requires.0.examined
 
--- ---- before the loop: where the rows of the block begin and end
-abbrev At-code : Type 0
-At-code = tie.After-code-at invariant-loop-row decreases-loop-row
-
-abbrev at_code : In-loop-row → At-code
-at_code c = c.before.before.before.before
-
-ends : (c : At-code) → Fits w64 (c.code_at-base.result + (c.args.start + c.args.len) * INSTR_ROW)
+ends : (c : After-code_at-base) → Fits w64 (c.code_at-base.result + (c.args.start + c.args.len) * INSTR_ROW)
 ends c = omega (arith, block_near c.requires.0 c.code_at-base.ensures)
 
 pub overflow_add-end : goal.overflow_add-end
@@ -46,7 +38,7 @@ pub overflow_add-base : goal.overflow_add-base
 overflow_add-base c = omega (arith, ends c)
 
 -- where the rows of the plan begin
-begins : (c : At-code) → c.code_at-base.result ≡ code_at (counts_of c.args.plan.now)
+begins : (c : After-code_at-base) → c.code_at-base.result ≡ code_at (counts_of c.args.plan.now)
 begins c = c.code_at-base.ensures ∙ ap code_at c.requires.0.examined.counted
 
 pub pass_skips-row-requires : goal.pass_skips-row-requires
@@ -80,18 +72,18 @@ module _ (c : In-loop-row) where
   within = omega (arith, c.loop-row.invariant.here, c.loop-row-test.true)
 
   its-code : c.loop-row.invariant.i < length (plan_by ns).code
-  its-code = in_code c.requires.0 (at_code c).code_at-base.ensures _ c.loop-row.invariant.walking.onward within
+  its-code = in_code c.requires.0 c.code_at-base.ensures _ c.loop-row.invariant.walking.onward within
 
   its-instr : get_or (plan_by ns).code c.loop-row.invariant.i (instr_from ns c.loop-row.row)
       ≡ instr_from ns c.loop-row.row
   its-instr =
-      instr_is c.requires.0 (at_code c).code_at-base.ensures _ c.loop-row.invariant.walking.onward within
+      instr_is c.requires.0 c.code_at-base.ensures _ c.loop-row.invariant.walking.onward within
       (ap (instr_from ns) c.loop-row.invariant.here)
 
   its-row : Row ns c.loop-row.row
   its-row =
       let b = c.requires.0 in
-      let p = (at_code c).code_at-base.ensures in
+      let p = c.code_at-base.ensures in
       let w = c.loop-row.invariant.walking.onward in
       record {
         formed = b.examined.formed;
@@ -107,8 +99,7 @@ exec-done-requires c =
 
 pub returns-then-done-ne0 : goal.returns-then-done-ne0
 returns-then-done-ne0 c =
-    let e = c.before.before.before in
-    let i = e.before.before.before.before.before.before in
+    let i = c.before.before.before.before.before.before.before.before.before in
     let a = c.args in
     block_by _ _ (plan_by a.plan.now).code _ a.start a.len refl
     (rw (to_z-of_z c.ranges.arg) at
@@ -117,8 +108,7 @@ returns-then-done-ne0 c =
 -- the next row begins at a place of 64 bits
 further : (e : After-exec-done) → Fits w64 (e.loop-row.row + (1 + e.exec-done.result.over) * INSTR_ROW)
 further e =
-    let i = e.before.before.before.before.before.before in
-    omega (arith, block_near e.requires.0 (at_code i).code_at-base.ensures, e.loop-row-test.true, e.exec-done.ensures.near)
+    omega (arith, block_near e.requires.0 e.code_at-base.ensures, e.loop-row-test.true, e.exec-done.ensures.near)
 
 pub overflow_add-row : goal.overflow_add-row
 overflow_add-row c = omega (arith, further c.before.before.before.before)
@@ -131,9 +121,8 @@ overflow_add-row-in-loop-row c = omega (arith, further c.before.before.before.be
 
 pub pass_skips-row-requires-then-done-ne0-2 : goal.pass_skips-row-requires-then-done-ne0-2
 pass_skips-row-requires-then-done-ne0-2 c =
-    let e = c.before.before.before.before.before.before.before in
-    let i = e.before.before.before.before.before.before in
-    let b = begins (at_code i) in
+    let i = c.before.before.before.before.before.before.before.before.before.before.before.before.before in
+    let b = begins c.before.before.before.before.before.before.before.before.before.before.before.before.before.before.before.before.before in
     record {
       k = c.args.k;
       start = c.args.start;
@@ -150,19 +139,17 @@ loop-row-smaller-then-done-ne0-2 c = omega (arith, c.loop-row-test.true, c.pass_
 
 pub loop-row-preserved-then-done-ne0-2 : goal.loop-row-preserved-then-done-ne0-2
 loop-row-preserved-then-done-ne0-2 c =
-    let e = c.before.before.before.before.before.before.before.before in
-    let i = e.before.before.before.before.before.before in
+    let i = c.before.before.before.before.before.before.before.before.before.before.before.before.before.before in
     standing_past
     (standing_on c.loop-row.invariant (within i) (its-code i) (its-instr i) c.exec-done.ensures
-    c.if-done-ne0.false) refl (begins (at_code i)) c.pass_skips-row-then-done-ne0-2.ensures
+    c.if-done-ne0.false) refl (begins c.before.before.before.before.before.before.before.before.before.before.before.before.before.before.before.before.before.before) c.pass_skips-row-then-done-ne0-2.ensures
 
 pub loop-row-smaller : goal.loop-row-smaller
 loop-row-smaller c = omega (arith, c.loop-row-test.true)
 
 pub loop-row-preserved : goal.loop-row-preserved
 loop-row-preserved c =
-    let e = c.before.before.before.before.before.before in
-    let i = e.before.before.before.before.before.before in
+    let i = c.before.before.before.before.before.before.before.before.before.before.before.before in
     standing_on c.loop-row.invariant (within i) (its-code i) (its-instr i) c.exec-done.ensures c.if-done-ne0.false
 
 pub returns : goal.returns

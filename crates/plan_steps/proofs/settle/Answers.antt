@@ -2,11 +2,10 @@
 use mathlib.Core.Path.{◌∙◌}
 use native.Mathlib.Omega.{arith}
 use Rattle.plan_steps.proofs.Settling.{settling_begin, settling_end, settling_full, settling_stop, settling_on}
-use Rattle.plan_steps.proofs.settle.Invariants.{invariant-loop-k, decreases-loop-k}
-use Rattle.plan_steps.proofs.settle.Goals.{At-loop-k, Else-went-ne0}
+use Rattle.plan_steps.proofs.settle.Goals.{After-fire_all-arg-in-loop-k-4-1, At-loop-k, Else-went-ne0}
 use Rattle.plan_steps.proofs.settle.Goals as goal
 
-abbrev at-loop-from-fire-all-arg6 : tie.After-fire-all-arg6 invariant-loop-k decreases-loop-k → At-loop-k
+abbrev at-loop-from-fire-all-arg6 : After-fire_all-arg-in-loop-k-4-1 → At-loop-k
 at-loop-from-fire-all-arg6 c = c.before.before.before.before.before.before.before.before.before.before.before.before
 
 abbrev at-loop-from-else3 : Else-went-ne0 → At-loop-k

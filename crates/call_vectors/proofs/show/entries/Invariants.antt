@@ -4,7 +4,7 @@ use lib.ListN.{length}
 use Rattle.call_vectors.proofs.show.entries.Given as goal
 
 abbrev pub invariant-loop-left : goal.invariant-loop-left
-invariant-loop-left l = l.left ≤ length l.trace
+invariant-loop-left l = l.i ≤ length l.trace
 
 abbrev pub decreases-loop-left : goal.decreases-loop-left
-decreases-loop-left l = left
+decreases-loop-left l = l.left
