@@ -6,12 +6,6 @@ use native.Mathlib.Omega.{arith}
 use Rattle.writer.proofs.write_passed.Goals.{After-put_chart-arg-1, Else-text-end, Start}
 use Rattle.writer.proofs.write_passed.Goals as goal
 
-abbrev start-from-put-chart-arg : After-put_chart-arg-1 → Start
-start-from-put-chart-arg c = c.before.before.before.before.before.before
-
-abbrev start-from-else1 : Else-text-end → Start
-start-from-else1 c = start-from-put-chart-arg c.before.before.before.before
-
 pub put_chart-end-requires : goal.put_chart-end-requires
 put_chart-end-requires c = (passes c.args.chart.now c.requires).keeps
 
@@ -24,6 +18,6 @@ returns-then-text-end c =
 
 pub returns : goal.returns
 returns c =
-    wrote_in (start-from-else1 c).args.chart.now (start-from-else1 c).requires _ _ _ _
+    wrote_in c.args.chart.now c.requires _ _ _ _
     c.clear.ensures
     c.put_chart-end.ensures (omega arith)

@@ -2,8 +2,8 @@
 use mathlib.Core.Path.{◌∙◌}
 use native.Mathlib.Omega.{arith}
 use lib.ListN.{length}
-use Rattle.meaning.specs.Tree.{kind_of, all_states}
-use Rattle.meaning.specs.Rules.{children_fit, rule_3}
+use Rattle.meaning.specs.Tree.{all_states}
+use Rattle.meaning.specs.Rules.{rule_3}
 use Rattle.meaning.specs.Value.{chart_of}
 use Rattle.chart_rows.proofs.Rows.{states_most}
 use Rattle.rules.proofs.Tests.{refuted, held}

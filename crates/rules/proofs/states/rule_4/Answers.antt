@@ -2,7 +2,7 @@
 use native.Mathlib.Omega.{arith}
 use lib.ListN.{length}
 use Rattle.meaning.specs.Tree.{all_states}
-use Rattle.meaning.specs.Rules.{default_fits, rule_4}
+use Rattle.meaning.specs.Rules.{rule_4}
 use Rattle.meaning.specs.Value.{chart_of}
 use Rattle.rules.proofs.Tests.{refuted, held}
 use Rattle.rules.proofs.Every.{all_start, all_stop, all_next, all_done}

@@ -1,7 +1,7 @@
 -- `action_statable` tests number by number. Assumes nothing.
 use mathlib.Core.Path.{◌∙◌}
 use Prim.Native.Nat.{◌+◌, ◌*◌}
-use mathlib.Core.List.{◌∷◌}
+use mathlib.Core.List.{[], ◌∷◌}
 use Rattle.numbers.specs.Range.{in_range}
 use Rattle.numbers.proofs.Laws.{back32}
 use Rattle.meaning.specs.Value.{one_of_letters, ACTIONS_AT, ACT_ROW}

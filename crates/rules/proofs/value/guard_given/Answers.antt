@@ -1,5 +1,5 @@
 -- `guard_given` tests field by field. Assumes nothing.
-use mathlib.Core.List.{◌∷◌}
+use mathlib.Core.List.{[], ◌∷◌}
 use Rattle.numbers.specs.Range.{in_range}
 use Rattle.meaning.specs.Value.{one_of_letters}
 use Rattle.rules.proofs.Tests.{refuted, held, on}

@@ -2,7 +2,7 @@
 use mathlib.Core.Path.{◌∙◌}
 use Prim.Native.Nat.{◌+◌, ◌*◌}
 use mathlib.Core.Bool.{not}
-use mathlib.Core.List.{◌∷◌}
+use mathlib.Core.List.{[], ◌∷◌}
 use lib.Dec.{eqb}
 use Rattle.numbers.proofs.Laws.{back32}
 use Rattle.meaning.specs.Value.{is_letter, one_of_letters, STATES_AT, STATE_ROW}

@@ -1,5 +1,4 @@
 -- `target_given` tries the letters, then the state. Assumes nothing.
-use mathlib.Core.Bool.{false}
 use Rattle.numbers.specs.Range.{in_range}
 use Rattle.rules.proofs.Tests.{refuted, held}
 use Rattle.meaning.specs.Value.{is_letter}
