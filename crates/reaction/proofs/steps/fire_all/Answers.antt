@@ -19,12 +19,18 @@ pub overflow_cast-t : goal.overflow_cast-t
 overflow_cast-t c = omega (arith, fires_named _ _ _ c.requires.1 _ c.loop-j-test.true, transitions_most c.args.chart.now)
 
 pub overflow_cast-top : goal.overflow_cast-top
-overflow_cast-top c = omega (arith, (carried_inside _ c.requires.0.ruled _ (fires_named _ _ _ c.requires.1 _ c.loop-j-test.true)
-    (c.requires.1.carried _ c.loop-j-test.true)).0)
+overflow_cast-top c = omega (
+  arith,
+  (carried_inside _ c.requires.0.ruled _ (fires_named _ _ _ c.requires.1 _ c.loop-j-test.true)
+      (c.requires.1.carried _ c.loop-j-test.true)).0,
+)
 
 pub overflow_cast-end : goal.overflow_cast-end
-overflow_cast-end c = omega (arith, (carried_inside _ c.requires.0.ruled _ (fires_named _ _ _ c.requires.1 _ c.loop-j-test.true)
-    (c.requires.1.carried _ c.loop-j-test.true)).1)
+overflow_cast-end c = omega (
+  arith,
+  (carried_inside _ c.requires.0.ruled _ (fires_named _ _ _ c.requires.1 _ c.loop-j-test.true)
+      (c.requires.1.carried _ c.loop-j-test.true)).1,
+)
 
 pub fire-went-requires : goal.fire-went-requires
 fire-went-requires c =
