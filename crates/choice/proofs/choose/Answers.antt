@@ -1,7 +1,8 @@
 -- `choose` keeps, turn by turn, that the picks with what is still to come are the chosen of all. Assumes nothing.
 use mathlib.Core.Path.{◌≡◌, refl, sym, ◌∙◌}
 use Prim.Native.Nat.{ℕ, ◌-◌, ◌≤◌, ◌<◌}
-use mathlib.Core.Bool.{true, false}
+use mathlib.Core.Bool.{Bool, true, false}
+use mathlib.Core.List.{List}
 use native.Mathlib.Omega.{arith}
 use lib.ListN.{length, get_or}
 use borrow.Author.Tests.{not-true}
@@ -12,7 +13,7 @@ use Rattle.choice.proofs.Loop.{row_fits, row_enabled, up_to, held_none}
 use Rattle.choice.proofs.All.{chosen_all, none_left, source_off, source_begins, source_ends}
 use Rattle.choice.proofs.Turns.{Turn, meant_aims, turn_of, choosing_passed, choosing_off}
 use Rattle.choice.proofs.Turns.{choosing_clash, choosing_room, choosing_noted}
-use Rattle.choice.proofs.choose.Goals.{After-mark_gone, After-span_of-span}
+use Rattle.choice.proofs.choose.Goals.{After-span_of-span}
 use Rattle.choice.proofs.choose.Goals as goal
 
 pub sources-init : goal.sources-init
@@ -143,20 +144,19 @@ mark_gone-requires c =
     let k = c.before.before.before in
     ((turn k).spans.some, (turn k).ends, c.transitions.invariant.held.long)
 
-free : (c : After-mark_gone) (y : ℕ)
-    → c.span_of-span.result.first ≤ y → y < c.span_of-span.result.end
-    → get_or c.transitions.gone y false ≡ false
-free c y p q = c.loop-x.invariant.2 y (omega (arith, q, c.loop-x-test.false)) p
+free : (gone : List Bool) (first x end : ℕ) → ((y : ℕ) → y < x → first ≤ y → get_or gone y false ≡ false) → end ≤ x
+    → (y : ℕ) → first ≤ y → y < end → get_or gone y false ≡ false
+free gone first x end f e y p q = f y (omega arith) p
 
 pub note-requires : goal.note-requires
 note-requires c =
-    let k = c.before.before.before.before.before in
+    let k = c.before.before.before.before.before.before in
     let most = transitions_most c.args.chart.now in
     let w = c.transitions.invariant in (
       omega (arith, row_there k, most, c.loop-x.invariant.0),
       omega (arith, (turn k).found.ends),
       (turn k).ends,
-      choosing_room w c.transitions-test.true (turn k) (free c.before) most,
+      choosing_room w c.transitions-test.true (turn k) (free _ _ _ _ c.loop-x.invariant.2 c.loop-x-test.false) most,
       w.held.size,
     )
 
@@ -165,10 +165,9 @@ overflow_add-count c = omega (arith, c.transitions.invariant.held.few)
 
 pub transitions-preserved : goal.transitions-preserved
 transitions-preserved c =
-    let m = c.before.before in
-    let k = c.before.before.before.before.before.before in
+    let k = c.before.before.before.before.before.before.before in
     choosing_noted c.transitions.invariant c.transitions-test.true (turn k)
-    (free m) (transitions_most c.args.chart.now) c.loop-x.invariant.0 c.note.ensures
+    (free _ _ _ _ c.loop-x.invariant.2 c.loop-x-test.false) (transitions_most c.args.chart.now) c.loop-x.invariant.0 c.note.ensures
     c.mark_gone.ensures
 
 pub returns : goal.returns

@@ -24,7 +24,6 @@ bounds-vars-v c = rw c.in-Compares.is at c.requires
 pub returns : goal.returns
 unfolding guard_holds value_at
 returns c =
-    let g = c.in-Compares.given in
-    let fv : SFits w32 (get_or c.args.vars.now g.0.0 (pos 0)) = search rules in
-    let fx : SFits w32 g.0.1.1.0 = search rules in
-    rw g.1 (c.compare.ensures ∙ rw (to_z-of_z fv, to_z-of_z fx))
+    let fv : SFits w32 (get_or c.args.vars.now c.in-Compares.v (pos 0)) = search rules in
+    let fx : SFits w32 c.in-Compares.x = search rules in
+    rw c.in-Compares.is (c.compare.ensures ∙ rw (to_z-of_z fv, to_z-of_z fx))

@@ -5,4 +5,4 @@ use Rattle.ends.proofs.refuse.Goals as goal
 pub returns : goal.returns
 returns c =
     let k = c.args in
-    (c.refused.ensures, cleared k.number k.place k.state k.trace-1.now _ c.clear_from.ensures)
+    (c.refused.ensures, cleared k.number k.place k.state k.trace.now _ c.clear_from.ensures)

@@ -4,12 +4,6 @@ use Rattle.firing.proofs.Taking.{moved_stop, moved_stop_acts, moved_on, left_led
 use Rattle.firing.proofs.move_to.Goals.{After-descend-arg-4-1, After-trace-3-1, Start}
 use Rattle.firing.proofs.move_to.Goals as goal
 
-abbrev start-from-descend-arg5 : After-descend-arg-4-1 → Start
-start-from-descend-arg5 c = c.before.before.before.before.before.before.before.before.before.before.before.before.before.before.before.before.before.before.before.before.before
-
-abbrev start-from-trace3 : After-trace-3-1 → Start
-start-from-trace3 c = start-from-descend-arg5 c.before.before
-
 pub returns-then-gone-ne0 : goal.returns-then-gone-ne0
 returns-then-gone-ne0 c =
     moved_stop _ _ _ c.args.goal _
@@ -38,10 +32,10 @@ descend-requires c = (
 
 pub returns : goal.returns
 returns c =
-    moved_on _ _ _ (start-from-trace3 c).args.goal _
-    (rw (to_z-of_z (start-from-trace3 c).ranges.arg) at
+    moved_on _ _ _ c.args.goal _
+    (rw (to_z-of_z c.ranges.arg) at
     c.leave_below-gone.ensures)
     c.if-gone-ne0.false
-    (rw (to_z-of_z (start-from-trace3 c).ranges.arg) at
+    (rw (to_z-of_z c.ranges.arg) at
     c.perform_all-went.ensures) c.if-went-ne0.false
-    (rw (to_z-of_z (start-from-trace3 c).ranges.arg) at c.descend.ensures)
+    (rw (to_z-of_z c.ranges.arg) at c.descend.ensures)

@@ -87,7 +87,7 @@ loop-d-preserved-then-not-is_child t c =
 pub returns-then-went-ne0 : goal.returns-then-went-ne0
 returns-then-went-ne0 t c =
     let k = c.before.before.before.before.before.before.before.before in
-    rw (to_z-of_z c.ranges.arg) at
+    simp (to_z-of_z c.ranges.arg) at
     (going_stop _ _ _ _ _ _ _ c.loop-d.invariant c.loop-d-test.true (is_one t k)
     c.arrive-went.ensures c.if-went-ne0.true)
 
@@ -103,7 +103,7 @@ shape_of-trace-then-went-ne0-2 t c =
 pub returns-then-went-ne0-2 : goal.returns-then-went-ne0-2
 returns-then-went-ne0-2 t c =
     let k = c.before.before.before.before.before.before.before.before.before.before.before.before.before.before.before.before.before in
-    rw (to_z-of_z c.ranges.arg) at
+    simp (to_z-of_z c.ranges.arg) at
     (going_stop_below _ _ _ _ _ _ _ c.loop-d.invariant c.loop-d-test.true (is_one t k)
     c.arrive-went.ensures c.if-went-ne0.false c.requires.1 c.onward-on.ensures
     c.descend-went.ensures c.if-went-ne0-2.true)
@@ -126,5 +126,5 @@ loop-d-preserved t c =
 
 pub returns : goal.returns
 returns t c =
-    rw (to_z-of_z c.ranges.arg) at
+    simp (to_z-of_z c.ranges.arg) at
     (going_end _ _ _ _ _ _ _ c.loop-d.invariant c.loop-d-test.false)

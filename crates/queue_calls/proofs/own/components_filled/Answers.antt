@@ -57,7 +57,7 @@ returns-then-is_held c u e =
     let l = i.before in
     let d = chart_of c.args.chart.now in
     leading_empty d u (c.loop-next.invariant.2 u e) (ap length e ∙ c.requires) c.loop-next-test.true (λ z. omega (arith, z, c.loop-next.invariant.0))
-    (ap (in_slot d u) (sym c.parent_of.ensures) ∙ sym (c.is_held_lem.ensures u e) ∙ c.if-is_held.true)
+    (ap (in_slot d u) (sym c.parent_of.ensures) ∙ sym (c.is_held.ensures u e) ∙ c.if-is_held.true)
     (slot_read u e c.loop-next.next (omega (arith, c.requires, in-slots i)) (sym c.if-filled.false ∙ read f.before))
 
 pub loop-next-preserved : goal.loop-next-preserved
@@ -67,7 +67,7 @@ loop-next-preserved c =
       omega arith,
       c.loop-next.invariant.1,
       λ u e. leading_free d u (c.loop-next.invariant.2 u e) c.loop-next-test.true
-          (ap (in_slot d u) (sym c.parent_of.ensures) ∙ sym (c.is_held_lem.ensures u e) ∙ c.if-is_held.false),
+          (ap (in_slot d u) (sym c.parent_of.ensures) ∙ sym (c.is_held.ensures u e) ∙ c.if-is_held.false),
     )
 
 pub returns : goal.returns

@@ -5,15 +5,6 @@ use Rattle.queue_calls.proofs.Legal.{tally_none, tally_root, tally_far, tally_of
 use Rattle.queue_calls.proofs.own.count_children.Goals.{At-loop-next, Else-not-active-d, Else-p-ge-STATES, In-loop-next}
 use Rattle.queue_calls.proofs.own.count_children.Goals as goal
 
-abbrev in-loop-from-else2 : Else-p-ge-STATES → In-loop-next
-in-loop-from-else2 c = c.before.before.before
-
-abbrev in-loop-from-else3 : Else-not-active-d → In-loop-next
-in-loop-from-else3 c = in-loop-from-else2 c.before.before.before
-
-abbrev at-loop-from-else3 : Else-not-active-d → At-loop-next
-at-loop-from-else3 c = (in-loop-from-else3 c).before
-
 pub loop-next-init : goal.loop-next-init
 loop-next-init c = rw (c.requires.0, c.requires.1) (tally_none _ _ _)
 
@@ -53,20 +44,20 @@ loop-next-preserved-then-not-active-d c =
 pub overflow_add-on : goal.overflow_add-on
 overflow_add-on c =
     let d = c.before in
-    let w = (at-loop-from-else3 d).loop-next.invariant.counted _ c.if-p-ge-STATES.false in
+    let w = d.loop-next.invariant.counted _ c.if-p-ge-STATES.false in
     omega (
       arith,
       w.most,
       w.fewer,
-      (in-loop-from-else3 d).loop-next-test.true,
-      (at-loop-from-else3 d).state_count-n.ensures,
-      states_most (at-loop-from-else3 d).args.chart.now,
+      d.loop-next-test.true,
+      d.state_count-n.ensures,
+      states_most d.args.chart.now,
     )
 
 pub loop-next-preserved : goal.loop-next-preserved
 loop-next-preserved c =
     let d = c.before in
-    tally_on _ _ (at-loop-from-else3 d).loop-next.invariant (in-loop-from-else3 d).loop-next-test.true c.if-d-eq0.false
+    tally_on _ _ d.loop-next.invariant d.loop-next-test.true c.if-d-eq0.false
     c.parent_of-p.ensures c.if-p-ge-STATES.false c.if-not-active-d.false
 
 pub returns : goal.returns

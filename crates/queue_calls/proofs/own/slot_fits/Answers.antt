@@ -9,13 +9,7 @@ use mir.Facts.{to_z-of_z}
 use Rattle.meaning.specs.Tree.{kind_of, is_o}
 use Rattle.chart_rows.proofs.Rows.{states_most}
 use Rattle.queue_calls.proofs.Slots.{place_at, slot_empty, slot_nowhere, slot_not_o, slot_no_child, slot_child}
-use Rattle.queue_calls.proofs.own.slot_fits.Goals.{Else-not-is_o, In-At-2}
 use Rattle.queue_calls.proofs.own.slot_fits.Goals as goal
-
--- the slot holds the state that was told
-in_slot : (c : In-At-2) → c.args.x ≡ pos c.in-At.d
-in_slot c =
-    place_at c.args.x c.in-At.d (rw (to_z-of_z c.ranges.x) at c.place_of.ensures) c.in-At.is
 
 pub returns-in_default : goal.returns-in_default
 returns-in_default c u e =
@@ -25,29 +19,20 @@ returns-in_default c u e =
 
 pub returns-then-state_count-d : goal.returns-then-state_count-d
 returns-then-state_count-d c u e =
-    let d = c.before.before in
     let k = c.args in
-    slot_nowhere k.whole (chart_of k.chart.now) u k.s k.x (in_slot d) c.state_count.ensures c.if-state_count-d.true
+    slot_nowhere k.whole (chart_of k.chart.now) u k.s k.x (place_at c.args.x c.in-At.d (rw (to_z-of_z c.ranges.x) at c.place_of.ensures) c.in-At.is) c.state_count.ensures c.if-state_count-d.true
 
 pub returns-then-not-is_o : goal.returns-then-not-is_o
 returns-then-not-is_o c u e =
-    let i = c.before.before.before in
-    let d = i.before.before in
     let k = c.args in
-    slot_not_o k.whole (chart_of k.chart.now) u k.s k.x (in_slot d) c.state_count.ensures c.if-state_count-d.false
+    slot_not_o k.whole (chart_of k.chart.now) u k.s k.x (place_at c.args.x c.in-At.d (rw (to_z-of_z c.ranges.x) at c.place_of.ensures) c.in-At.is) c.state_count.ensures c.if-state_count-d.false
     (sym (c.is_o.ensures ∙ ap is_o c.kind_of.ensures) ∙ not-true _ c.if-not-is_o.true-raw)
-
-kind : (c : Else-not-is_o) → is_o (kind_of (chart_of c.args.chart.now) c.args.s) ≡ true
-kind c = sym (c.is_o.ensures ∙ ap is_o c.kind_of.ensures) ∙ not-false _ c.if-not-is_o.false-raw
 
 pub returns-then-not-is_child : goal.returns-then-not-is_child
 returns-then-not-is_child c u e =
-    let o = c.before.before in
-    let i = o.before.before.before in
-    let d = i.before.before in
     let k = c.args in
-    slot_no_child k.whole (chart_of k.chart.now) u k.s k.x (in_slot d) c.state_count.ensures c.if-state_count-d.false
-    (kind o) (sym c.is_child.ensures ∙ not-true _ c.if-not-is_child.true-raw)
+    slot_no_child k.whole (chart_of k.chart.now) u k.s k.x (place_at c.args.x c.in-At.d (rw (to_z-of_z c.ranges.x) at c.place_of.ensures) c.in-At.is) c.state_count.ensures c.if-state_count-d.false
+    (sym (c.is_o.ensures ∙ ap is_o c.kind_of.ensures) ∙ not-false _ c.if-not-is_o.false-raw) (sym c.is_child.ensures ∙ not-true _ c.if-not-is_child.true-raw)
 
 pub leads_on-requires : goal.leads_on-requires
 leads_on-requires c =
@@ -63,9 +48,6 @@ leads_on-requires c =
 
 pub returns : goal.returns
 returns c u e =
-    let o = c.before.before.before in
-    let i = o.before.before.before in
-    let d = i.before.before in
     let k = c.args in
-    slot_child k.whole (chart_of k.chart.now) u k.s k.x (in_slot d) c.state_count.ensures c.if-state_count-d.false
-    (kind o) (sym c.is_child.ensures ∙ not-false _ c.if-not-is_child.false-raw) (c.leads_on.ensures u e)
+    slot_child k.whole (chart_of k.chart.now) u k.s k.x (place_at c.args.x c.in-At.d (rw (to_z-of_z c.ranges.x) at c.place_of.ensures) c.in-At.is) c.state_count.ensures c.if-state_count-d.false
+    (sym (c.is_o.ensures ∙ ap is_o c.kind_of.ensures) ∙ not-false _ c.if-not-is_o.false-raw) (sym c.is_child.ensures ∙ not-false _ c.if-not-is_child.false-raw) (c.leads_on.ensures u e)

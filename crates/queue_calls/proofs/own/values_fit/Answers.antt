@@ -34,18 +34,18 @@ within c =
 pub returns-then-not-value_fits : goal.returns-then-not-value_fits
 returns-then-not-value_fits c =
     let a = c.args in
-    let fx : SFits w32 (get_or a.t2 c.loop-v.v (pos 0)) = search rules in
-    let long : length a.t2 ≡ VARIABLES = search rules in
-    values_no (chart_of a.chart.now).vars-1 a.t2 c.loop-v.v c.loop-v.invariant.1
+    let fx : SFits w32 (get_or a.vars c.loop-v.v (pos 0)) = search rules in
+    let long : length a.vars ≡ VARIABLES = search rules in
+    values_no (chart_of a.chart.now).vars a.vars c.loop-v.v c.loop-v.invariant.1
     (omega (arith, within c.before.before.before)) (sym (rw (to_z-of_z fx) at c.value_fits.ensures) ∙ not-true _ c.if-not-value_fits.true-raw)
 
 pub loop-v-preserved : goal.loop-v-preserved
 loop-v-preserved c =
     let a = c.args in
-    let fx : SFits w32 (get_or a.t2 c.loop-v.v (pos 0)) = search rules in
-    let long : length a.t2 ≡ VARIABLES = search rules in (
+    let fx : SFits w32 (get_or a.vars c.loop-v.v (pos 0)) = search rules in
+    let long : length a.vars ≡ VARIABLES = search rules in (
       omega arith,
-      values_more (chart_of a.chart.now).vars-1 a.t2 c.loop-v.v c.loop-v.invariant.1
+      values_more (chart_of a.chart.now).vars a.vars c.loop-v.v c.loop-v.invariant.1
           (omega (arith, within c.before.before.before))
           (sym (rw (to_z-of_z fx) at c.value_fits.ensures) ∙ not-false _ c.if-not-value_fits.false-raw),
     )
@@ -56,8 +56,8 @@ returns c =
     let n = c.var_count-n in
     let a = c.args in
     let e : n.result ≡ w.v = omega (arith, c.loop-v-test.false, w.invariant.0) in
-    c.rest_zero.ensures ∙ ap (λ k. every (eq_z (pos 0)) (drop k a.t2)) e
-    ∙ values_rest (chart_of a.chart.now).vars-1 a.t2 w.v w.invariant.1 (omega (arith, e, n.ensures))
+    c.rest_zero.ensures ∙ ap (λ k. every (eq_z (pos 0)) (drop k a.vars)) e
+    ∙ values_rest (chart_of a.chart.now).vars a.vars w.v w.invariant.1 (omega (arith, e, n.ensures))
 
 pub offset_bounds-vars-v : goal.offset_bounds-vars-v
 offset_bounds-vars-v c = omega (arith, within c)

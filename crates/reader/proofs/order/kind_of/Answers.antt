@@ -1,4 +1,5 @@
 -- `reader::order::kind_of`: the sizes and the place of the kind that a letter names. Assumes nothing.
+use Rattle.std.proofs.Common.{arith}
 use Rattle.meaning.specs.Grammar.{s_record, v_record, e_record, t_record, a_record, no_record}
 use Rattle.reader.proofs.OrderLaws.{is_s, is_v, is_e, is_t, is_a, is_none, kind_is}
 use Rattle.reader.proofs.order.kind_of.Goals as goal
@@ -20,6 +21,5 @@ returns-in-65 c = let o = c.of-in-65.ensures in kind_is _ a_record _ (is_a c.in-
 
 pub returns-in_default : goal.returns-in_default
 returns-in_default c =
-    let r = c.in_default.in_default-own.rest in
     let o = c.of-in_default.ensures in
-    kind_is _ no_record _ (is_none r.0.0.0.0.1 r.0.0.0.1 r.0.0.1 r.0.1 r.1) o.0 o.1 o.2
+    kind_is _ no_record _ (is_none (omega arith) (omega arith) (omega arith) (omega arith) (omega arith)) o.0 o.1 o.2

@@ -1,4 +1,5 @@
 -- `reader::order::placed`: whether the kind that a letter names stands in its place. Assumes nothing.
+use Rattle.std.proofs.Common.{arith}
 use Rattle.reader.proofs.OrderLaws.{is_s, is_v, is_e, is_t, is_a, is_none, in_order_s, in_order_v, in_order_e}
 use Rattle.reader.proofs.OrderLaws.{in_order_t, in_order_a, in_order_none}
 use Rattle.reader.proofs.order.placed.Goals as goal
@@ -19,4 +20,4 @@ pub returns-in-65 : goal.returns-in-65
 returns-in-65 c = in_order_a _ _ (is_a c.in-65.is)
 
 pub returns-in_default : goal.returns-in_default
-returns-in_default c = let r = c.in_default.in_default-own.rest in in_order_none _ _ (is_none r.0.0.0.0.1 r.0.0.0.1 r.0.0.1 r.0.1 r.1)
+returns-in_default c = in_order_none _ _ (is_none (omega arith) (omega arith) (omega arith) (omega arith) (omega arith))

@@ -1,10 +1,11 @@
 -- `reader::order::turn`: how many of the kind that a letter names were read. Assumes nothing.
+use Rattle.std.proofs.Common.{arith}
 use Rattle.meaning.specs.Grammar.{s_record, v_record, e_record, t_record, a_record, no_record}
 use Rattle.reader.proofs.OrderLaws.{is_s, is_v, is_e, is_t, is_a, is_none, turn_is}
 use Rattle.reader.proofs.order.turn.Goals as goal
 
 pub returns-in_default : goal.returns-in_default
-returns-in_default c = let r = c.in_default.in_default-own.rest in turn_is _ no_record _ (is_none r.0.0.0.0.1 r.0.0.0.1 r.0.0.1 r.0.1 r.1)
+returns-in_default c = turn_is _ no_record _ (is_none (omega arith) (omega arith) (omega arith) (omega arith) (omega arith))
 
 pub returns-in-83 : goal.returns-in-83
 returns-in-83 c = turn_is _ s_record _ (is_s c.in-83.is)

@@ -5,14 +5,7 @@ use mathlib.Core.Path.{refl}
 use Rattle.reader.specs.Heard.{heard_line, heard_last}
 use Rattle.reader.proofs.ScanLaws.{walking_within, scan_cut, scan_missing, scan_done, scan_fault, scan_next, onward_over}
 use Rattle.reader.proofs.ScanLaws.{onward_next}
-use Rattle.reader.proofs.scan.line_at.Goals.{After-over-in_default, After-put_counts-arg-1, Start}
 use Rattle.reader.proofs.scan.line_at.Goals as goal
-
-abbrev start-from-put-counts-arg : After-put_counts-arg-1 → Start
-start-from-put-counts-arg c = c.before.before.before.before.before.before.before.before
-
-abbrev start-from-over3 : After-over-in_default → Start
-start-from-over3 c = start-from-put-counts-arg c.before.before.before
 
 pub returns-then-at-text : goal.returns-then-at-text
 returns-then-at-text c =
@@ -35,10 +28,10 @@ put_counts-requires c = walking_within _ _ _ _ _ _ c.requires
 pub returns-in_default : goal.returns-in_default
 returns-in_default c =
     onward_over _ _ _ _ _ _ c.over-in_default.ensures
-    (scan_done _ _ _ _ _ _ (start-from-over3 c).requires _
+    (scan_done _ _ _ _ _ _ c.requires _
     (heard_last _ _ _ c.in_default.is
     c.next_line-step.ensures
-    (start-from-over3 c).requires.inside) _
+    c.requires.inside) _
     c.put_counts.ensures refl c.if-at-text.false
     c.if-turns-lt1.false)
 
