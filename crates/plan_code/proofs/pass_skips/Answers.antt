@@ -14,7 +14,7 @@ use Rattle.meaning.specs.WellFormed.{INSTR_ROW}
 use Rattle.plan_code.specs.Code.{Row, instr_from}
 use Rattle.plan_code.proofs.Reading.{is_skip_out, skip_out_names}
 use Rattle.plan_code.proofs.Skipping.{rest_near, here_row, passed_begin, passed_active, passed_idle}
-use Rattle.plan_code.proofs.pass_skips.Goals.{After-known, After-known-s, Else-read-ne-SKIPOUT, In-loop-row}
+use Rattle.plan_code.proofs.pass_skips.Goals.{Else-read-ne-SKIPOUT, In-loop-row}
 use Rattle.plan_code.proofs.pass_skips.Goals as goal
 
 -- the row is there
@@ -26,7 +26,7 @@ further : (c : In-loop-row) (n : ℕ) → n ≤ INSTRUCTIONS → Fits w64 (c.loo
 further c n l = omega (arith, rest_near c.requires, c.loop-row-test.true, l)
 
 pub read-requires : goal.read-requires
-read-requires c = omega (arith, (its-row c).whole)
+read-requires c = omega (arith, (its-row (goal.at.read-requires c).In-loop-row).whole)
 
 pub returns-then-read-ne-SKIPOUT : goal.returns-then-read-ne-SKIPOUT
 returns-then-read-ne-SKIPOUT c = c.loop-row.invariant
@@ -40,68 +40,63 @@ code x =
     ap ref (sym x.read.ensures ∙ same_bits x.read.result (pos 3) x.read.type_inv (omega arith) x.if-read-ne-SKIPOUT.false)
 
 asks : (x : Else-read-ne-SKIPOUT) → ref (nth x 1) < STATES
-asks x = (skip_out_names (its-row x.before.before) (code x)).0
+asks x = (skip_out_names (here_row x.requires x.loop-row.invariant x.loop-row-test.true) (code x)).0
 
 over : (x : Else-read-ne-SKIPOUT) → ref (nth x 2) ≤ INSTRUCTIONS
-over x = (skip_out_names (its-row x.before.before) (code x)).1
+over x = (skip_out_names (here_row x.requires x.loop-row.invariant x.loop-row-test.true) (code x)).1
 
 pub known-s-requires : goal.known-s-requires
-known-s-requires c = (omega (arith, (its-row c.before.before).whole), omega (arith, asks c))
+known-s-requires c = (omega (arith, (its-row (goal.at.known-s-requires c).In-loop-row).whole), omega (arith, asks (goal.at.known-s-requires c).Else-read-ne-SKIPOUT))
 
 pub bounds-active-s : goal.bounds-active-s
-bounds-active-s c = omega (arith, asks c.before, c.known-s.ensures)
+bounds-active-s c = omega (arith, asks (goal.at.bounds-active-s c).Else-read-ne-SKIPOUT, c.known-s.ensures)
 
 -- its row says so
-says : (x : After-known-s)
-    → instr_from x.args.plan.now x.loop-row.row
-    ≡ skip_out x.known-s.result (ref (nth x.before 2))
-says x = is_skip_out (its-row x.before.before.before) x.known-s.ensures (code x.before)
+says : (x : Else-read-ne-SKIPOUT) {s : ℕ} → s ≡ ref (nth x 1) → instr_from x.args.plan.now x.loop-row.row ≡ skip_out s (ref (nth x 2))
+says x e = is_skip_out (here_row x.requires x.loop-row.invariant x.loop-row-test.true) e (code x)
 
 pub returns-then-active-s : goal.returns-then-active-s
 returns-then-active-s c =
-    let x = c.before.before in
-    passed_active c.requires c.loop-row.invariant c.loop-row-test.true (says x) c.if-active-s.true
+    passed_active c.requires c.loop-row.invariant c.loop-row-test.true (says (goal.at.returns-then-active-s c).Else-read-ne-SKIPOUT c.known-s.ensures) c.if-active-s.true
 
 pub known-requires : goal.known-requires
 known-requires c =
-    let x = c.before.before.before in
-    (omega (arith, (its-row c.before.before.before.before.before).whole), omega (arith, over x))
+    (omega (arith, (its-row (goal.at.known-requires c).In-loop-row).whole), omega (arith, over (goal.at.known-requires c).Else-read-ne-SKIPOUT))
 
 -- it passes over no more than a plan has
-near : (x : After-known) → x.known.result ≤ INSTRUCTIONS
-near x = omega (arith, over x.before.before.before.before, x.known.ensures)
+near : (x : Else-read-ne-SKIPOUT) {n : ℕ} → n ≡ ref (nth x 2) → n ≤ INSTRUCTIONS
+near x e = omega (arith, over x, e)
 
 pub overflow_add-row-in-loop-row-3 : goal.overflow_add-row-in-loop-row-3
-overflow_add-row-in-loop-row-3 c = omega (arith, near c)
+overflow_add-row-in-loop-row-3 c = omega (arith, near (goal.at.overflow_add-row-in-loop-row-3 c).Else-read-ne-SKIPOUT c.known.ensures)
 
 pub overflow_mul-row : goal.overflow_mul-row
-overflow_mul-row c = omega (arith, near c)
+overflow_mul-row c = omega (arith, near (goal.at.overflow_mul-row c).Else-read-ne-SKIPOUT c.known.ensures)
 
 pub overflow_add-row-in-loop-row-4 : goal.overflow_add-row-in-loop-row-4
-overflow_add-row-in-loop-row-4 c = further c.before.before.before.before.before.before c.known.result (near c)
+overflow_add-row-in-loop-row-4 c = further (goal.at.overflow_add-row-in-loop-row-4 c).In-loop-row c.known.result (near (goal.at.overflow_add-row-in-loop-row-4 c).Else-read-ne-SKIPOUT c.known.ensures)
 
 pub loop-row-smaller : goal.loop-row-smaller
 loop-row-smaller c = omega (arith, c.loop-row-test.true)
 
 pub loop-row-preserved : goal.loop-row-preserved
 loop-row-preserved c =
-    let x = c.before.before.before in
-    passed_idle c.requires c.loop-row.invariant c.loop-row-test.true (says x) c.known.ensures c.if-active-s.false
+    passed_idle c.requires c.loop-row.invariant c.loop-row-test.true (says (goal.at.loop-row-preserved c).Else-read-ne-SKIPOUT c.known-s.ensures) c.known.ensures c.if-active-s.false
 
 pub loop-row-init : goal.loop-row-init
 loop-row-init c = passed_begin
 
 pub overflow_add-row : goal.overflow_add-row
-overflow_add-row c = omega (arith, further c 0 (omega arith))
+overflow_add-row c = omega (arith, further (goal.at.overflow_add-row c).In-loop-row 0 (omega arith))
 
 pub overflow_add-row-in-loop-row : goal.overflow_add-row-in-loop-row
-overflow_add-row-in-loop-row c = omega (arith, further c.before.before 0 (omega arith))
+overflow_add-row-in-loop-row c = omega (arith, further (goal.at.overflow_add-row-in-loop-row c).In-loop-row 0 (omega arith))
 
 pub overflow_add-result : goal.overflow_add-result
-overflow_add-result c = further c.before.before.before.before.before 0 (omega arith)
+overflow_add-result c = further (goal.at.overflow_add-result c).In-loop-row 0 (omega arith)
 
 pub overflow_add-row-in-loop-row-2 : goal.overflow_add-row-in-loop-row-2
-overflow_add-row-in-loop-row-2 c = omega (arith, further c.before.before.before.before.before 0 (omega arith))
+overflow_add-row-in-loop-row-2 c = omega (arith, further (goal.at.overflow_add-row-in-loop-row-2 c).In-loop-row 0 (omega arith))
 
 pub returns : goal.returns
 returns c = c.loop-row.invariant

@@ -23,19 +23,19 @@ ends : (c : After-code_at-base) → Fits w64 (c.code_at-base.result + (c.args.st
 ends c = omega (arith, block_near c.requires.0 c.code_at-base.ensures)
 
 pub overflow_add-end : goal.overflow_add-end
-overflow_add-end c = omega (arith, ends c)
+overflow_add-end c = omega (arith, ends (goal.at.overflow_add-end c).After-code_at-base)
 
 pub overflow_mul-end : goal.overflow_mul-end
-overflow_mul-end c = omega (arith, ends c)
+overflow_mul-end c = omega (arith, ends (goal.at.overflow_mul-end c).After-code_at-base)
 
 pub overflow_add-end-2 : goal.overflow_add-end-2
-overflow_add-end-2 c = omega (arith, ends c)
+overflow_add-end-2 c = omega (arith, ends (goal.at.overflow_add-end-2 c).After-code_at-base)
 
 pub overflow_mul-start : goal.overflow_mul-start
-overflow_mul-start c = omega (arith, ends c)
+overflow_mul-start c = omega (arith, ends (goal.at.overflow_mul-start c).After-code_at-base)
 
 pub overflow_add-base : goal.overflow_add-base
-overflow_add-base c = omega (arith, ends c)
+overflow_add-base c = omega (arith, ends (goal.at.overflow_add-base c).After-code_at-base)
 
 -- where the rows of the plan begin
 begins : (c : After-code_at-base) → c.code_at-base.result ≡ code_at (counts_of c.args.plan.now)
@@ -43,14 +43,13 @@ begins c = c.code_at-base.ensures ∙ ap code_at c.requires.0.examined.counted
 
 pub pass_skips-row-requires : goal.pass_skips-row-requires
 pass_skips-row-requires c =
-    let s = c.before.before in
-    let b = begins c.before in
+    let b = begins (goal.at.pass_skips-row-requires c).After-code_at-base in
     record {
-      k = s.args.k;
-      start = s.args.start;
-      len = s.args.len;
-      i = s.args.start;
-      block = s.requires.0;
+      k = c.args.k;
+      start = c.args.start;
+      len = c.args.len;
+      i = c.args.start;
+      block = c.requires.0;
       onward = omega arith;
       here = omega (arith, b);
       there = omega (arith, b);
@@ -58,9 +57,8 @@ pass_skips-row-requires c =
 
 pub loop-row-init : goal.loop-row-init
 loop-row-init c =
-    let s = c.before.before.before in
-    standing_past (record { i = s.args.start; here = refl; walking = walking_begin s.requires.2 }) refl
-    (begins c.before.before) c.pass_skips-row.ensures
+    standing_past (record { i = c.args.start; here = refl; walking = walking_begin c.requires.2 }) refl
+    (begins (goal.at.loop-row-init c).After-code_at-base) c.pass_skips-row.ensures
 
 -- ---- a turn
 -- ---- a turn
@@ -93,13 +91,12 @@ module _ (c : In-loop-row) where
 
 pub exec-done-requires : goal.exec-done-requires
 exec-done-requires c =
-    let i = c.before.before.before.before.before in
     let w = c.loop-row.invariant.walking in
-    (its-row i, w.slotted ∙ c.requires.1, w.owes.fits)
+    (its-row (goal.at.exec-done-requires c).In-loop-row, w.slotted ∙ c.requires.1, w.owes.fits)
 
 pub returns-then-done-ne0 : goal.returns-then-done-ne0
 returns-then-done-ne0 c =
-    let i = c.before.before.before.before.before.before.before.before.before in
+    let i = (goal.at.returns-then-done-ne0 c).In-loop-row in
     let a = c.args in
     block_by _ _ (plan_by a.plan.now).code _ a.start a.len refl
     (rw (to_z-of_z c.ranges.arg) at
@@ -111,18 +108,17 @@ further e =
     omega (arith, block_near e.requires.0 e.code_at-base.ensures, e.loop-row-test.true, e.exec-done.ensures.near)
 
 pub overflow_add-row : goal.overflow_add-row
-overflow_add-row c = omega (arith, further c.before.before.before.before)
+overflow_add-row c = omega (arith, further (goal.at.overflow_add-row c).After-exec-done)
 
 pub overflow_mul-row : goal.overflow_mul-row
-overflow_mul-row c = omega (arith, further c.before.before.before.before)
+overflow_mul-row c = omega (arith, further (goal.at.overflow_mul-row c).After-exec-done)
 
 pub overflow_add-row-in-loop-row : goal.overflow_add-row-in-loop-row
-overflow_add-row-in-loop-row c = omega (arith, further c.before.before.before.before)
+overflow_add-row-in-loop-row c = omega (arith, further (goal.at.overflow_add-row-in-loop-row c).After-exec-done)
 
 pub pass_skips-row-requires-then-done-ne0-2 : goal.pass_skips-row-requires-then-done-ne0-2
 pass_skips-row-requires-then-done-ne0-2 c =
-    let i = c.before.before.before.before.before.before.before.before.before.before.before.before.before in
-    let b = begins c.before.before.before.before.before.before.before.before.before.before.before.before.before.before.before.before.before in
+    let b = begins (goal.at.pass_skips-row-requires-then-done-ne0-2 c).After-code_at-base in
     record {
       k = c.args.k;
       start = c.args.start;
@@ -139,22 +135,21 @@ loop-row-smaller-then-done-ne0-2 c = omega (arith, c.loop-row-test.true, c.pass_
 
 pub loop-row-preserved-then-done-ne0-2 : goal.loop-row-preserved-then-done-ne0-2
 loop-row-preserved-then-done-ne0-2 c =
-    let i = c.before.before.before.before.before.before.before.before.before.before.before.before.before.before in
+    let i = (goal.at.loop-row-preserved-then-done-ne0-2 c).In-loop-row in
     standing_past
     (standing_on c.loop-row.invariant (within i) (its-code i) (its-instr i) c.exec-done.ensures
-    c.if-done-ne0.false) refl (begins c.before.before.before.before.before.before.before.before.before.before.before.before.before.before.before.before.before.before) c.pass_skips-row-then-done-ne0-2.ensures
+    c.if-done-ne0.false) refl (begins (goal.at.loop-row-preserved-then-done-ne0-2 c).After-code_at-base) c.pass_skips-row-then-done-ne0-2.ensures
 
 pub loop-row-smaller : goal.loop-row-smaller
 loop-row-smaller c = omega (arith, c.loop-row-test.true)
 
 pub loop-row-preserved : goal.loop-row-preserved
 loop-row-preserved c =
-    let i = c.before.before.before.before.before.before.before.before.before.before.before.before in
+    let i = (goal.at.loop-row-preserved c).In-loop-row in
     standing_on c.loop-row.invariant (within i) (its-code i) (its-instr i) c.exec-done.ensures c.if-done-ne0.false
 
 pub returns : goal.returns
 returns c =
-    let s = c.before.before.before.before.before in
     let w = c.loop-row.invariant in
-    block_by _ _ (plan_by s.args.plan.now).code _ s.args.start s.args.len refl
-    (rw (to_z-of_z s.ranges.arg) at (walking_end w.walking (omega (arith, w.here, c.loop-row-test.false))))
+    block_by _ _ (plan_by c.args.plan.now).code _ c.args.start c.args.len refl
+    (rw (to_z-of_z c.ranges.arg) at (walking_end w.walking (omega (arith, w.here, c.loop-row-test.false))))
