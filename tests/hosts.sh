@@ -103,16 +103,15 @@ run_x86() { # PROGRAM WORDS...
     ${emulate[@]+"${emulate[@]}"} "$@"
 }
 
-# The archive, proved where anything changed since it was last; or the one in a folder that was named.
+# The archive of the crate boundary_c, proved where anything changed since it was last; or the one in a folder that was named.
 find_archive() { # FOLDER
     if [ -n "$1" ]; then
         [ -f "$1/libboundary.a" ] || { say "no libboundary.a in $1"; return 2; }
         QUASARHORN_ARCHIVE=$(cd "$1" && pwd -P)
     else
         command -v rt >/dev/null 2>&1 || { say 'the command rt is not on the path'; return 2; }
-        mkdir -p "$here/target/staticlib"
-        if ! (cd "$here/crates/boundary_c" && rt lib) >"$here/target/staticlib.log" 2>&1 ||
-            ! cp "$here/crates/boundary_c/out/libboundary_c.a" "$here/target/staticlib/libboundary.a"; then
+        mkdir -p "$here/target"
+        if ! "$here/tests/archive" >"$here/target/staticlib.log" 2>&1; then
             tail -n 5 "$here/target/staticlib.log"
             say 'the archive was not made (target/staticlib.log says why)'
             return 2
