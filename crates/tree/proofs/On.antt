@@ -40,6 +40,7 @@ module _ (c : Chart) (o : Ordered c) (s : ℕ) (h : s < length c.states) where
   outside x l g u = true≢false (sym (under_has c o s x u) ∙ run.outside x (omega (arith, many_is)) (omega arith))
 
   parent_of_inside : (x : ℕ) → Under c s x → s ≤ parent_of c x
+  parent_of_inside zero u = elim u [ ]
   parent_of_inside (suc n) (child e) = omega arith
   parent_of_inside (suc n) (deeper u) = omega (arith, under_lt c o u)
 
