@@ -72,6 +72,10 @@ def declared():
             for m in MEMBER.finditer(block[1]):
                 for it in m[1].split():
                     names[it].add(p)
+    for p in glob.glob("crates/*/src/**/*.rt", recursive=True):
+        for line in re.findall(r"ghost use [^;]*;", read(p)):
+            for it in ALIAS.findall(line):
+                names[it].add(p)
     return names
 
 

@@ -11,14 +11,17 @@ mod parse;
 mod saved;
 mod show;
 
-ghost use Rattle.std.specs.Prelude.{◌≤◌, length};
-ghost use Rattle.io.specs.Counts.{IsPrefixLen};
+ghost use Rattle.std.specs.Prelude.{◌≤◌, length, IfOk};
+ghost use Rattle.std.specs.Counts.{IsPrefixLen};
 
 use engine::plans::compile;
 use engine::{Called, State, VALUE};
-use files::LENT;
+use files::{ARGUMENT, LENT, argument, file_bytes};
 use parse::{byte_at, line_after, number_from};
 use show::print;
+use std::env::Env;
+use std::io;
+use std::rt::Files;
 
 // The most numbers that a call of the cases lends for its trace.
 const ROOM: usize = 3000;
@@ -34,20 +37,15 @@ pub const P: u8 = 112;
 pub const R: u8 = 114;
 
 // A case's file, by the case's name and how the file's name ends: its length, 0 where it cannot be opened.
-fn load(name: &[u8], ending: &[u8], buffer: &mut [u8]) -> usize
-    ensures { IsPrefixLen result buffer.new }
+fn load(rt: &impl Files, name: &[u8], ending: &[u8], buffer: &mut [u8]) -> io::Result<usize>
+    ensures { IfOk result (λ n. IsPrefixLen n buffer.new) }
 {
-    let mut path = io::buffer();
+    let mut path = [0u8; ARGUMENT];
     let a = parse::joined(&mut path, 0, name);
     let b = parse::joined(&mut path, a, ending);
     let n = parse::within(b, &path);
-    let file = os::open_read(&path[..n]);
-    if file < 0 {
-        return 0;
-    }
-    let got = io::read_full(file, buffer);
-    libc::close(file);
-    got
+    let found = file_bytes(rt, &path[..n], buffer)?;
+    Ok(found.unwrap_or(0))
 }
 
 // How many numbers a call lends, of those that there are.
@@ -106,74 +104,99 @@ fn call(
 }
 
 // Calls one after the other, the first on a widget not yet started.
-fn one_after_another(chart: &[i32], plan: &[i32], planned: bool, calls: &[u8]) {
+fn one_after_another(
+    rt: &impl Print,
+    chart: &[i32],
+    plan: &[i32],
+    planned: bool,
+    calls: &[u8],
+) -> io::Result<()> {
     let mut state = engine::unstarted();
     let mut trace = [0i32; ROOM];
     let mut at = 0;
     while at < calls.len() {
         let called = call(chart, plan, planned, state, calls, at, &mut trace);
         state = called.state;
-        show::answer(called);
-        show::entries(&trace, called.entries);
-        show::state(plan, state);
+        show::answer(rt, called)?;
+        show::entries(rt, &trace, called.entries)?;
+        show::state(rt, plan, state)?;
         at = line_after(calls, at);
     }
+    Ok(())
 }
 
 // Calls, each on the same state.
-fn each_on(chart: &[i32], plan: &[i32], planned: bool, state: State, calls: &[u8]) {
+fn each_on(
+    rt: &impl Print,
+    chart: &[i32],
+    plan: &[i32],
+    planned: bool,
+    state: State,
+    calls: &[u8],
+) -> io::Result<()> {
     let mut trace = [0i32; ROOM];
     let mut at = 0;
     while at < calls.len() {
         let called = call(chart, plan, planned, state, calls, at, &mut trace);
-        show::answer(called);
+        show::answer(rt, called)?;
         at = line_after(calls, at);
     }
+    Ok(())
 }
 
 // A case's calls, over its chart or over its plan.
-fn run_calls(name: &[u8], chart: &[i32], plan: &[i32], planned: bool) {
+fn run_calls(
+    rt: &(impl Files + Print),
+    name: &[u8],
+    chart: &[i32],
+    plan: &[i32],
+    planned: bool,
+) -> io::Result<()> {
     let mut calls = [0u8; LENT];
-    let n = load(name, b"_calls.txt", &mut calls);
+    let n = load(rt, name, b"_calls.txt", &mut calls)?;
     if byte_at(name, 0) == S {
         let mut numbers = [0u8; LENT];
-        let m = load(name, b"_state.txt", &mut numbers);
+        let m = load(rt, name, b"_state.txt", &mut numbers)?;
         let state = saved::state_of(&numbers[..m]);
-        each_on(chart, plan, planned, state, &calls[..n]);
-        return;
+        return each_on(rt, chart, plan, planned, state, &calls[..n]);
     }
-    one_after_another(chart, plan, planned, &calls[..n]);
+    one_after_another(rt, chart, plan, planned, &calls[..n])
 }
 
 // One case, by its name.
-fn run(name: &[u8]) {
-    print(name);
-    print(b"\n");
+fn run(rt: &(impl Files + Print), name: &[u8]) -> io::Result<()> {
+    print(rt, name)?;
+    print(rt, b"\n")?;
     let mut text = [0u8; LENT];
-    let n = load(name, b"_chart.txt", &mut text);
+    let n = load(rt, name, b"_chart.txt", &mut text)?;
     let mut chart = [0i32; VALUE];
     let answer = engine::read(&text[..n], &mut chart);
     if answer.number != 0 {
-        print(b"refused\n");
-        return;
+        return print(rt, b"refused\n");
     }
     let mut plan = [0i32; PLAN];
     compile(&chart, &mut plan);
-    run_calls(name, &chart, &plan, false);
-    print(name);
-    print(b" by its plan\n");
-    run_calls(name, &chart, &plan, true);
+    run_calls(rt, name, &chart, &plan, false)?;
+    print(rt, name)?;
+    print(rt, b" by its plan\n")?;
+    run_calls(rt, name, &chart, &plan, true)
 }
 
-// The case that an argument names.
-fn run_argument(i: usize) {
-    let mut name = io::buffer();
-    let n = os::arg(i, &mut name);
-    run(&name[..n]);
+// The case that an argument names; whether there is such an argument.
+fn run_argument(rt: &(impl Env + Files + Print), i: usize) -> io::Result<bool> {
+    let mut name = [0u8; ARGUMENT];
+    let Some(n) = argument(rt, i, &mut name) else {
+        return Ok(false);
+    };
+    run(rt, &name[..n])?;
+    Ok(true)
 }
 
-fn main() {
-    for i in 1..os::arg_count() {
-        run_argument(i);
+fn main(rt: HostRuntime) -> io::Result<()> {
+    for i in 1..usize::MAX {
+        if !run_argument(&rt, i)? {
+            break;
+        }
     }
+    Ok(())
 }

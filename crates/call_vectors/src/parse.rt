@@ -1,7 +1,7 @@
 // Words, numbers and lines of a case's files. Every function takes any bytes and any place; the files are written in one form, so no
 // form is refused here: what was read wrongly shows in what is printed.
 ghost use Rattle.std.specs.Prelude.{◌<◌, ◌≤◌, length};
-ghost use Rattle.io.specs.Counts.{IsPrefixLen};
+ghost use Rattle.std.specs.Counts.{IsPrefixLen};
 
 use console::LF;
 

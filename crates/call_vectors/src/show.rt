@@ -1,69 +1,70 @@
 // What is printed of a call and of the state after it: `R` answer, place, count of entries; the entries, one a line; `S` the started mark,
 // `M` the active states, `H` owner and child of each filled slot, `V` the chart's variables, `Q` event and argument of what waits.
-use libc::STDOUT_FILENO;
 use meaning::{Called, State};
 use sizes::{QUEUE, STATES, VARIABLES};
+use std::io;
 
-pub fn print(word: &[u8]) {
-    io::write_all(STDOUT_FILENO, word);
+pub fn print(rt: &impl Print, word: &[u8]) -> io::Result<()> {
+    rt.write_all(word)
 }
 
-fn print_number(n: usize) {
-    io::print_decimal(STDOUT_FILENO, n as u64);
+fn print_number(rt: &impl Print, n: usize) -> io::Result<()> {
+    print!(rt; "{n}")
 }
 
 // A number with its sign.
-fn print_signed(v: i32) {
+fn print_signed(rt: &impl Print, v: i32) -> io::Result<()> {
     let mut word = [0u8; 16];
     let n = console::put_numeral(&mut word, 0, v);
     let most = crate::parse::within(n, &word);
-    print(&word[..most]);
+    print(rt, &word[..most])
 }
 
 // A space and a number.
-fn print_next(v: i32) {
-    print(b" ");
-    print_signed(v);
+fn print_next(rt: &impl Print, v: i32) -> io::Result<()> {
+    print(rt, b" ")?;
+    print_signed(rt, v)
 }
 
 // R, answer, place, count of entries.
-pub fn answer(called: Called) {
+pub fn answer(rt: &impl Print, called: Called) -> io::Result<()> {
     let answer = called.answer;
-    print(b"R ");
-    print_number(answer.number);
-    print(b" ");
-    print_number(answer.place);
-    print(b" ");
-    print_number(called.entries);
-    print(b"\n");
+    print(rt, b"R ")?;
+    print_number(rt, answer.number)?;
+    print(rt, b" ")?;
+    print_number(rt, answer.place)?;
+    print(rt, b" ")?;
+    print_number(rt, called.entries)?;
+    print(rt, b"\n")
 }
 
 // The entries, one a line; where the trace holds fewer, those.
-pub fn entries(trace: &[i32], n: usize) {
+pub fn entries(rt: &impl Print, trace: &[i32], n: usize) -> io::Result<()> {
     let mut i: usize = 0;
     let mut left = n;
     while 0 < left {
         if trace.len() - i < 3 {
             break;
         }
-        print_signed(trace[i]);
-        print_next(trace[i + 1]);
-        print_next(trace[i + 2]);
-        print(b"\n");
+        print_signed(rt, trace[i])?;
+        print_next(rt, trace[i + 1])?;
+        print_next(rt, trace[i + 2])?;
+        print(rt, b"\n")?;
         i += 3;
         left -= 1;
     }
+    Ok(())
 }
 
 // An owner or event and what belongs to it.
-fn print_pair(first: i32, second: i32) {
-    print_next(first);
-    print(b":");
-    print_signed(second);
+fn print_pair(rt: &impl Print, first: i32, second: i32) -> io::Result<()> {
+    print_next(rt, first)?;
+    print(rt, b":")?;
+    print_signed(rt, second)
 }
 
-fn print_active(state: State) {
-    print(b"\nM");
+fn print_active(rt: &impl Print, state: State) -> io::Result<()> {
+    print(rt, b"\nM")?;
     let active = state.active;
     let mut k: usize = 0;
     while k < STATES {
@@ -72,12 +73,13 @@ fn print_active(state: State) {
         if !active[s] {
             continue;
         }
-        print_next(s as i32);
+        print_next(rt, s as i32)?;
     }
+    Ok(())
 }
 
-fn print_slots(state: State) {
-    print(b"\nH");
+fn print_slots(rt: &impl Print, state: State) -> io::Result<()> {
+    print(rt, b"\nH")?;
     let slots = state.slots;
     let mut k: usize = 0;
     while k < STATES {
@@ -87,8 +89,9 @@ fn print_slots(state: State) {
         if child == -1 {
             continue;
         }
-        print_pair(s as i32, child);
+        print_pair(rt, s as i32, child)?;
     }
+    Ok(())
 }
 
 // How many variables the widget has: the second number of its plan (docs/PLAN.md).
@@ -99,8 +102,8 @@ fn variables(plan: &[i32]) -> usize {
     numbers::reference(plan[1])
 }
 
-fn print_variables(plan: &[i32], state: State) {
-    print(b"\nV");
+fn print_variables(rt: &impl Print, plan: &[i32], state: State) -> io::Result<()> {
+    print(rt, b"\nV")?;
     let vars = state.vars;
     let n = variables(plan);
     let mut k: usize = 0;
@@ -108,13 +111,14 @@ fn print_variables(plan: &[i32], state: State) {
         if n <= k {
             break;
         }
-        print_next(vars[k]);
+        print_next(rt, vars[k])?;
         k += 1;
     }
+    Ok(())
 }
 
-fn print_queue(state: State) {
-    print(b"\nQ");
+fn print_queue(rt: &impl Print, state: State) -> io::Result<()> {
+    print(rt, b"\nQ")?;
     let queue = state.queue;
     let n = queue.len;
     let mut k: usize = 0;
@@ -123,21 +127,22 @@ fn print_queue(state: State) {
             break;
         }
         let item = queue.items[k];
-        print_pair(item.event, item.arg);
+        print_pair(rt, item.event, item.arg)?;
         k += 1;
     }
+    Ok(())
 }
 
 // The state, in five lines.
-pub fn state(plan: &[i32], state: State) {
+pub fn state(rt: &impl Print, plan: &[i32], state: State) -> io::Result<()> {
     if state.started {
-        print(b"S 1");
+        print(rt, b"S 1")?;
     } else {
-        print(b"S 0");
+        print(rt, b"S 0")?;
     }
-    print_active(state);
-    print_slots(state);
-    print_variables(plan, state);
-    print_queue(state);
-    print(b"\n");
+    print_active(rt, state)?;
+    print_slots(rt, state)?;
+    print_variables(rt, plan, state)?;
+    print_queue(rt, state)?;
+    print(rt, b"\n")
 }

@@ -1,13 +1,14 @@
 // The plan program (01, "The plan"), for whoever ships widgets: reads chart.txt, a missing one as empty, and writes its plan: one line for
 // the six counts, one for each variable, head and instruction, numbers parted by single spaces; or `R`, answer and place where the text or
-// the chart is refused. It decides nothing itself: what a text and a chart give is said by the engine.
+// the chart is refused. It decides nothing itself: what a text and a chart give is said by the engine. A read or a write that fails ends it
+// with that error.
 #![tactic(auto)]
 
 use console::{LF, put, put_digits, put_numeral};
 use engine::{Answer, VALUE};
-use files::{LENT, PLAN, chart_text};
-use libc::STDOUT_FILENO;
+use files::{BUFFER, LENT, PLAN, chart_text};
 use numbers::reference;
+use std::io;
 
 // Room that is enough for one line: ten numbers of at most eleven bytes, each with what parts it from the next.
 const LINE: usize = 120;
@@ -26,22 +27,23 @@ struct Rows {
 }
 
 // Writes what was collected, up to the place.
-fn print(out: &[u8], at: usize) {
+fn print(rt: &impl Print, out: &[u8], at: usize) -> io::Result<()> {
     if at <= out.len() {
-        io::write_all(STDOUT_FILENO, &out[..at]);
+        rt.write_all(&out[..at])?;
     }
+    Ok(())
 }
 
 // Room for one more line: what was collected is written where there is less.
-fn with_room(out: &[u8], at: usize) -> usize {
+fn with_room(rt: &impl Print, out: &[u8], at: usize) -> io::Result<usize> {
     if out.len() < LINE {
-        return at;
+        return Ok(at);
     }
     if out.len() - LINE < at {
-        print(out, at);
-        return 0;
+        print(rt, out, at)?;
+        return Ok(0);
     }
-    at
+    Ok(at)
 }
 
 // One number of a row, parted from the one before it.
@@ -72,13 +74,14 @@ fn put_row(plan: &[i32], from: usize, width: usize, out: &mut [u8], at: usize) -
 
 // So many rows of one kind.
 fn put_rows(
+    rt: &impl Print,
     plan: &[i32],
     from: usize,
     count: usize,
     width: usize,
     out: &mut [u8],
     at: usize,
-) -> Rows {
+) -> io::Result<Rows> {
     let mut rows = Rows { from: from, at: at };
     let mut i: usize = 0;
     while i < count {
@@ -89,29 +92,29 @@ fn put_rows(
         if plan.len() - begin < width {
             break;
         }
-        let p = with_room(out, rows.at);
+        let p = with_room(rt, out, rows.at)?;
         rows = Rows {
             from: begin + width,
             at: put_row(plan, begin, width, out, p),
         };
         i += 1;
     }
-    rows
+    Ok(rows)
 }
 
 // The plan, row by row.
-fn put_plan(plan: &[i32], out: &mut [u8]) -> usize {
+fn put_plan(rt: &impl Print, plan: &[i32], out: &mut [u8]) -> io::Result<usize> {
     if plan.len() < HEADER {
-        return 0;
+        return Ok(0);
     }
     let vars = reference(plan[1]);
     let heads = reference(plan[3]);
     let instructions = reference(plan[4]);
-    let counts = put_rows(plan, 0, 1, HEADER, out, 0);
-    let variables = put_rows(plan, counts.from, vars, 3, out, counts.at);
-    let chosen = put_rows(plan, variables.from, heads, 10, out, variables.at);
-    let code = put_rows(plan, chosen.from, instructions, 4, out, chosen.at);
-    code.at
+    let counts = put_rows(rt, plan, 0, 1, HEADER, out, 0)?;
+    let variables = put_rows(rt, plan, counts.from, vars, 3, out, counts.at)?;
+    let chosen = put_rows(rt, plan, variables.from, heads, 10, out, variables.at)?;
+    let code = put_rows(rt, plan, chosen.from, instructions, 4, out, chosen.at)?;
+    Ok(code.at)
 }
 
 // R, answer, place.
@@ -124,25 +127,23 @@ fn put_refusal(answer: Answer, out: &mut [u8]) -> usize {
     put(out, e, LF)
 }
 
-fn main() {
+fn main(rt: HostRuntime) -> io::Result<()> {
     let mut bytes = [0u8; LENT];
-    let n = chart_text(&mut bytes);
+    let n = chart_text(&rt, &mut bytes)?;
     let mut chart = [0; VALUE];
-    let mut out = io::large_buffer();
+    let mut out = [0u8; BUFFER];
     let read = engine::read(&bytes[..n], &mut chart);
     if read.number != 0 {
         let at = put_refusal(read, &mut out);
-        print(&out, at);
-        return;
+        return print(&rt, &out, at);
     }
     let mut plan = [0; PLAN];
     let compiled = engine::plans::compile(&chart, &mut plan);
     let answer = compiled.answer;
     if answer.number != 0 {
         let at = put_refusal(answer, &mut out);
-        print(&out, at);
-        return;
+        return print(&rt, &out, at);
     }
-    let at = put_plan(&plan, &mut out);
-    print(&out, at);
+    let at = put_plan(&rt, &plan, &mut out)?;
+    print(&rt, &out, at)
 }

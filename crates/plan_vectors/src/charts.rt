@@ -1,33 +1,29 @@
 // A chart compiled, and its plan held to the numbers that it must give.
-ghost use Rattle.std.specs.Prelude.{◌≤◌, length};
-ghost use Rattle.io.specs.Counts.{IsPrefixLen};
+ghost use Rattle.std.specs.Prelude.{◌≤◌, length, IfOk};
+ghost use Rattle.std.specs.Counts.{IsPrefixLen};
 
 use super::lines::read_numbers;
 use super::print;
 use engine::VALUE;
 use engine::plans::compile;
-use files::LENT;
-use libc::STDOUT_FILENO;
+use files::{ARGUMENT, BUFFER, LENT, argument, file_bytes};
+use std::env::Env;
+use std::io;
+use std::rt::Files;
 
 // Room for the numbers of a plan of these charts.
 const ROOM: usize = 16384;
 
-fn print_number(n: usize) {
-    print(b"\t");
-    io::print_decimal(STDOUT_FILENO, n as u64);
+fn print_number(rt: &impl Print, n: usize) -> io::Result<()> {
+    print!(rt; "\t{n}")
 }
 
 // A file's bytes, by its name: how many, 0 where it cannot be opened.
-fn load(path: &[u8], buffer: &mut [u8]) -> usize
-    ensures { IsPrefixLen result buffer.new }
+fn load(rt: &impl Files, path: &[u8], buffer: &mut [u8]) -> io::Result<usize>
+    ensures { IfOk result (λ n. IsPrefixLen n buffer.new) }
 {
-    let file = os::open_read(path);
-    if file < 0 {
-        return 0;
-    }
-    let n = io::read_full(file, buffer);
-    libc::close(file);
-    n
+    let found = file_bytes(rt, path, buffer)?;
+    Ok(found.unwrap_or(0))
 }
 
 // The first n numbers of the two are the same, and there are no more in the second.
@@ -49,60 +45,59 @@ fn same(plan: &[i32], n: usize, wanted: &[i32]) -> bool {
 }
 
 // The answer with one number less lent than the plan has.
-fn print_short(chart: &[i32], n: usize) {
+fn print_short(rt: &impl Print, chart: &[i32], n: usize) -> io::Result<()> {
     let mut plan = [0i32; ROOM];
     if n == 0 {
-        return;
+        return Ok(());
     }
     if ROOM < n {
-        return;
+        return Ok(());
     }
     let less = n - 1;
     let short = compile(chart, &mut plan[..less]);
     let answer = short.answer;
-    print_number(answer.number);
+    print_number(rt, answer.number)
 }
 
 // Answer and count of compiling the chart that a text states, and whether the plan is the one wanted.
-fn report(text: &[u8], wanted: &[i32]) {
+fn report(rt: &impl Print, text: &[u8], wanted: &[i32]) -> io::Result<()> {
     let mut chart = [0i32; VALUE];
     let read = engine::read(text, &mut chart);
     if read.number != 0 {
-        print(b"\trefused\n");
-        return;
+        return print(rt, b"\trefused\n");
     }
     let mut plan = [0i32; ROOM];
     let compiled = compile(&chart, &mut plan);
     let answer = compiled.answer;
     let n = compiled.length;
-    print_number(answer.number);
-    print_number(n);
+    print_number(rt, answer.number)?;
+    print_number(rt, n)?;
     if same(&plan, n, wanted) {
-        print(b"\tsame");
+        print(rt, b"\tsame")?;
     } else {
-        print(b"\tdiffers");
+        print(rt, b"\tdiffers")?;
     }
-    print_short(&chart, n);
-    print(b"\n");
+    print_short(rt, &chart, n)?;
+    print(rt, b"\n")
 }
 
 // The plan that the argument's file states, one number a line.
-fn wanted_by(argument: usize, wanted: &mut [i32]) -> usize
-    ensures { result ≤ length wanted.new }
+fn wanted_by(rt: &(impl Env + Files), place: usize, wanted: &mut [i32]) -> io::Result<usize>
+    ensures { IfOk result (λ n. n ≤ length wanted.new) }
 {
-    let mut name = io::buffer();
-    let named = os::arg(argument, &mut name);
-    let mut lines = io::large_buffer();
-    let bytes = load(&name[..named], &mut lines);
-    read_numbers(&lines[..bytes], wanted)
+    let mut name = [0u8; ARGUMENT];
+    let named = argument(rt, place, &mut name).unwrap_or(0);
+    let mut lines = [0u8; BUFFER];
+    let bytes = load(rt, &name[..named], &mut lines)?;
+    Ok(read_numbers(&lines[..bytes], wanted))
 }
 
-// One chart, by its file's name; the argument after it names the file of its plan.
-pub fn run_chart(path: &[u8], argument: usize) {
+// One chart, by its file's name; the argument at the place names the file of its plan.
+pub fn run_chart(rt: &(impl Env + Files + Print), path: &[u8], place: usize) -> io::Result<()> {
     let mut text = [0u8; LENT];
-    let got = load(path, &mut text);
+    let got = load(rt, path, &mut text)?;
     let mut wanted = [0i32; ROOM];
-    let n = wanted_by(argument, &mut wanted);
-    print(path);
-    report(&text[..got], &wanted[..n]);
+    let n = wanted_by(rt, place, &mut wanted)?;
+    print(rt, path)?;
+    report(rt, &text[..got], &wanted[..n])
 }

@@ -12,8 +12,11 @@ ghost use Rattle.std.specs.Prelude.{◌≤◌};
 
 use charts::run_chart;
 use engine::plans::examine;
-use libc::STDOUT_FILENO;
+use files::{ARGUMENT, BUFFER, argument, file_bytes};
 use lines::read_numbers;
+use std::env::Env;
+use std::io;
+use std::rt::Files;
 
 // Room for the numbers of a plan.
 const ROOM: usize = 16384;
@@ -28,33 +31,28 @@ fn stem(named: usize) -> usize
     named - 5
 }
 
-pub fn print(word: &[u8]) {
-    io::write_all(STDOUT_FILENO, word);
+pub fn print(rt: &impl Print, word: &[u8]) -> io::Result<()> {
+    rt.write_all(word)
 }
 
 // The answer for the plan that a text states.
-fn report(text: &[u8]) {
+fn report(rt: &impl Print, text: &[u8]) -> io::Result<()> {
     let mut plan = [0i32; ROOM];
     let n = read_numbers(text, &mut plan);
     let answer = examine(&plan[..n]);
-    print(b"\t");
-    io::print_decimal(STDOUT_FILENO, answer.number as u64);
-    print(b"\n");
+    let number = answer.number;
+    print!(rt; "\t{number}\n")
 }
 
 // One plan, by its file's name.
-fn run_plan(path: &[u8]) {
+fn run_plan(rt: &(impl Files + Print), path: &[u8]) -> io::Result<()> {
     let n = stem(path.len());
-    print(&path[..n]);
-    let fd = os::open_read(path);
-    if fd < 0 {
-        print(b"\t-\n");
-        return;
+    print(rt, &path[..n])?;
+    let mut buf = [0u8; BUFFER];
+    match file_bytes(rt, path, &mut buf)? {
+        Some(got) => report(rt, &buf[..got]),
+        None => print(rt, b"\t-\n"),
     }
-    let mut buf = io::large_buffer();
-    let got = io::read_full(fd, &mut buf);
-    libc::close(fd);
-    report(&buf[..got]);
 }
 
 // The last byte of a file's name, 0 where it has none.
@@ -66,25 +64,32 @@ fn last(path: &[u8]) -> u8 {
     0
 }
 
-// The plan or the chart that an argument names, by the last letter of its file: .plan, .txt; .num belongs to the chart before it.
-fn run_argument(i: usize) {
-    let mut path = io::buffer();
-    let n = os::arg(i, &mut path);
+// The plan or the chart that an argument names, by the last letter of its file: .plan, .txt; .num belongs to the chart before it. Whether
+// there is such an argument.
+fn run_argument(rt: &(impl Env + Files + Print), i: usize) -> io::Result<bool> {
+    let mut path = [0u8; ARGUMENT];
+    let Some(n) = argument(rt, i, &mut path) else {
+        return Ok(false);
+    };
     let letter = last(&path[..n]);
     if letter == b'm' {
-        return;
+        return Ok(true);
     }
     if letter == b't' {
         if i < ROOM {
-            run_chart(&path[..n], i + 1);
+            run_chart(rt, &path[..n], i + 1)?;
         }
-        return;
+        return Ok(true);
     }
-    run_plan(&path[..n]);
+    run_plan(rt, &path[..n])?;
+    Ok(true)
 }
 
-fn main() {
-    for i in 1..os::arg_count() {
-        run_argument(i);
+fn main(rt: HostRuntime) -> io::Result<()> {
+    for i in 1..usize::MAX {
+        if !run_argument(&rt, i)? {
+            break;
+        }
     }
+    Ok(())
 }

@@ -1,6 +1,8 @@
 // The replay program, for whoever looks at a recorded session: what its events did, in one line.
 #![tactic(auto)]
 
-fn main() {
-    plan_session::run(false);
+use std::io;
+
+fn main(rt: HostRuntime) -> io::Result<()> {
+    plan_session::run(&rt, false)
 }

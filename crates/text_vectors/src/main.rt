@@ -7,8 +7,10 @@
 ghost use Rattle.std.specs.Prelude.{◌≤◌};
 
 use engine::VALUE;
-use files::LENT;
-use libc::STDOUT_FILENO;
+use files::{ARGUMENT, LENT, argument, file_bytes};
+use std::env::Env;
+use std::io;
+use std::rt::Files;
 
 // How many bytes of a file's name are the text's name: all but `.txt`.
 fn stem(named: usize) -> usize
@@ -20,13 +22,12 @@ fn stem(named: usize) -> usize
     named - 4
 }
 
-fn print(word: &[u8]) {
-    io::write_all(STDOUT_FILENO, word);
+fn print(rt: &impl Print, word: &[u8]) -> io::Result<()> {
+    rt.write_all(word)
 }
 
-fn print_number(n: usize) {
-    print(b"\t");
-    io::print_decimal(STDOUT_FILENO, n as u64);
+fn print_number(rt: &impl Print, n: usize) -> io::Result<()> {
+    print!(rt; "\t{n}")
 }
 
 // The first n bytes of what was written are the text.
@@ -34,7 +35,7 @@ fn begins_with(written: &[u8], n: usize, text: &[u8]) -> bool {
     if written.len() < n {
         return false;
     }
-    check::same(&written[..n], text)
+    &written[..n] == text
 }
 
 // The chart that was read, written as text, is the text that it was read from.
@@ -49,46 +50,47 @@ fn written_back(text: &[u8], chart: &[i32]) -> bool {
 }
 
 // Answer, place, and whether the text came back.
-fn report(text: &[u8]) {
+fn report(rt: &impl Print, text: &[u8]) -> io::Result<()> {
     let mut chart = [0i32; VALUE];
     let answer = engine::read(text, &mut chart);
-    print_number(answer.number);
-    print_number(answer.place);
+    print_number(rt, answer.number)?;
+    print_number(rt, answer.place)?;
     if answer.number != 0 {
-        print(b"\t-\n");
-        return;
+        return print(rt, b"\t-\n");
     }
     if written_back(text, &chart) {
-        print(b"\tsame\n");
+        print(rt, b"\tsame\n")
     } else {
-        print(b"\tdiffers\n");
+        print(rt, b"\tdiffers\n")
     }
 }
 
 // One text, by its file's name.
-fn run(path: &[u8]) {
+fn run(rt: &(impl Files + Print), path: &[u8]) -> io::Result<()> {
     let n = stem(path.len());
-    print(&path[..n]);
-    let fd = os::open_read(path);
-    if fd < 0 {
-        print(b"\t-\t-\t-\n");
-        return;
-    }
+    print(rt, &path[..n])?;
     let mut buf = [0u8; LENT];
-    let got = io::read_full(fd, &mut buf);
-    libc::close(fd);
-    report(&buf[..got]);
-}
-
-// The text that an argument names.
-fn run_argument(i: usize) {
-    let mut path = io::buffer();
-    let n = os::arg(i, &mut path);
-    run(&path[..n]);
-}
-
-fn main() {
-    for i in 1..os::arg_count() {
-        run_argument(i);
+    match file_bytes(rt, path, &mut buf)? {
+        Some(got) => report(rt, &buf[..got]),
+        None => print(rt, b"\t-\t-\t-\n"),
     }
+}
+
+// The text that an argument names; whether there is such an argument.
+fn run_argument(rt: &(impl Env + Files + Print), i: usize) -> io::Result<bool> {
+    let mut path = [0u8; ARGUMENT];
+    let Some(n) = argument(rt, i, &mut path) else {
+        return Ok(false);
+    };
+    run(rt, &path[..n])?;
+    Ok(true)
+}
+
+fn main(rt: HostRuntime) -> io::Result<()> {
+    for i in 1..usize::MAX {
+        if !run_argument(&rt, i)? {
+            break;
+        }
+    }
+    Ok(())
 }

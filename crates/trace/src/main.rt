@@ -1,10 +1,10 @@
 // The trace program (01, the end of "Checked by example"): reads chart.txt, a missing one as empty, and standard input to its end, in
 // parts; what it prints is collected and written whenever there might not be room for one more report. It reads and writes, and decides
 // nothing itself: what a text and the bytes of a part do is said by the functions that it calls. A line may have any length, and the input
-// any size.
+// any size. A read or a write that fails ends it with that error.
 #![tactic(auto)]
 
-ghost use Rattle.std.specs.Prelude.{◌≡◌, ◌+◌, ◌≤◌, length};
+ghost use Rattle.std.specs.Prelude.{◌≡◌, ◌+◌, ◌≤◌, length, IfOk};
 ghost use Rattle.meaning.specs.Value.{chart_of};
 ghost use Rattle.meaning.specs.Program.{ROOM as Room, do_line};
 ghost use Rattle.meaning.specs.Rules.{Ruled};
@@ -13,10 +13,11 @@ ghost use Rattle.session.specs.Walked.{Fed};
 
 use console::Scan;
 use engine::VALUE;
-use files::{LENT, chart_text};
-use libc::{STDIN_FILENO, STDOUT_FILENO};
+use files::{BUFFER, LENT, chart_text};
 use meaning::State;
 use session::{LARGEST, ROOM, Under};
+use std::io;
+use std::io::Read;
 
 // One part of the input: whether there may be more, and where the session stands.
 #[derive(Drop)]
@@ -26,28 +27,35 @@ struct Part {
 }
 
 // Writes what was collected, up to the place.
-fn print(out: &[u8], at: usize)
+fn print(rt: &impl Print, out: &[u8], at: usize) -> io::Result<()>
     requires { at ≤ length out.now }
 {
-    io::write_all(STDOUT_FILENO, &out[..at]);
+    rt.write_all(&out[..at])
 }
 
 // Room for one more report: what was collected is written where there is less.
-fn with_room(out: &[u8], at: usize) -> usize
+fn with_room(rt: &impl Print, out: &[u8], at: usize) -> io::Result<usize>
     requires { (at ≤ length out.now) × (Largest ≤ length out.now) }
-    ensures { result + Largest ≤ length out.now }
+    ensures { IfOk result (λ place. place + Largest ≤ length out.now) }
 {
     if out.len() - at < LARGEST {
-        print(out, at);
-        return 0;
+        print(rt, out, at)?;
+        return Ok(0);
     }
-    at
+    Ok(at)
 }
 
 // All bytes of a part of the input, in as many walks as the room needs: what was collected is written between them.
-fn feed_all(chart: &[i32], part: &[u8], under: Under, out: &mut [u8], trace: &mut [i32]) -> Under
+fn feed_all(
+    rt: &impl Print,
+    chart: &[i32],
+    part: &[u8],
+    under: Under,
+    out: &mut [u8],
+    trace: &mut [i32],
+) -> io::Result<Under>
     requires { Ruled chart.now × (under.at + Largest ≤ length out.old) × (length trace.old ≡ Room) }
-    ensures { Fed (do_line (chart_of chart.now)) part.now (seen under) out.new result }
+    ensures { IfOk result (λ fed. Fed (do_line (chart_of chart.now)) part.now (seen under) out.new fed) }
 {
     let mut now = under;
     let mut i = 0;
@@ -56,45 +64,58 @@ fn feed_all(chart: &[i32], part: &[u8], under: Under, out: &mut [u8], trace: &mu
         let next = walked.under;
         let state = next.state;
         let scan = next.scan;
+        let at = with_room(rt, out, next.at)?;
         now = Under {
             state: state,
             scan: scan,
-            at: with_room(out, next.at),
+            at: at,
         };
         i = walked.upto;
     }
-    now
+    Ok(now)
 }
 
 // One part of the input.
-fn read_some(chart: &[i32], under: Under, out: &mut [u8], trace: &mut [i32]) -> Part
+fn read_some(
+    rt: &(impl Input + Print),
+    chart: &[i32],
+    under: Under,
+    out: &mut [u8],
+    trace: &mut [i32],
+) -> io::Result<Part>
     requires { Ruled chart.now × (under.at + Largest ≤ length out.old) × (length trace.old ≡ Room) }
-    ensures { result.under.at + Largest ≤ length out.new }
+    ensures { IfOk result (λ part. part.under.at + Largest ≤ length out.new) }
 {
-    let mut buffer = io::large_buffer();
-    let got = libc::read(STDIN_FILENO, &mut buffer);
-    if got <= 0 {
-        return Part {
+    let mut buffer = [0u8; BUFFER];
+    let n = rt.reader().read(&mut buffer)?;
+    if n == 0 {
+        return Ok(Part {
             more: false,
             under: under,
-        };
+        });
     }
-    let n = io::count(got, &buffer);
-    Part {
+    let fed = feed_all(rt, chart, &buffer[..n], under, out, trace)?;
+    Ok(Part {
         more: true,
-        under: feed_all(chart, &buffer[..n], under, out, trace),
-    }
+        under: fed,
+    })
 }
 
 // All of the input. A proved loop has to end, and nothing says that the input does: the count of parts is larger than any.
-fn read_all(chart: &[i32], under: Under, out: &mut [u8], trace: &mut [i32]) -> Under
+fn read_all(
+    rt: &(impl Input + Print),
+    chart: &[i32],
+    under: Under,
+    out: &mut [u8],
+    trace: &mut [i32],
+) -> io::Result<Under>
     requires { Ruled chart.now × (under.at + Largest ≤ length out.old) × (length trace.old ≡ Room) }
-    ensures { result.at + Largest ≤ length out.new }
+    ensures { IfOk result (λ read. read.at + Largest ≤ length out.new) }
 {
     let mut now = under;
     let mut parts = u64::MAX;
     while parts > 0 {
-        let part = read_some(chart, now, out, trace);
+        let part = read_some(rt, chart, now, out, trace)?;
         let more = part.more;
         now = part.under;
         if !more {
@@ -102,34 +123,41 @@ fn read_all(chart: &[i32], under: Under, out: &mut [u8], trace: &mut [i32]) -> U
         }
         parts -= 1;
     }
-    now
+    Ok(now)
 }
 
 // "then posts and runs each line"
-fn run_session(chart: &[i32], state: State, at: usize, out: &mut [u8], trace: &mut [i32])
+fn run_session(
+    rt: &(impl Input + Print),
+    chart: &[i32],
+    state: State,
+    at: usize,
+    out: &mut [u8],
+    trace: &mut [i32],
+) -> io::Result<()>
     requires { Ruled chart.now × (at ≤ length out.old) × (Largest ≤ length out.old) × (length trace.old ≡ Room) }
 {
+    let place = with_room(rt, out, at)?;
     let first = Under {
         state: state,
         scan: Scan::empty(),
-        at: with_room(out, at),
+        at: place,
     };
-    let read = read_all(chart, first, out, trace);
+    let read = read_all(rt, chart, first, out, trace)?;
     let last = session::finish(chart, read, out, trace);
-    print(out, last.at);
+    print(rt, out, last.at)
 }
 
-fn main() {
+fn main(rt: HostRuntime) -> io::Result<()> {
     let mut bytes = [0u8; LENT];
-    let n = chart_text(&mut bytes);
+    let n = chart_text(&rt, &mut bytes)?;
     let mut chart = [0; VALUE];
-    let mut out = io::large_buffer();
+    let mut out = [0u8; BUFFER];
     let mut trace = [0; ROOM];
     let opened = session::begin(&bytes[..n], &mut chart, &mut out, 0, &mut trace);
     if opened.going {
         let state = opened.state;
-        run_session(&chart, state, opened.at, &mut out, &mut trace);
-        return;
+        return run_session(&rt, &chart, state, opened.at, &mut out, &mut trace);
     }
-    print(&out, opened.at);
+    print(&rt, &out, opened.at)
 }

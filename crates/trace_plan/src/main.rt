@@ -1,6 +1,8 @@
 // The trace program's session over the compiled plan: it must write what the trace program writes.
 #![tactic(auto)]
 
-fn main() {
-    plan_session::run(true);
+use std::io;
+
+fn main(rt: HostRuntime) -> io::Result<()> {
+    plan_session::run(&rt, true)
 }

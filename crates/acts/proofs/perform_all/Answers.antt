@@ -12,8 +12,7 @@ pub perform-went-requires : goal.perform-went-requires
 perform-went-requires c =
     let row = c.before.before.before.before.before in
     let test = row.before in
-    let k = test.before in
-    (
+    let k = test.before in (
       row_named _ c.requires.0.ruled c.loop-i.i
           (omega (arith, c.loop-i-test.true, c.action_count-n.ensures)) _ c.action_row-row.ensures,
       (c.loop-i.invariant.1 c.args.owner c.first_row-i.ensures).fits,

@@ -9,21 +9,7 @@ use Rattle.tree.proofs.Among.{goal_child}
 use Rattle.blocks.proofs.KidsLeft.{goal_kids_left}
 use Rattle.blocks.proofs.Descent.{going_begin, going_skip, going_room, going_room_below, going_on, going_size, going_end}
 use native.Mathlib.Omega.{arith}
-use Prim.Native.Nat.{ℕ}
-use Rattle.blocks.proofs.+put_towards.Goals.{After-kids_within-kids, After-put_arrival-arg-1, After-put_towards-arg-1, At-loop-d, Start}
 use Rattle.blocks.proofs.+put_towards.Goals as goal
-
-abbrev at-loop-from-put-towards-arg : (t : ℕ) → After-put_towards-arg-1 t → At-loop-d t
-at-loop-from-put-towards-arg t c = (in-loop-from-put-towards-arg c).before
-
-abbrev start-from-put-arrival-arg : (t : ℕ) → After-put_arrival-arg-1 t → Start t
-start-from-put-arrival-arg t c = (in-loop-from-put-arrival-arg c).before.before.before.before
-
-abbrev kids-within-from-put-towards-arg : (t : ℕ) → After-put_towards-arg-1 t → After-kids_within-kids t
-kids-within-from-put-towards-arg t c = (at-loop-from-put-towards-arg t c).before
-
-abbrev start-from-put-towards-arg : (t : ℕ) → After-put_towards-arg-1 t → Start t
-start-from-put-towards-arg t c = (kids-within-from-put-towards-arg t c).before.before
 
 pub next_of-requires : goal.next_of-requires
 next_of-requires t c = c.requires.0.ruled
@@ -62,28 +48,28 @@ loop-d-preserved-then-not-is_child t c =
 
 pub put_arrival-p-requires : goal.put_arrival-p-requires
 put_arrival-p-requires t c = (
-  (start-from-put-arrival-arg t c).requires.0,
-  (start-from-put-arrival-arg t c).requires.2,
+  c.requires.0,
+  c.requires.2,
   omega (
     arith,
-    (in-loop-from-put-arrival-arg c).kids_within-kids.ensures.within,
-    (in-loop-from-put-arrival-arg c).loop-d-test.true,
+    c.kids_within-kids.ensures.within,
+    c.loop-d-test.true,
   ),
-  going_room _ _ _ _ _ _ _ _ _ _ (in-loop-from-put-arrival-arg c).loop-d.invariant
-      (in-loop-from-put-arrival-arg c).loop-d-test.true
+  going_room _ _ _ _ _ _ _ _ _ _ c.loop-d.invariant
+      c.loop-d-test.true
       (sym c.is_child.ensures ∙ not-false _ c.if-not-is_child.false-raw)
-      (start-from-put-arrival-arg t c).requires.3,
+      c.requires.3,
 )
 
 pub overflow_sub-left : goal.overflow_sub-left
 overflow_sub-left t c =
     omega (
       arith,
-      (in-loop-from-put-arrival-arg c.before.before).kids_within-kids.ensures.more
+      c.kids_within-kids.ensures.more
           (omega (
             arith,
-            (in-loop-from-put-arrival-arg c.before.before).loop-d-test.true,
-            (in-loop-from-put-arrival-arg c.before.before).loop-d.invariant.since,
+            c.loop-d-test.true,
+            c.loop-d.invariant.since,
           )),
     )
 
@@ -91,26 +77,26 @@ pub put_towards-p-requires : goal.put_towards-p-requires
 put_towards-p-requires t c = (
   omega (
     arith,
-    (kids-within-from-put-towards-arg t c).kids_within-kids.ensures.more
+    c.kids_within-kids.ensures.more
         (omega (
           arith,
-          (in-loop-from-put-towards-arg c).loop-d-test.true,
-          (at-loop-from-put-towards-arg t c).loop-d.invariant.since,
+          c.loop-d-test.true,
+          c.loop-d.invariant.since,
         )),
   ),
   (
-    (start-from-put-towards-arg t c).requires.0,
-    (start-from-put-towards-arg t c).requires.1,
+    c.requires.0,
+    c.requires.1,
     omega (
       arith,
-      (kids-within-from-put-towards-arg t c).kids_within-kids.ensures.within,
-      (in-loop-from-put-towards-arg c).loop-d-test.true,
+      c.kids_within-kids.ensures.within,
+      c.loop-d-test.true,
     ),
-    going_room_below _ _ _ _ _ _ _ _ _ _ (at-loop-from-put-towards-arg t c).loop-d.invariant
-        (in-loop-from-put-towards-arg c).loop-d-test.true
+    going_room_below _ _ _ _ _ _ _ _ _ _ c.loop-d.invariant
+        c.loop-d-test.true
         (sym c.is_child.ensures ∙ not-false _
         c.if-not-is_child.false-raw) c.put_arrival-p.ensures
-        (start-from-put-towards-arg t c).requires.3,
+        c.requires.3,
   ),
 )
 
@@ -118,18 +104,18 @@ pub overflow_step-d-in-loop-d : goal.overflow_step-d-in-loop-d
 overflow_step-d-in-loop-d t c =
     omega (
       arith,
-      (in-loop-from-plan2 c).loop-d-test.true,
-      (in-loop-from-plan2 c).kids_within-kids.ensures.within,
-      states_most (start-from-put-towards-arg t c.before.before).args.chart.now,
+      c.loop-d-test.true,
+      c.kids_within-kids.ensures.within,
+      states_most c.args.chart.now,
     )
 
 pub loop-d-smaller : goal.loop-d-smaller
-loop-d-smaller t c = omega (arith, (in-loop-from-plan2 c).loop-d-test.true)
+loop-d-smaller t c = omega (arith, c.loop-d-test.true)
 
 pub loop-d-preserved : goal.loop-d-preserved
 loop-d-preserved t c =
-    going_on _ _ _ _ _ _ _ _ _ _ (in-loop-from-plan2 c).loop-d.invariant
-    (in-loop-from-plan2 c).loop-d-test.true
+    going_on _ _ _ _ _ _ _ _ _ _ c.loop-d.invariant
+    c.loop-d-test.true
     (sym c.is_child.ensures ∙ not-false _
     c.if-not-is_child.false-raw)
     c.put_arrival-p.ensures c.put_towards-p.ensures

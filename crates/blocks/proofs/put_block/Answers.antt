@@ -10,8 +10,7 @@ use Rattle.blocks.proofs.put_block.Goals as goal
 
 pub put_acts-requires : goal.put_acts-requires
 put_acts-requires c =
-    let a = c.before.before in
-    (
+    let a = c.before.before in (
       c.requires.0,
       omega (arith, c.requires.1, transitions_most c.args.chart.now),
       omega (

@@ -18,7 +18,7 @@ loop-d-init c = (
   falling_begin (chart_of c.args.chart.now)
       (sound c.args.chart.now c.requires.0.ruled) c.args.s
       c.requires.1 (exit_code (chart_of c.args.chart.now)) _ _ _
-      c.end_Below.ensures,
+      c.end_below-d.ensures,
 )
 
 pub overflow_add-s : goal.overflow_add-s
@@ -37,7 +37,7 @@ put_exit-p-requires c = (
         c.requires.1
         (exit_code (chart_of c.args.chart.now))
         c.args.plan.now c.args.at _
-        c.end_Below.ensures,
+        c.end_below-d.ensures,
   ),
   falling_room c.loop-d.invariant.1 (omega arith) c.requires.2,
 )

@@ -9,13 +9,12 @@ returns-in_default c =
     c.end_below-below.ensures
 
 pub end_below-end-requires : goal.end_below-end-requires
-end_below-end-requires c =
-    (
-      c.requires.0,
-      top_inside _ c.requires.0 _ c.args.target c.requires.1 c.aim_of-aim.ensures
-          c.in-Goes.is
-          c.aimed.ensures c.scope-top.ensures,
-    )
+end_below-end-requires c = (
+  c.requires.0,
+  top_inside _ c.requires.0 _ c.args.target c.requires.1 c.aim_of-aim.ensures
+      c.in-Goes.is
+      c.aimed.ensures c.scope-top.ensures,
+)
 
 pub returns : goal.returns
 returns c =

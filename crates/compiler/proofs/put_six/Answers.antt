@@ -7,20 +7,7 @@ use Rattle.emitter.proofs.Laws.{puts_at}
 use Rattle.compiler.proofs.Bounds.{order_few, code_most, start_few}
 use Rattle.compiler.proofs.Whole.{six_put}
 use native.Mathlib.Omega.{arith}
-use Rattle.compiler.proofs.put_six.Goals.{After-number-2, After-number-4, After-number-5, After-put_three-arg-2-1, Start}
 use Rattle.compiler.proofs.put_six.Goals as goal
-
-abbrev start-from-number2 : After-number-2 → Start
-start-from-number2 c = c.before.before.before.before.before.before
-
-abbrev start-from-put-three-arg2 : After-put_three-arg-2-1 → Start
-start-from-put-three-arg2 c = start-from-number2 c.before.before.before.before
-
-abbrev start-from-number4 : After-number-4 → Start
-start-from-number4 c = start-from-put-three-arg2 c.before
-
-abbrev start-from-number5 : After-number-5 → Start
-start-from-number5 c = start-from-number4 c.before
 
 pub number-requires : goal.number-requires
 number-requires c =
@@ -50,24 +37,24 @@ pub number-requires-4 : goal.number-requires-4
 number-requires-4 c =
     omega (
       arith,
-      (start-from-put-three-arg2 c).requires.1,
-      order_few (start-from-put-three-arg2 c).args.chart.now (start-from-put-three-arg2 c).requires.0,
+      c.requires.1,
+      order_few c.args.chart.now c.requires.0,
     )
 
 pub number-requires-5 : goal.number-requires-5
 number-requires-5 c =
     omega (
       arith,
-      (start-from-number4 c).requires.2,
-      code_most (start-from-number4 c).args.chart.now (start-from-number4 c).requires.0,
+      c.requires.2,
+      code_most c.args.chart.now c.requires.0,
     )
 
 pub number-requires-6 : goal.number-requires-6
 number-requires-6 c =
     omega (
       arith,
-      (start-from-number5 c).requires.3,
-      start_few (start-from-number5 c).args.chart.now (start-from-number5 c).requires.0,
+      c.requires.3,
+      start_few c.args.chart.now c.requires.0,
     )
 
 pub put_three-requires : goal.put_three-requires

@@ -17,8 +17,7 @@ returns-then-taken-ne0 c =
 
 pub perform_all-requires : goal.perform_all-requires
 perform_all-requires c =
-    let m = c.before.before.before.before.before.before.before.before.before in
-    (
+    let m = c.before.before.before.before.before.before.before.before.before in (
       c.requires.0,
       c.mark_taken-taken.ensures.0.fits,
       omega (arith, c.requires.1, transitions_most c.args.chart.now),

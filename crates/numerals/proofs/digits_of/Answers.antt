@@ -17,13 +17,12 @@ returns-then-b-gt57 c =
     val_high _ _ _ _ c.loop-i-test.true c.requires.1 c.if-b-gt57.true ∙ ap capped c.loop-i.invariant.0
 
 pub loop-i-preserved : goal.loop-i-preserved
-loop-i-preserved c =
-    (
-      val_more _ _ _ _ c.loop-i-test.true c.requires.1 _
-          c.if-b-lt48.false c.if-b-gt57.false c.grown-n.ensures ∙ c.loop-i.invariant.0,
-      omega arith,
-      omega (arith, c.grown-n.ensures),
-    )
+loop-i-preserved c = (
+  val_more _ _ _ _ c.loop-i-test.true c.requires.1 _
+      c.if-b-lt48.false c.if-b-gt57.false c.grown-n.ensures ∙ c.loop-i.invariant.0,
+  omega arith,
+  omega (arith, c.grown-n.ensures),
+)
 
 pub returns-then-n-lt-BEYOND : goal.returns-then-n-lt-BEYOND
 returns-then-n-lt-BEYOND c =

@@ -40,8 +40,7 @@ returns-in-AddTo c =
 
 pub returns-in-TakeTo : goal.returns-in-TakeTo
 returns-in-TakeTo c =
-    let a = c.before.before.before.before in
-    (
+    let a = c.before.before.before.before in (
       search rules,
       λ k. act_take c.args.row c.args.arg c.in-TakeTo.is
           (rw (to_z-of_z c.ranges.arg) at (c.assign-in-TakeTo.ensures.1 (with_queue c.args.queue.now k))),

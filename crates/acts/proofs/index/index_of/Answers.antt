@@ -57,21 +57,21 @@ offset_bounds-index-i c = omega (arith, c.loop-i.invariant.within, actions_most 
 
 pub bounds-index-i : goal.bounds-index-i
 bounds-index-i c = omega (
-      arith,
-      c.loop-i.invariant.within,
-      c.loop-i.invariant.size,
-      actions_most
-          c.args.chart.now,
-    )
+  arith,
+  c.loop-i.invariant.within,
+  c.loop-i.invariant.size,
+  actions_most
+      c.args.chart.now,
+)
 
 pub overflow_cast-index : goal.overflow_cast-index
 overflow_cast-index c = omega (
-      arith,
-      c.loop-i.invariant.within,
-      c.action_count-n.ensures,
-      actions_most
-          c.args.chart.now,
-    )
+  arith,
+  c.loop-i.invariant.within,
+  c.action_count-n.ensures,
+  actions_most
+      c.args.chart.now,
+)
 
 pub offset_bounds-index-at-in-loop-i : goal.offset_bounds-index-at-in-loop-i
 offset_bounds-index-at-in-loop-i c = omega (arith, key-low c, c.loop-i.invariant.size)

@@ -24,8 +24,8 @@ offset_bounds-index-i c = omega (arith, c.requires.1, actions_most c.args.chart.
 
 pub bounds-index-i : goal.bounds-index-i
 bounds-index-i c = omega (
-      arith,
-      c.requires.1,
-      actions_most c.args.chart.now,
-      c.requires.0.indexed.size,
-    )
+  arith,
+  c.requires.1,
+  actions_most c.args.chart.now,
+  c.requires.0.indexed.size,
+)

@@ -6,21 +6,7 @@ use Rattle.meaning.specs.Entry.{by_defaults, defaults}
 use Rattle.tree.proofs.Among.{defaults_way, defaults_on}
 use Rattle.blocks.proofs.Descent.{going_begin, going_skip, going_room, going_room_below, going_on, going_size, going_end}
 use native.Mathlib.Omega.{arith}
-use Prim.Native.Nat.{ℕ}
-use Rattle.blocks.proofs.arms.+put_defaults.Goals.{After-kids_within-kids, After-put_defaults-arg-1, After-put_visit-arg-1, At-loop-d, Start}
 use Rattle.blocks.proofs.arms.+put_defaults.Goals as goal
-
-abbrev start-from-put-visit-arg : (t : ℕ) → After-put_visit-arg-1 t → Start t
-start-from-put-visit-arg t c = (in-loop-from-put-visit-arg c).before.before.before
-
-abbrev at-loop-from-put-defaults-arg : (t : ℕ) → After-put_defaults-arg-1 t → At-loop-d t
-at-loop-from-put-defaults-arg t c = (in-loop-from-put-defaults-arg c).before
-
-abbrev kids-within-from-put-defaults-arg : (t : ℕ) → After-put_defaults-arg-1 t → After-kids_within-kids t
-kids-within-from-put-defaults-arg t c = (at-loop-from-put-defaults-arg t c).before
-
-abbrev start-from-put-defaults-arg : (t : ℕ) → After-put_defaults-arg-1 t → Start t
-start-from-put-defaults-arg t c = (kids-within-from-put-defaults-arg t c).before
 
 pub kids_within-kids-requires : goal.kids_within-kids-requires
 kids_within-kids-requires t c = (c.requires.0.ruled, c.requires.1, defaults_on _ _)
@@ -47,28 +33,28 @@ loop-d-preserved-then-not-is_child t c =
 
 pub put_visit-p-requires : goal.put_visit-p-requires
 put_visit-p-requires t c = (
-  (start-from-put-visit-arg t c).requires.0,
-  (start-from-put-visit-arg t c).requires.1,
+  c.requires.0,
+  c.requires.1,
   omega (
     arith,
-    (in-loop-from-put-visit-arg c).kids_within-kids.ensures.within,
-    (in-loop-from-put-visit-arg c).loop-d-test.true,
+    c.kids_within-kids.ensures.within,
+    c.loop-d-test.true,
   ),
-  going_room _ _ _ _ _ _ _ _ _ _ (in-loop-from-put-visit-arg c).loop-d.invariant
-      (in-loop-from-put-visit-arg c).loop-d-test.true
+  going_room _ _ _ _ _ _ _ _ _ _ c.loop-d.invariant
+      c.loop-d-test.true
       (sym c.is_child.ensures ∙ not-false _ c.if-not-is_child.false-raw)
-      (start-from-put-visit-arg t c).requires.2,
+      c.requires.2,
 )
 
 pub overflow_sub-left : goal.overflow_sub-left
 overflow_sub-left t c =
     omega (
       arith,
-      (in-loop-from-put-visit-arg c.before.before).kids_within-kids.ensures.more
+      c.kids_within-kids.ensures.more
           (omega (
             arith,
-            (in-loop-from-put-visit-arg c.before.before).loop-d-test.true,
-            (in-loop-from-put-visit-arg c.before.before).loop-d.invariant.since,
+            c.loop-d-test.true,
+            c.loop-d.invariant.since,
           )),
     )
 
@@ -76,25 +62,25 @@ pub put_defaults-p-requires : goal.put_defaults-p-requires
 put_defaults-p-requires t c = (
   omega (
     arith,
-    (kids-within-from-put-defaults-arg t c).kids_within-kids.ensures.more
+    c.kids_within-kids.ensures.more
         (omega (
           arith,
-          (in-loop-from-put-defaults-arg c).loop-d-test.true,
-          (at-loop-from-put-defaults-arg t c).loop-d.invariant.since,
+          c.loop-d-test.true,
+          c.loop-d.invariant.since,
         )),
   ),
   (
-    (start-from-put-defaults-arg t c).requires.0,
+    c.requires.0,
     omega (
       arith,
-      (kids-within-from-put-defaults-arg t c).kids_within-kids.ensures.within,
-      (in-loop-from-put-defaults-arg c).loop-d-test.true,
+      c.kids_within-kids.ensures.within,
+      c.loop-d-test.true,
     ),
-    going_room_below _ _ _ _ _ _ _ _ _ _ (at-loop-from-put-defaults-arg t c).loop-d.invariant
-        (in-loop-from-put-defaults-arg c).loop-d-test.true
+    going_room_below _ _ _ _ _ _ _ _ _ _ c.loop-d.invariant
+        c.loop-d-test.true
         (sym c.is_child.ensures ∙ not-false _
         c.if-not-is_child.false-raw) c.put_visit-p.ensures
-        (start-from-put-defaults-arg t c).requires.2,
+        c.requires.2,
   ),
 )
 
@@ -102,18 +88,18 @@ pub overflow_step-d-in-loop-d : goal.overflow_step-d-in-loop-d
 overflow_step-d-in-loop-d t c =
     omega (
       arith,
-      (in-loop-from-plan2 c).loop-d-test.true,
-      (in-loop-from-plan2 c).kids_within-kids.ensures.within,
-      states_most (start-from-put-defaults-arg t c.before.before).args.chart.now,
+      c.loop-d-test.true,
+      c.kids_within-kids.ensures.within,
+      states_most c.args.chart.now,
     )
 
 pub loop-d-smaller : goal.loop-d-smaller
-loop-d-smaller t c = omega (arith, (in-loop-from-plan2 c).loop-d-test.true)
+loop-d-smaller t c = omega (arith, c.loop-d-test.true)
 
 pub loop-d-preserved : goal.loop-d-preserved
 loop-d-preserved t c =
-    going_on _ _ _ _ _ _ _ _ _ _ (in-loop-from-plan2 c).loop-d.invariant
-    (in-loop-from-plan2 c).loop-d-test.true
+    going_on _ _ _ _ _ _ _ _ _ _ c.loop-d.invariant
+    c.loop-d-test.true
     (sym c.is_child.ensures ∙ not-false _
     c.if-not-is_child.false-raw)
     c.put_visit-p.ensures c.put_defaults-p.ensures

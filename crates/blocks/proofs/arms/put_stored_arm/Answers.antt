@@ -21,7 +21,7 @@ loop-d-init c = (
   rising_begin (chart_of c.args.chart.now)
       (sound c.args.chart.now c.requires.0.ruled) c.args.b
       c.requires.1 (stored_code (chart_of c.args.chart.now)) _ _ _
-      c.end_Below.ensures,
+      c.end_below-end.ensures,
 )
 
 pub put_stored-p-requires : goal.put_stored-p-requires
@@ -37,7 +37,7 @@ put_stored-p-requires c = (
         c.requires.1
         (stored_code (chart_of c.args.chart.now))
         c.args.plan.now c.args.at _
-        c.end_Below.ensures,
+        c.end_below-end.ensures,
   ),
   rising_room c.loop-d.invariant.1 c.loop-d-test.true
       c.requires.2,
@@ -52,7 +52,7 @@ overflow_add-d-in-loop-d c =
           (sound c.args.chart.now c.requires.0.ruled)
           c.args.b c.requires.1
           (stored_code (chart_of c.args.chart.now)) c.args.plan.now
-          c.args.at _ c.end_Below.ensures,
+          c.args.at _ c.end_below-end.ensures,
       states_most c.args.chart.now,
     )
 

@@ -11,8 +11,7 @@ pub put_instr-p-requires : goal.put_instr-p-requires
 put_instr-p-requires c =
     let row = c.before in
     let test = row.before in
-    let k = test.before in
-    (
+    let k = test.before in (
       row_small c.args.chart.now c.requires.0.ruled c.loop-i.i
           (omega (arith, c.loop-i-test.true, c.action_count-n.ensures)) _ c.action_row-row.ensures,
       listing_room _ _ _ _ _ _ _ (c.loop-i.invariant c.args.owner c.first_row-i.ensures)

@@ -42,14 +42,14 @@ pub returns-then-not-begins_with : goal.returns-then-not-begins_with
 returns-then-not-begins_with c =
     let a = c.args in
     let w = c.loop-left in
-    fill_gap a.k.instructions w.end w.at w.false a.plan.now (omega arith)
+    fill_gap a.k.instructions w.end w.at w.left a.plan.now (omega arith)
     (refuted c.begins_with.ensures c.if-not-begins_with.true-raw) w.invariant.0
 
 pub returns-then-k-end : goal.returns-then-k-end
 returns-then-k-end c =
     let b = c.before.before.before.before in
     let w = c.loop-left in
-    fill_long c.args.k.instructions w.end w.at w.false c.args.plan.now (omega arith)
+    fill_long c.args.k.instructions w.end w.at w.left c.args.plan.now (omega arith)
     (whole_few c.args.plan.now c.args.k c.requires) w.invariant.1
     (held c.begins_with.ensures c.if-not-begins_with.false-raw)
     c.block_length-n.result c.block_length-n.ensures c.if-k-end.true w.invariant.0
@@ -58,7 +58,7 @@ pub loop-left-preserved : goal.loop-left-preserved
 loop-left-preserved c =
     let b = c.before.before.before.before in
     let w = c.loop-left in (
-      fill_next c.args.k.instructions w.end w.at w.false c.args.plan.now (omega arith)
+      fill_next c.args.k.instructions w.end w.at w.left c.args.plan.now (omega arith)
           (whole_few c.args.plan.now c.args.k c.requires) w.invariant.1
           (held c.begins_with.ensures c.if-not-begins_with.false-raw)
           c.block_length-n.result c.block_length-n.ensures w.invariant.0,
@@ -70,4 +70,4 @@ pub returns : goal.returns
 returns c =
     let a = c.args in
     let w = c.loop-left in
-    fill_done a.k.instructions w.end w.at w.false a.plan.now (omega arith) w.invariant.0
+    fill_done a.k.instructions w.end w.at w.left a.plan.now (omega arith) w.invariant.0

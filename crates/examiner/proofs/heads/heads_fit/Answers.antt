@@ -28,14 +28,14 @@ pub returns-then-not-head_fits : goal.returns-then-not-head_fits
 returns-then-not-head_fits c =
     let a = c.args in
     let w = c.loop-left in
-    each_stop (head_fits a.k) HEAD_ROW w.at w.false a.plan.now (omega arith)
+    each_stop (head_fits a.k) HEAD_ROW w.at w.left a.plan.now (omega arith)
     (refuted c.head_fits.ensures c.if-not-head_fits.true-raw) w.invariant.0
 
 pub loop-left-preserved : goal.loop-left-preserved
 loop-left-preserved c =
     let a = c.args in
     let w = c.loop-left in (
-      each_next (head_fits a.k) HEAD_ROW w.at w.false a.plan.now (omega arith)
+      each_next (head_fits a.k) HEAD_ROW w.at w.left a.plan.now (omega arith)
           (held c.head_fits.ensures c.if-not-head_fits.false-raw) w.invariant.0,
       omega arith,
     )
@@ -44,4 +44,4 @@ pub returns : goal.returns
 returns c =
     let a = c.args in
     let w = c.loop-left in
-    each_done (head_fits a.k) HEAD_ROW w.at w.false a.plan.now (omega arith) w.invariant.0
+    each_done (head_fits a.k) HEAD_ROW w.at w.left a.plan.now (omega arith) w.invariant.0

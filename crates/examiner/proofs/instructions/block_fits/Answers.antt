@@ -15,13 +15,13 @@ pub returns-then-not-instr_fits : goal.returns-then-not-instr_fits
 returns-then-not-instr_fits c =
     let a = c.args in
     let w = c.loop-left in
-    block_stop a.k w.at w.false a.plan.now (omega arith) (refuted c.instr_fits.ensures c.if-not-instr_fits.true-raw) w.invariant.0
+    block_stop a.k w.at w.left a.plan.now (omega arith) (refuted c.instr_fits.ensures c.if-not-instr_fits.true-raw) w.invariant.0
 
 pub loop-left-preserved : goal.loop-left-preserved
 loop-left-preserved c =
     let a = c.args in
     let w = c.loop-left in (
-      block_next a.k w.at w.false a.plan.now (omega arith) (held c.instr_fits.ensures c.if-not-instr_fits.false-raw) w.invariant.0,
+      block_next a.k w.at w.left a.plan.now (omega arith) (held c.instr_fits.ensures c.if-not-instr_fits.false-raw) w.invariant.0,
       omega arith,
       omega arith,
     )
@@ -30,4 +30,4 @@ pub returns : goal.returns
 returns c =
     let a = c.args in
     let w = c.loop-left in
-    block_done a.k w.at w.false a.plan.now (omega arith) w.invariant.0
+    block_done a.k w.at w.left a.plan.now (omega arith) w.invariant.0

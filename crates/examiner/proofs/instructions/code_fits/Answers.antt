@@ -74,7 +74,7 @@ inside : (c : After-block_length-n)
 inside c =
     let a = c.args in
     let w = c.loop-left in
-    filled_within a.k (base-from-length c) w.done w.false w.head
+    filled_within a.k (base-from-length c) w.done w.left w.head
     a.plan.now c.block_length-n.result
     c.block_length-n.ensures (omega arith) a.k.instructions w.invariant.1
 
@@ -109,7 +109,7 @@ returns-then-not-block_fits-2 c =
     let d = c.before.before in
     let a = c.args in
     let w = c.loop-left in
-    blocks_stop a.k (base-from-length d) w.done w.false w.head
+    blocks_stop a.k (base-from-length d) w.done w.left w.head
     a.plan.now c.block_length-n.result
     c.block_length-n.ensures (omega arith) (refuted (block-tried c.before) c.if-not-block_fits-2.true-raw) w.invariant.0
 
@@ -124,9 +124,9 @@ loop-left-preserved c =
     let a = c.args in
     let w = c.loop-left in
     let b = base-from-length d in (
-      blocks_next a.k b w.done w.false w.head a.plan.now c.block_length-n.result c.block_length-n.ensures (omega arith)
+      blocks_next a.k b w.done w.left w.head a.plan.now c.block_length-n.result c.block_length-n.ensures (omega arith)
           (held (block-tried c.before) c.if-not-block_fits-2.false-raw) w.invariant.0,
-      filled_on a.k b w.done w.false w.head a.plan.now c.block_length-n.result c.block_length-n.ensures (omega arith)
+      filled_on a.k b w.done w.left w.head a.plan.now c.block_length-n.result c.block_length-n.ensures (omega arith)
           a.k.instructions w.invariant.1,
       omega arith,
     )
@@ -135,4 +135,4 @@ pub returns : goal.returns
 returns c =
     let a = c.args in
     let w = c.loop-left in
-    blocks_done a.k c.code_at-base.result w.done w.false w.head a.plan.now (omega arith) w.invariant.0
+    blocks_done a.k c.code_at-base.result w.done w.left w.head a.plan.now (omega arith) w.invariant.0

@@ -39,7 +39,7 @@ returns-in-1 c =
     let m = c.before.before.before.before in
     tested m.before 1 a_state unused unused refl c.in-1.is
     c.one_of.ensures c.same.ensures
-    c.same-in-1.ensures c.All-three.ensures
+    c.same-in-1.ensures c.all_three.ensures
 
 pub returns-in-2 : goal.returns-in-2
 unfolding operand_fits

@@ -1,6 +1,7 @@
 -- `vars_keep` tries each variable. Assumes nothing.
 use mathlib.Core.Path.{sym, ap, ◌∙◌}
 use Prim.Native.Nat.{◌<◌, ◌≤◌}
+use mathlib.Core.List.{[]}
 use native.Mathlib.Omega.{arith}
 use Rattle.meaning.specs.WellFormed.{var_keeps, var_rows}
 use Rattle.plan_rows.proofs.Rows.{var_rows_length, var_rows_at, var_there}

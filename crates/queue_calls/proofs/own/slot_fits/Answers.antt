@@ -35,16 +35,15 @@ returns-then-not-is_child c u e =
     (sym (c.is_o.ensures ∙ ap is_o c.kind_of.ensures) ∙ not-false _ c.if-not-is_o.false-raw) (sym c.is_child.ensures ∙ not-true _ c.if-not-is_child.true-raw)
 
 pub leads_on-requires : goal.leads_on-requires
-leads_on-requires c =
-    (
-      c.requires,
-      omega (
-        arith,
-        states_most c.args.chart.now,
-        c.if-state_count-d.false,
-        c.state_count.ensures,
-      ),
-    )
+leads_on-requires c = (
+  c.requires,
+  omega (
+    arith,
+    states_most c.args.chart.now,
+    c.if-state_count-d.false,
+    c.state_count.ensures,
+  ),
+)
 
 pub returns : goal.returns
 returns c u e =

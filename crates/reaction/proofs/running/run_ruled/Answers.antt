@@ -13,17 +13,6 @@ use Rattle.reaction.proofs.RunLaws.{run_7, run_6, run_8, run_ready, run_ends}
 use Rattle.reaction.proofs.running.run_ruled.Goals.{Start}
 use Rattle.reaction.proofs.running.run_ruled.Goals as goal
 
--- the arrays of a state have their full size
-sized_of : (c : Start) → Sized c.args.state
-sized_of c =
-    let g = c.well_formed.1.0.1.1 in
-    record {
-      active = sym (length-map c.args.state.active _) ∙ g.1.0.1.0.1;
-      slots = sym (length-map c.args.state.slots _) ∙ g.1.1.0.1.0.1;
-      vars = sym (length-map c.args.state.vars _) ∙ g.1.1.1.0.1.0.1;
-      items = sym (length-map c.args.state.queue.items _) ∙ g.1.1.1.1.0.1.1.1.0.1.0.1;
-    }
-
 pub returns-then-not-state : goal.returns-then-not-state
 returns-then-not-state c =
     ends_as c.args.trace.now
@@ -46,8 +35,8 @@ returns-then-not-removed c =
 
 pub react-went-requires : goal.react-went-requires
 react-went-requires c =
-    let k = c.before.before.before.before.before.before.before.before.before.before.before.before.before.before.before.before.before.before.before.before.before.before.before.before in (
-      run_ready _ c.requires _ (sized_of k) _ c.remove-removed.ensures
+    let k : Sized c.args.state = record { active = search rules; slots = search rules; vars = search rules; items = search rules } in (
+      run_ready _ c.requires _ k _ c.remove-removed.ensures
           (not-false _ c.if-not-state.false)
           (sym c.own.ensures ∙ not-false _
           c.if-not-own.false-raw) (not-false _ c.if-not-removed.false) _
@@ -60,10 +49,10 @@ finish-requires c = c.react-went.ensures.fits
 
 pub returns : goal.returns
 returns c =
-    let k = c.before.before.before.before.before.before.before.before.before.before.before.before.before.before.before.before.before.before.before.before.before.before.before.before.before.before.before.before.before in
+    let k : Sized c.args.state = record { active = search rules; slots = search rules; vars = search rules; items = search rules } in
     let fe : SFits w32 c.remove-removed.result.front.event = search rules in
     let fa : SFits w32 c.remove-removed.result.front.arg = search rules in
-    run_ends _ c.requires _ (sized_of k) _ c.remove-removed.ensures
+    run_ends _ c.requires _ k _ c.remove-removed.ensures
     (not-false _ c.if-not-state.false)
     (sym c.own.ensures ∙ not-false _
     c.if-not-own.false-raw)

@@ -4,8 +4,7 @@ use Rattle.reaction.proofs.starting.start_ruled.Goals as goal
 
 pub begin-went-requires : goal.begin-went-requires
 begin-went-requires c =
-    let made = c.before.before.before.before.before.before in
-    (
+    let made = c.before.before.before.before.before.before in (
       rw (c.first_values-vars.ensures, c.lend-queue.ensures, c.empty.ensures)
           (fresh_ready _ c.requires _),
       c.index_of-index.ensures,

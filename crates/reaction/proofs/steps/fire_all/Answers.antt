@@ -10,47 +10,27 @@ use Rattle.choice.specs.Choice.{TOPS_AT, ENDS_AT}
 use Rattle.reaction.proofs.Going.{ready_led}
 use Rattle.reaction.proofs.Firing.{firing_begin, firing_end, firing_stop, firing_on, fires_long, fires_at, fires_named}
 use Rattle.reaction.proofs.Firing.{carried_inside}
-use Rattle.reaction.proofs.steps.fire_all.Goals.{After-fire-arg-in-loop-j-4-1, Else-went-ne0, In-loop-j, Start, Then-went-ne0}
 use Rattle.reaction.proofs.steps.fire_all.Goals as goal
-
-abbrev in-loop-from-fire-arg5 : After-fire-arg-in-loop-j-4-1 → In-loop-j
-in-loop-from-fire-arg5 c = c.before.before.before.before.before.before.before.before
-
-abbrev in-loop-from-else1 : Else-went-ne0 → In-loop-j
-in-loop-from-else1 c = in-loop-from-fire-arg5 c.before.before.before.before
-
-abbrev in-loop-from-then1 : Then-went-ne0 → In-loop-j
-in-loop-from-then1 c = in-loop-from-fire-arg5 c.before.before.before.before
-
-abbrev start-from-then1 : Then-went-ne0 → Start
-start-from-then1 c = (in-loop-from-then1 c).before.before
 
 pub loop-j-init : goal.loop-j-init
 loop-j-init c = (firing_begin c.requires.0, omega arith)
 
--- the place of the j-th pick
-few : (c : In-loop-j) → c.loop-j.j < TRANSITIONS
-few c = omega (arith, c.requires.1.few, c.loop-j-test.true)
-
--- what stands there
-named : (c : In-loop-j)
-    → get_or c.args.picks.now c.loop-j.j 0 < length
-    (chart_of c.args.chart.now).transitions
-named c = fires_named _ _ _ c.requires.1 _ c.loop-j-test.true
-
-inside : (c : In-loop-j)
-    → (get_or c.args.picks.now (TOPS_AT + c.loop-j.j) 0 < STATES)
-    × (get_or c.args.picks.now (ENDS_AT + c.loop-j.j) 0 ≤ STATES)
-inside c = carried_inside _ c.requires.0.ruled _ (named c) (c.requires.1.carried _ c.loop-j-test.true)
-
 pub overflow_cast-t : goal.overflow_cast-t
-overflow_cast-t c = omega (arith, named c.before, transitions_most c.args.chart.now)
+overflow_cast-t c = omega (arith, fires_named _ _ _ c.requires.1 _ c.loop-j-test.true, transitions_most c.args.chart.now)
 
 pub overflow_cast-top : goal.overflow_cast-top
-overflow_cast-top c = omega (arith, (inside c.before.before).0)
+overflow_cast-top c = omega (
+  arith,
+  (carried_inside _ c.requires.0.ruled _ (fires_named _ _ _ c.requires.1 _ c.loop-j-test.true)
+      (c.requires.1.carried _ c.loop-j-test.true)).0,
+)
 
 pub overflow_cast-end : goal.overflow_cast-end
-overflow_cast-end c = omega (arith, (inside c.before.before.before).1)
+overflow_cast-end c = omega (
+  arith,
+  (carried_inside _ c.requires.0.ruled _ (fires_named _ _ _ c.requires.1 _ c.loop-j-test.true)
+      (c.requires.1.carried _ c.loop-j-test.true)).1,
+)
 
 pub fire-went-requires : goal.fire-went-requires
 fire-went-requires c =
@@ -66,17 +46,17 @@ fire-went-requires c =
 
 pub returns-then-went-ne0 : goal.returns-then-went-ne0
 returns-then-went-ne0 c =
-    let f = (start-from-then1 c).requires.1 in
-    let l = (in-loop-from-then1 c).loop-j-test.true in
-    rw (to_z-of_z (start-from-then1 c).ranges.arg) at
-    (firing_stop (in-loop-from-then1 c).loop-j.invariant.0 _ (omega (arith, fires_long _ _ _ f, l))
+    let f = c.requires.1 in
+    let l = c.loop-j-test.true in
+    rw (to_z-of_z c.ranges.arg) at
+    (firing_stop c.loop-j.invariant.0 _ (omega (arith, fires_long _ _ _ f, l))
     (fires_at _ _ _ f _ l) c.fire-went.ensures c.if-went-ne0.true)
 
 pub loop-j-preserved : goal.loop-j-preserved
 loop-j-preserved c =
-    let f = (in-loop-from-else1 c).requires.1 in
-    let l = (in-loop-from-else1 c).loop-j-test.true in (
-      firing_on (in-loop-from-else1 c).loop-j.invariant.0 _ (omega (arith, fires_long _ _ _ f, l))
+    let f = c.requires.1 in
+    let l = c.loop-j-test.true in (
+      firing_on c.loop-j.invariant.0 _ (omega (arith, fires_long _ _ _ f, l))
           (fires_at _ _ _ f _ l) c.fire-went.ensures (fires_named _ _ _ f _ l)
           c.if-went-ne0.false,
       omega arith,
@@ -89,25 +69,25 @@ returns c =
     (omega (arith, fires_long _ _ _ c.requires.1, c.loop-j-test.false)))
 
 pub offset_bounds-picks-j : goal.offset_bounds-picks-j
-offset_bounds-picks-j c = omega (arith, few c)
+offset_bounds-picks-j c = omega (arith, c.requires.1.few, c.loop-j-test.true)
 
 pub bounds-picks-j : goal.bounds-picks-j
-bounds-picks-j c = omega (arith, few c)
+bounds-picks-j c = omega (arith, c.requires.1.few, c.loop-j-test.true)
 
 pub overflow_add-top : goal.overflow_add-top
-overflow_add-top c = omega (arith, few c.before)
+overflow_add-top c = omega (arith, c.requires.1.few, c.loop-j-test.true)
 
 pub offset_bounds-picks-j-in-loop-j : goal.offset_bounds-picks-j-in-loop-j
-offset_bounds-picks-j-in-loop-j c = omega (arith, few c.before)
+offset_bounds-picks-j-in-loop-j c = omega (arith, c.requires.1.few, c.loop-j-test.true)
 
 pub bounds-picks-j-in-loop-j : goal.bounds-picks-j-in-loop-j
-bounds-picks-j-in-loop-j c = omega (arith, few c.before)
+bounds-picks-j-in-loop-j c = omega (arith, c.requires.1.few, c.loop-j-test.true)
 
 pub overflow_add-end : goal.overflow_add-end
-overflow_add-end c = omega (arith, few c.before.before)
+overflow_add-end c = omega (arith, c.requires.1.few, c.loop-j-test.true)
 
 pub offset_bounds-picks-j-in-loop-j-2 : goal.offset_bounds-picks-j-in-loop-j-2
-offset_bounds-picks-j-in-loop-j-2 c = omega (arith, few c.before.before)
+offset_bounds-picks-j-in-loop-j-2 c = omega (arith, c.requires.1.few, c.loop-j-test.true)
 
 pub bounds-picks-j-in-loop-j-2 : goal.bounds-picks-j-in-loop-j-2
-bounds-picks-j-in-loop-j-2 c = omega (arith, few c.before.before)
+bounds-picks-j-in-loop-j-2 c = omega (arith, c.requires.1.few, c.loop-j-test.true)

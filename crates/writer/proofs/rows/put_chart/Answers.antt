@@ -8,8 +8,7 @@ use Rattle.writer.proofs.rows.put_chart.Goals as goal
 
 pub loop-i-preserved : goal.loop-i-preserved
 loop-i-preserved c =
-    let d = c.before.before.before.before in
-    (
+    let d = c.before.before.before.before in (
       kind_more (rows_of c.args.chart.now) _ _ _ _ c.loop-i-test.true c.letter.ensures
           c.put_rows-p.ensures
           ∙ c.loop-i.invariant.0,
