@@ -23,15 +23,13 @@ sized_of c =
 pub returns-then-events-lt-EVENT : goal.returns-then-events-lt-EVENT
 returns-then-events-lt-EVENT c =
     let a = c.args in
-    told_as (replay_none a.plan.now a.state (length a.trace-1.now) a.events.now c.if-events-lt-EVENT.true) refl
+    told_as (replay_none a.plan.now a.state (length a.trace.now) a.events.now c.if-events-lt-EVENT.true) refl
     c.stopped.ensures
 
 pub returns-then-verdict-ne0 : goal.returns-then-verdict-ne0
 returns-then-verdict-ne0 c =
-    let e = c.before.before.before.before.before in
-    let s = e.before.before in
     let a = c.args in
-    told_as (replay_5 a.plan.now a.state (length a.trace-1.now) (sized_of s) a.events.now (omega (arith, c.if-events-lt-EVENT.false))
+    told_as (replay_5 a.plan.now a.state (length a.trace.now) (sized_of (goal.at.returns-then-verdict-ne0 c).Start) a.events.now (omega (arith, c.if-events-lt-EVENT.false))
     (failed a.plan.now c.examine-verdict.ensures c.if-verdict-ne0.true)) refl c.stopped-then-verdict-ne0.ensures
 
 pub replay_planned-requires : goal.replay_planned-requires

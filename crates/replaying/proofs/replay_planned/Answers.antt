@@ -22,7 +22,7 @@ sized_of c =
 pub returns-then-events-lt-EVENT : goal.returns-then-events-lt-EVENT
 returns-then-events-lt-EVENT c =
     let a = c.args in
-    told_as (replay_none a.plan.now a.state (length a.trace-1.now) a.events.now c.if-events-lt-EVENT.true) refl
+    told_as (replay_none a.plan.now a.state (length a.trace.now) a.events.now c.if-events-lt-EVENT.true) refl
     c.stopped.ensures
 
 pub replay_examined-requires : goal.replay_examined-requires
@@ -30,8 +30,6 @@ replay_examined-requires c = record { formed = c.requires; counted = c.counts.en
 
 pub returns : goal.returns
 returns c =
-    let e = c.before.before.before.before in
-    let s = e.before in
     let a = c.args in
-    told_as (replay_is a.plan.now a.state (length a.trace-1.now) (sized_of s) a.events.now (omega (arith, c.if-events-lt-EVENT.false))
+    told_as (replay_is a.plan.now a.state (length a.trace.now) (sized_of (goal.at.returns c).Start) a.events.now (omega (arith, c.if-events-lt-EVENT.false))
     c.requires) refl c.replay_examined.ensures

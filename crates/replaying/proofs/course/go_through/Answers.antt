@@ -52,15 +52,15 @@ post_and_run-now-requires c =
 
 pub returns-then-now-ne0 : goal.returns-then-now-ne0
 returns-then-now-ne0 c =
-    let q = c.before.before.before in
+    let q = (goal.at.returns-then-now-ne0 c).After-post_and_run-now in
     let a = c.args in
     coursing_stop (well a.plan.now c.requires.0.formed) c.loop-done.invariant.0 (next-there q) (next_is q)
     c.post_and_run-now.ensures.0 c.if-now-ne0.true
-    (all_lent a.active.now a.slots.now a.vars.now a.queue.now a.trace-1.now) refl refl
+    (all_lent a.active.now a.slots.now a.vars.now a.queue.now a.trace.now) refl refl
 
 pub loop-done-preserved : goal.loop-done-preserved
 loop-done-preserved c =
-    let q = c.before.before.before in
+    let q = (goal.at.loop-done-preserved c).After-post_and_run-now in
     (
       coursing_more (well c.args.plan.now c.requires.0.formed) c.loop-done.invariant.0 (next-there q)
           (next_is q) c.post_and_run-now.ensures.0 c.if-now-ne0.false,
@@ -73,7 +73,7 @@ returns c =
     let a = c.args in
     let n = so_many a.events.now a.count c.requires.1 in
     coursing_end (well a.plan.now c.requires.0.formed) c.loop-done.invariant.0
-    (all_lent a.active.now a.slots.now a.vars.now a.queue.now a.trace-1.now) refl refl
+    (all_lent a.active.now a.slots.now a.vars.now a.queue.now a.trace.now) refl refl
     (omega (arith, n, c.loop-done-test.false))
 
 pub overflow_mul-event : goal.overflow_mul-event

@@ -26,14 +26,12 @@ returns-then-len-eq0 c =
 
 pub returns : goal.returns
 returns c =
-    let r = c.before.before.before.before.before.before.before.before.before.before.before.before in
-    let s = r.before.before in
-    let e : c.append-queued.result ≡ appended c.held-waiting.result s.args.event s.args.arg =
-    rw (to_z-of_z s.fits.event, to_z-of_z s.fits.arg) at c.append-queued.ensures in
-    pass_on s.args.queue.now s.pre.0 _
-    (c.reference-len.ensures ∙ ap ref (back32 (get_or s.args.queue.now 0 (pos 0)) c.reference-arg-1.given))
-    s.args.event s.args.arg c.if-len-ge-QUEUE.false _
+    let e : c.append-queued.result ≡ appended c.held-waiting.result c.args.event c.args.arg =
+    rw (to_z-of_z c.fits.event, to_z-of_z c.fits.arg) at c.append-queued.ensures in
+    pass_on c.args.queue.now c.pre.0 _
+    (c.reference-len.ensures ∙ ap ref (back32 (get_or c.args.queue.now 0 (pos 0)) c.reference-arg-1.given))
+    c.args.event c.args.arg c.if-len-ge-QUEUE.false _
     c.remove-removed.result
     (c.remove-removed.ensures ∙ ap (λ (q : Queued). removed q.queue) e
-    ∙ ap (λ q. removed (appended q s.args.event s.args.arg).queue) c.held-waiting.ensures)
+    ∙ ap (λ q. removed (appended q c.args.event c.args.arg).queue) c.held-waiting.ensures)
     (c.put_back.ensures ∙ c.lend.ensures)
