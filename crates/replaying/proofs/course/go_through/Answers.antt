@@ -60,8 +60,7 @@ returns-then-now-ne0 c =
 
 pub loop-done-preserved : goal.loop-done-preserved
 loop-done-preserved c =
-    let q = (goal.at.loop-done-preserved c).After-post_and_run-now in
-    (
+    let q = (goal.at.loop-done-preserved c).After-post_and_run-now in (
       coursing_more (well c.args.plan.now c.requires.0.formed) c.loop-done.invariant.0 (next-there q)
           (next_is q) c.post_and_run-now.ensures.0 c.if-now-ne0.false,
       c.post_and_run-now.ensures.1,

@@ -27,8 +27,8 @@ returns-then-len-eq0 c =
 pub returns : goal.returns
 returns c =
     let e : c.append-queued.result ≡ appended c.held-waiting.result c.args.event c.args.arg =
-    rw (to_z-of_z c.fits.event, to_z-of_z c.fits.arg) at c.append-queued.ensures in
-    pass_on c.args.queue.now c.pre.0 _
+    rw (to_z-of_z c.ranges.event, to_z-of_z c.ranges.arg) at c.append-queued.ensures in
+    pass_on c.args.queue.now c.requires.0 _
     (c.reference-len.ensures ∙ ap ref (back32 (get_or c.args.queue.now 0 (pos 0)) c.reference-arg-1.given))
     c.args.event c.args.arg c.if-len-ge-QUEUE.false _
     c.remove-removed.result
