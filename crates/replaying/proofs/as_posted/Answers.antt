@@ -31,8 +31,8 @@ pub returns : goal.returns
 returns c =
     broken_told c.requires.1 (sized_of (goal.at.returns c).Start) c.lend-waiting.ensures c.args.trace.now
     c.requires.2 c.go_through.ensures
-    (event_here c.args.events.now c.args.done _ _ c.requires.2.within (back32 _ c.event-1.given)
-    (back32 _ c.arg-1.given))
+    (event_here c.args.events.now c.args.done _ _ c.requires.2.within (back32 _ (search rules))
+    (back32 _ (search rules)))
     _ (c.append.ensures.2 c.go_through.ensures.whole) c.told.ensures
 
 pub overflow_mul-event : goal.overflow_mul-event
