@@ -1,9 +1,9 @@
 -- `as_posted` does the events before the refused run once more, and posts its event. Assumes nothing.
-use mathlib.Core.Path.{sym, ◌∙◌}
 use Prim.Native.Nat.{◌+◌, ◌*◌, ◌<◌}
 use native.Mathlib.Omega.{arith}
-use lib.ListN.{length, length-map}
+use lib.ListN.{length}
 use Rattle.numbers.proofs.Laws.{back32}
+use borrow.Author.Rules.{rules}
 use Rattle.invariants.specs.Good.{Sized}
 use Rattle.replaying.proofs.Events.{event_here, places_few}
 use Rattle.replaying.proofs.Telling.{broken_told, owned_lent}
@@ -12,14 +12,7 @@ use Rattle.replaying.proofs.as_posted.Goals as goal
 
 -- the arrays of a state have their full size
 sized_of : (c : Start) → Sized c.args.state
-sized_of c =
-    let g = c.well_formed.1.1.1.0.1.1 in
-    record {
-      active = sym (length-map c.args.state.active _) ∙ g.1.0.1.0.1;
-      slots = sym (length-map c.args.state.slots _) ∙ g.1.1.0.1.0.1;
-      vars = sym (length-map c.args.state.vars _) ∙ g.1.1.1.0.1.0.1;
-      items = sym (length-map c.args.state.queue.items _) ∙ g.1.1.1.1.0.1.1.1.0.1.0.1;
-    }
+sized_of c = record { active = search rules; slots = search rules; vars = search rules; items = search rules }
 
 -- the event whose run was refused is there
 there : (c : Start) → 2 * c.args.done + 1 < length c.args.events.now
@@ -27,8 +20,7 @@ there c = let h = places_few c.args.events.now in omega (arith, h, c.requires.2.
 
 pub go_through-requires : goal.go_through-requires
 go_through-requires c =
-    let s = (goal.at.go_through-requires c).Start in
-    (
+    let s = (goal.at.go_through-requires c).Start in (
       c.requires.0,
       omega (arith, there s),
       owned_lent c.requires.1 (sized_of s) c.lend-waiting.ensures c.args.trace.now,
@@ -39,8 +31,8 @@ pub returns : goal.returns
 returns c =
     broken_told c.requires.1 (sized_of (goal.at.returns c).Start) c.lend-waiting.ensures c.args.trace.now
     c.requires.2 c.go_through.ensures
-    (event_here c.args.events.now c.args.done _ _ c.requires.2.within (back32 _ c.event-1.given)
-    (back32 _ c.arg-1.given))
+    (event_here c.args.events.now c.args.done _ _ c.requires.2.within (back32 _ (search rules))
+    (back32 _ (search rules)))
     _ (c.append.ensures.2 c.go_through.ensures.whole) c.told.ensures
 
 pub overflow_mul-event : goal.overflow_mul-event

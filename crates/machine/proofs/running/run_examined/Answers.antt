@@ -18,10 +18,10 @@ use Rattle.machine.proofs.running.run_examined.Goals as goal
 
 -- the arrays of a state have their full size
 slots_long : (c : Start) → length c.args.state.slots ≡ STATES
-slots_long c = c.well_formed.1.1.0.1.1.1.1.0.1.0.1
+slots_long c = search rules
 
 items_long : (c : Start) → length c.args.state.queue.items ≡ QUEUE
-items_long c = c.well_formed.1.1.0.1.1.1.1.1.1.0.1.1.1.0.1.0.1
+items_long c = search rules
 
 pub returns-then-not-state : goal.returns-then-not-state
 returns-then-not-state c =
@@ -35,7 +35,7 @@ returns-then-not-own c =
     let a = c.args in
     ends_as a.trace.now
     (run_6 (plan_by a.plan.now) a.state _ (not-false _ c.if-not-state.false)
-    (sym c.own.ensures ∙ not-true _ c.if-not-own.true-raw))
+    (sym c.own.ensures ∙ c.if-not-own.true))
     c.refuse-then-not-own.ensures
 
 pub returns-then-not-removed : goal.returns-then-not-removed
@@ -43,8 +43,7 @@ returns-then-not-removed c =
     let a = c.args in
     ends_as a.trace.now (run_8 (plan_by a.plan.now) a.state _
     (not-false _ c.if-not-state.false)
-    (sym c.own.ensures ∙ not-false _
-    c.if-not-own.false-raw) _ c.remove-removed.ensures
+    (sym c.own.ensures ∙ c.if-not-own.false) _ c.remove-removed.ensures
     (not-true _ c.if-not-removed.true)) c.refuse-then-not-removed.ensures
 
 pub step-first-requires : goal.step-first-requires
@@ -58,8 +57,7 @@ step-first-requires c = (
 
 pub settled-went-requires : goal.settled-went-requires
 settled-went-requires c =
-    let d = c.step-first.ensures in
-    (
+    let d = c.step-first.ensures in (
       c.requires,
       d.1,
       λ z. d.0.slotted z ∙ slots_long (goal.at.settled-went-requires c).Start,
@@ -80,7 +78,7 @@ returns c =
     let fa : SFits w32 c.remove-removed.result.front.arg = search rules in
     run_ends (plan_by a.plan.now) a.state (items_long (goal.at.returns c).Start) _ c.remove-removed.ensures
     (not-false _ c.if-not-state.false)
-    (sym c.own.ensures ∙ not-false _ c.if-not-own.false-raw)
+    (sym c.own.ensures ∙ c.if-not-own.false)
     (not-false _ c.if-not-removed.false) _
     c.lend-waiting.ensures a.trace.now _ _
     (c.reference-event.ensures ∙ ap ref (to_z-of_z fe)) (to_z-of_z fa)

@@ -29,7 +29,7 @@ returns-then-not-event_fits c =
       turned_10 (plan_by a.plan.now) (item a.event a.arg)
           (all_lent a.active.now a.slots.now a.vars.now a.queue.now a.trace.now)
           c.if-not-active.false (events_is c.requires.0)
-          (sym (rw (to_z-of_z c.ranges.event, to_z-of_z c.ranges.arg) at c.event_fits.ensures) ∙ not-true _ c.if-not-event_fits.true-raw),
+          (sym (rw (to_z-of_z c.ranges.event, to_z-of_z c.ranges.arg) at c.event_fits.ensures) ∙ c.if-not-event_fits.true),
       c.requires.1,
     )
 
@@ -40,7 +40,7 @@ returns-then-not-passed c =
           (all_lent a.active.now a.slots.now a.vars.now a.queue.now a.trace.now)
           c.if-not-active.false (events_is c.requires.0)
           (sym (rw (to_z-of_z c.ranges.event, to_z-of_z c.ranges.arg) at c.event_fits.ensures)
-          ∙ not-false _ c.if-not-event_fits.false-raw)
+          ∙ c.if-not-event_fits.false)
           (rw (to_z-of_z c.ranges.event, to_z-of_z c.ranges.arg) at c.pass-passed.ensures) (not-true _ c.if-not-passed.true),
       c.requires.1,
     )
@@ -70,7 +70,7 @@ returns c =
           (all_lent a.active.now a.slots.now a.vars.now a.queue.now a.trace.now)
           c.if-not-active.false (events_is c.requires.0)
           (sym (rw (to_z-of_z c.ranges.event, to_z-of_z c.ranges.arg) at c.event_fits.ensures)
-          ∙ not-false _ c.if-not-event_fits.false-raw)
+          ∙ c.if-not-event_fits.false)
           (rw (to_z-of_z c.ranges.event, to_z-of_z c.ranges.arg) at c.pass-passed.ensures) (not-false _ c.if-not-passed.false) c.requires.3
           (c.reference-trigger.ensures ∙ ap ref (to_z-of_z (event-fits-32 q)))
           (to_z-of_z (arg-fits-32 q)) (c.settled-went.ensures.0 _ _ c.step-first.ensures.0),
