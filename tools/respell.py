@@ -5,7 +5,7 @@ usage: python3 tools/respell.py            at the top of the repository, once, a
 
     kind-of -> kind_of, eqZ -> eq_z, Kids-left -> KidsLeft, LEAST-STATES -> LEAST_STATES
 
-It turns the names that specs/ and the lemma files of proofs/ declare (with the fields of their records and the constructors of their data), and the names of
+It turns the names that specs/ and the lemma files of proofs/ declare (with the fields of their records, the constructors of their data and the names that they are imported by), and the names of
 the Rust sources that proofs write with dashes (a Rust name keeps its own spelling today). It goes over each .antt file, over the clauses and imports of each
 .rt file, and over what the must-fail edits write of these. A name that a file imports from a library stays in that file. Names that fall together are
 printed, as are names that stay. A second run changes nothing.
@@ -19,7 +19,9 @@ import sys
 W = r'[^\s(){}.;,@"«»]+'
 TOKEN = re.compile(r'"(?:[^"\\\n]|\\.)*"|(?<![^\s(){}.;,@"«»])--[^\n]*|' + W)
 DECL = re.compile(r'(?m)^(?:(?:abbrev|pub|unfoldable|data|record|ruleset)\s+)*(' + W + r')(?:\s*\{[^{}\n]*\}|\s*\([^()\n]*\))* :')
+SECTION = re.compile(r'(?m)^ +(?:(?:abbrev|pub|unfoldable) )*(' + W + r')(?: \{[^{}\n]*\}| \([^()\n]*\))* :')
 MEMBER = re.compile(r'(?m)^  (?:pub )?(' + W + r'(?: ' + W + r')*) :')
+ALIAS = re.compile(r'(?<=[\s]as )([a-z]' + W + r')(?=[,}])')
 USE = re.compile(r'\buse\s+([^\s;{]+?)\.?(?:\{([^}]*)\})?(?:\s+as\s+\S+)?\s*(?=;|\n|$)')
 
 
@@ -62,10 +64,18 @@ def declared():
             continue
         for m in DECL.finditer(code):
             names[m[1]].add(p)
+        for m in SECTION.finditer(code):
+            names[m[1]].add(p)
+        for it in ALIAS.findall(code):
+            names[it].add(p)
         for block in re.finditer(r"(?m)^(?:pub )?(?:record|data) [^\n]*\bwhere\n((?:  [^\n]*\n|\n)+)", code):
             for m in MEMBER.finditer(block[1]):
                 for it in m[1].split():
                     names[it].add(p)
+    for p in glob.glob("crates/*/src/**/*.rt", recursive=True):
+        for line in re.findall(r"ghost use [^;]*;", read(p)):
+            for it in ALIAS.findall(line):
+                names[it].add(p)
     return names
 
 

@@ -10,13 +10,13 @@ use lib.Seq.{drop-cons}
 use lib.IntN.{ℤ}
 use Rattle.sizes.specs.Sizes.{VARIABLES, EVENTS}
 use Rattle.laws.proofs.Rules.{ActFacts}
-use Rattle.laws.proofs.Value.{sized-chart}
-use Rattle.chart_rows.proofs.Rows.{vars-most}
+use Rattle.laws.proofs.Value.{sized_chart}
+use Rattle.chart_rows.proofs.Rows.{vars_most}
 use Rattle.meaning.specs.Chart.{Chart, no_action}
 use Rattle.meaning.specs.Steps.{Step, each}
 use Rattle.meaning.specs.Widget.{Ctx}
 use Rattle.meaning.specs.declared.chart.Act.{Act}
-use Rattle.meaning.specs.declared.chart.Act.TheVariants.{SetTo as set_to, AddTo as add_to, TakeTo as take-to, Send as send, Tell as tell}
+use Rattle.meaning.specs.declared.chart.Act.TheVariants.{SetTo as set_to, AddTo as add_to, TakeTo as take_to, Send as send, Tell as tell}
 use Rattle.meaning.specs.declared.chart.ActRow.{ActRow}
 use Rattle.meaning.specs.declared.chart.Owner.{Owner}
 use Rattle.meaning.specs.declared.chart.VarRow.{VarRow}
@@ -26,41 +26,41 @@ use Rattle.meaning.specs.Value.{chart_of}
 use Rattle.widget.specs.declared.Went.{Went}
 use Rattle.widget.specs.View.{Lent, with_vars, with_queue, with_trace, Within, Did, Owes}
 use Rattle.widget.specs.Acts.{Named}
-use Rattle.widget.proofs.Going.{owes-all}
-use Rattle.widget.proofs.Loops.{each_none, each_next, each-ends}
+use Rattle.widget.proofs.Going.{owes_all}
+use Rattle.widget.proofs.Loops.{each_none, each_next, each_ends}
 use Rattle.meaning.specs.Rules.{Ruled}
 use Rattle.tree.proofs.Passing.{sound, rules_passed}
 use Rattle.acts.specs.Index.{before_first, row_from}
-use Rattle.acts.proofs.Finding.{owner_one, first-own, first_from, acts-onward, later-from}
+use Rattle.acts.proofs.Finding.{owner_one, first_own, first_from, acts_onward, later_from}
 
 -- ---- an owner's acts, row by row
 
 module _ (rows : List ActRow) (o : Owner) (i : ℕ) where
-  acts-take : i < length rows → same_owner o (get_or rows i no_action).owner ≡ true
+  acts_take : i < length rows → same_owner o (get_or rows i no_action).owner ≡ true
       → acts_in (drop i rows) o ≡ (get_or rows i no_action).act ∷ acts_in (drop (suc i) rows) o
   unfolding acts_in
-  acts-take h e = rw (drop-cons rows i no_action h, e)
+  acts_take h e = rw (drop-cons rows i no_action h, e)
 
-  acts-end : length rows ≤ i → acts_in (drop i rows) o ≡ []
+  acts_end : length rows ≤ i → acts_in (drop i rows) o ≡ []
   unfolding acts_in
-  acts-end h = rw (drop_of_length-le rows h)
+  acts_end h = rw (drop_of_length-le rows h)
 
 -- ---- R7: what an act names is there
 
 pub events_most : (v : List ℤ) → Ruled v → (chart_of v).events ≤ EVENTS
-events_most v r = (sized-chart v (rules_passed v r).0).events
+events_most v r = (sized_chart v (rules_passed v r).0).events
 
 named : (c : Chart) → length c.vars ≤ VARIABLES → c.events ≤ EVENTS → (x : Act) → ActFacts c x → Named x
 named c m n (set_to v x) f = omega (arith, f.0)
 named c m n (add_to v x) f = omega arith
-named c m n (take-to v) f = omega arith
+named c m n (take_to v) f = omega arith
 named c m n (send e x) f = omega (arith, f.1)
 named c m n (tell x) f = tt
 
 pub row_named : (v : List ℤ) → Ruled v → (i : ℕ) → i < length (chart_of v).actions → (row : ActRow)
     → row ≡ get_or (chart_of v).actions i no_action → Named row.act
 row_named v r i h row e = subst
-    (λ x. Named x.act) (sym e) (named (chart_of v) (vars-most v) (events_most v r) (get_or (chart_of v).actions i no_action).act
+    (λ x. Named x.act) (sym e) (named (chart_of v) (vars_most v) (events_most v r) (get_or (chart_of v).actions i no_action).act
     ((sound v r).acts i h))
 
 -- ---- the loop over the rows
@@ -86,10 +86,10 @@ abbrev Does : Step Ctx → List ℤ → List ℤ → List ℤ → ℕ → Went �
 Does D vars q t at r vars₁ q₁ t₁ = Within t r t₁ × ((k : Lent) → Did D (acts_lent vars q t k) at r (acts_lent vars₁ q₁ t₁ k))
 
 module _ {v : List ℤ} {arg : ℤ} {o : Owner} {vars q t : List ℤ} {at : ℕ} where
-  pub acting-begin : (i : ℕ) → i ≡ row_from (chart_of v) o 0 → at ≤ length t
+  pub acting_begin : (i : ℕ) → i ≡ row_from (chart_of v) o 0 → at ≤ length t
       → Acting v arg o vars q t at i vars q t (record { number = 0; at = at })
   unfolding acts_from perform_all acts_of
-  acting-begin i e h = record {
+  acting_begin i e h = record {
     going = refl;
     fits = h;
     kept = refl;
@@ -97,7 +97,7 @@ module _ {v : List ℤ} {arg : ℤ} {o : Owner} {vars q t : List ℤ} {at : ℕ}
     owes = λ k.
         subst (λ xs. Owes (perform_all (chart_of v) arg o) (acts_lent vars q t k) at (each (perform (chart_of v).vars arg) xs)
         (acts_lent vars q t k) at)
-        (sym (ap (λ n. acts_in (drop n (chart_of v).actions) o) e ∙ acts-onward o (chart_of v) 0)) (owes-all h);
+        (sym (ap (λ n. acts_in (drop n (chart_of v).actions) o) e ∙ acts_onward o (chart_of v) 0)) (owes_all h);
   }
 
   module _ {i : ℕ} {vars₁ q₁ t₁ : List ℤ} {w : Went} (h : Acting v arg o vars q t at i vars₁ q₁ t₁ w) where
@@ -108,10 +108,10 @@ module _ {v : List ℤ} {arg : ℤ} {o : Owner} {vars q t : List ℤ} {at : ℕ}
     ended l n e k =
         subst (λ m. Did (perform_all (chart_of v) arg o) (acts_lent vars q t k) at (record { number = m; at = w.at })
         (acts_lent vars₁ q₁ t₁ k)) (sym e)
-        (each_none (perform (chart_of v).vars arg) (rw (acts-end (chart_of v).actions o i l) at (h.owes k)))
+        (each_none (perform (chart_of v).vars arg) (rw (acts_end (chart_of v).actions o i l) at (h.owes k)))
 
-    pub acting-end : length (chart_of v).actions ≤ i → Does (perform_all (chart_of v) arg o) vars q t at w vars₁ q₁ t₁
-    acting-end l = (record { fits = h.fits; kept = h.kept }, ended l w.number h.going)
+    pub acting_end : length (chart_of v).actions ≤ i → Does (perform_all (chart_of v) arg o) vars q t at w vars₁ q₁ t₁
+    acting_end l = (record { fits = h.fits; kept = h.kept }, ended l w.number h.going)
 
     module _ {row : ActRow} (l : i < length (chart_of v).actions) (e : row ≡ get_or (chart_of v).actions i no_action) where
       -- the acts still to be done, in other words
@@ -126,7 +126,7 @@ module _ {v : List ℤ} {arg : ℤ} {o : Owner} {vars q t : List ℤ} {at : ℕ}
 
       -- the row is the owner's
       its : same_owner o row.owner ≡ true
-      its = first-own o row (drop (suc i) (chart_of v).actions)
+      its = first_own o row (drop (suc i) (chart_of v).actions)
           (ap (λ r. before_first o (r ∷ drop (suc i) (chart_of v).actions)) e
           ∙ ap (before_first o) (sym (drop-cons (chart_of v).actions i no_action l)) ∙ h.own)
 
@@ -135,8 +135,8 @@ module _ {v : List ℤ} {arg : ℤ} {o : Owner} {vars q t : List ℤ} {at : ℕ}
           → i₂ ≡ row_from (chart_of v) o (suc i)
       onward i₂ f = f ∙ ap (λ x. row_from (chart_of v) x (suc i)) (ap (λ r. r.owner) (sym e) ∙ sym (owner_one o row.owner its))
 
-      pub acting-later : (i₂ : ℕ) → i₂ ≡ row_from (chart_of v) (get_or (chart_of v).actions i no_action).owner (suc i) → i < i₂
-      acting-later i₂ f = omega (arith, later-from (get_or (chart_of v).actions i no_action).owner (chart_of v) (suc i))
+      pub acting_later : (i₂ : ℕ) → i₂ ≡ row_from (chart_of v) (get_or (chart_of v).actions i no_action).owner (suc i) → i < i₂
+      acting_later i₂ f = omega (arith, later_from (get_or (chart_of v).actions i no_action).owner (chart_of v) (suc i))
 
       -- its act is next
       due : (k : Lent)
@@ -144,7 +144,7 @@ module _ {v : List ℤ} {arg : ℤ} {o : Owner} {vars q t : List ℤ} {at : ℕ}
           (each (perform (chart_of v).vars arg) (row.act ∷ acts_in (drop (suc i) (chart_of v).actions) o)) (acts_lent vars₁ q₁ t₁ k)
           w.at
       due k = again k
-          (acts-take (chart_of v).actions o i l (ap (λ x. same_owner o x.owner) (sym e) ∙ its)
+          (acts_take (chart_of v).actions o i l (ap (λ x. same_owner o x.owner) (sym e) ∙ its)
           ∙ ap (λ x. x.act ∷ acts_in (drop (suc i) (chart_of v).actions) o) (sym e))
 
       module _ {n : ℕ} {of : VarRow} {r : Went} {vars₂ q₂ t₂ : List ℤ} (f : n ≡ act_var row.act)
@@ -155,18 +155,18 @@ module _ {v : List ℤ} {arg : ℤ} {o : Owner} {vars q t : List ℤ} {at : ℕ}
         performed k = subst (λ x. Did (act_on x arg row.act) (acts_lent vars₁ q₁ t₁ k) w.at r (acts_lent vars₂ q₂ t₂ k)) (g
             ∙ ap (var_row (chart_of v).vars) f) (p.1 k)
 
-        pub acting-stop : (r.number ≡ 0 → ⊥) → Does (perform_all (chart_of v) arg o) vars q t at r vars₂ q₂ t₂
-        acting-stop z = (
+        pub acting_stop : (r.number ≡ 0 → ⊥) → Does (perform_all (chart_of v) arg o) vars q t at r vars₂ q₂ t₂
+        acting_stop z = (
           record { fits = p.0.fits; kept = p.0.kept ∙ h.kept },
-          λ k. each-ends (perform (chart_of v).vars arg) row.act (acts_in (drop (suc i) (chart_of v).actions) o) (due k)
+          λ k. each_ends (perform (chart_of v).vars arg) row.act (acts_in (drop (suc i) (chart_of v).actions) o) (due k)
               (performed k) z,
         )
 
-        pub acting-on : r.number ≡ 0 → (i₂ : ℕ)
+        pub acting_on : r.number ≡ 0 → (i₂ : ℕ)
             → i₂ ≡ row_from (chart_of v) (get_or (chart_of v).actions i no_action).owner (suc i)
             → Acting v arg o vars q t at i₂ vars₂ q₂ t₂ r
         unfolding acts_from
-        acting-on z i₂ f = record {
+        acting_on z i₂ f = record {
           going = z;
           fits = p.0.fits;
           kept = p.0.kept ∙ h.kept;
@@ -174,7 +174,7 @@ module _ {v : List ℤ} {arg : ℤ} {o : Owner} {vars q t : List ℤ} {at : ℕ}
           owes = λ k.
               subst (λ xs. Owes (perform_all (chart_of v) arg o) (acts_lent vars q t k) at (each (perform (chart_of v).vars arg) xs)
               (acts_lent vars₂ q₂ t₂ k) r.at)
-              (sym (ap (λ m. acts_in (drop m (chart_of v).actions) o) (onward i₂ f) ∙ acts-onward o (chart_of v) (suc i)))
+              (sym (ap (λ m. acts_in (drop m (chart_of v).actions) o) (onward i₂ f) ∙ acts_onward o (chart_of v) (suc i)))
               (each_next (perform (chart_of v).vars arg) row.act (acts_in (drop (suc i) (chart_of v).actions) o) (due k)
               (performed k) z);
         }

@@ -13,11 +13,11 @@ use borrow.Author.Tests.{eqb-true, eq-eqb}
 use Rattle.sizes.specs.Sizes.{STATES, TRANSITIONS, ACTIONS}
 use Rattle.laws.proofs.Lists.{same_or}
 use Rattle.laws.proofs.Rules.{OwnerFacts}
-use Rattle.chart_rows.proofs.Rows.{action-at, num_first, num_at, states-most, transitions-most, actions-most}
+use Rattle.chart_rows.proofs.Rows.{action_at, num_first, num_at, states_most, transitions_most, actions_most}
 use Rattle.meaning.specs.Chart.{Chart, no_action}
 use Rattle.meaning.specs.declared.chart.Owner.{Owner}
-use Rattle.meaning.specs.declared.chart.Owner.TheVariants.{EntryOf as entry_of, ExitOf as exit-of}
-use Rattle.meaning.specs.declared.chart.Owner.TheVariants.{DefaultOf as default-of, TransitionOf as transition-of}
+use Rattle.meaning.specs.declared.chart.Owner.TheVariants.{EntryOf as entry_of, ExitOf as exit_of}
+use Rattle.meaning.specs.declared.chart.Owner.TheVariants.{DefaultOf as default_of, TransitionOf as transition_of}
 use Rattle.meaning.specs.declared.chart.ActRow.{ActRow}
 use Rattle.meaning.specs.Effects.{same_owner, acts_in}
 use Rattle.meaning.specs.Value.{chart_of, owner_by, action_by, ACTIONS_AT, ACT_ROW}
@@ -29,59 +29,59 @@ use Rattle.acts.specs.Index.{OWNERS, key, Fits, before_first, row_from, Indexed}
 
 pub key_within : (o : Owner) → Fits o → key o < OWNERS
 key_within (entry_of s) f = omega arith
-key_within (exit-of s) f = omega arith
-key_within (default-of s) f = omega arith
-key_within (transition-of t) f = omega arith
+key_within (exit_of s) f = omega arith
+key_within (default_of s) f = omega arith
+key_within (transition_of t) f = omega arith
 
 key_one : (o w : Owner) → Fits o → Fits w → key o ≡ key w → o ≡ w
 key_one (entry_of m) (entry_of n) f g e = ap entry_of e
-key_one (entry_of m) (exit-of n) f g e = absurd (omega arith)
-key_one (entry_of m) (default-of n) f g e = absurd (omega arith)
-key_one (entry_of m) (transition-of n) f g e = absurd (omega arith)
-key_one (exit-of m) (entry_of n) f g e = absurd (omega arith)
-key_one (exit-of m) (exit-of n) f g e = let q : m ≡ n = omega arith in ap exit-of q
-key_one (exit-of m) (default-of n) f g e = absurd (omega arith)
-key_one (exit-of m) (transition-of n) f g e = absurd (omega arith)
-key_one (default-of m) (entry_of n) f g e = absurd (omega arith)
-key_one (default-of m) (exit-of n) f g e = absurd (omega arith)
-key_one (default-of m) (default-of n) f g e = let q : m ≡ n = omega arith in ap default-of q
-key_one (default-of m) (transition-of n) f g e = absurd (omega arith)
-key_one (transition-of m) (entry_of n) f g e = absurd (omega arith)
-key_one (transition-of m) (exit-of n) f g e = absurd (omega arith)
-key_one (transition-of m) (default-of n) f g e = absurd (omega arith)
-key_one (transition-of m) (transition-of n) f g e = let q : m ≡ n = omega arith in ap transition-of q
+key_one (entry_of m) (exit_of n) f g e = absurd (omega arith)
+key_one (entry_of m) (default_of n) f g e = absurd (omega arith)
+key_one (entry_of m) (transition_of n) f g e = absurd (omega arith)
+key_one (exit_of m) (entry_of n) f g e = absurd (omega arith)
+key_one (exit_of m) (exit_of n) f g e = let q : m ≡ n = omega arith in ap exit_of q
+key_one (exit_of m) (default_of n) f g e = absurd (omega arith)
+key_one (exit_of m) (transition_of n) f g e = absurd (omega arith)
+key_one (default_of m) (entry_of n) f g e = absurd (omega arith)
+key_one (default_of m) (exit_of n) f g e = absurd (omega arith)
+key_one (default_of m) (default_of n) f g e = let q : m ≡ n = omega arith in ap default_of q
+key_one (default_of m) (transition_of n) f g e = absurd (omega arith)
+key_one (transition_of m) (entry_of n) f g e = absurd (omega arith)
+key_one (transition_of m) (exit_of n) f g e = absurd (omega arith)
+key_one (transition_of m) (default_of n) f g e = absurd (omega arith)
+key_one (transition_of m) (transition_of n) f g e = let q : m ≡ n = omega arith in ap transition_of q
 
 owner_itself : (o : Owner) → same_owner o o ≡ true
 unfolding same_owner
 owner_itself (entry_of n) = eq-eqb n n refl
-owner_itself (exit-of n) = eq-eqb n n refl
-owner_itself (default-of n) = eq-eqb n n refl
-owner_itself (transition-of n) = eq-eqb n n refl
+owner_itself (exit_of n) = eq-eqb n n refl
+owner_itself (default_of n) = eq-eqb n n refl
+owner_itself (transition_of n) = eq-eqb n n refl
 
 pub owner_one : (o w : Owner) → same_owner o w ≡ true → o ≡ w
 unfolding same_owner
 owner_one (entry_of m) (entry_of n) e = ap entry_of (eqb-true m n e)
-owner_one (entry_of m) (exit-of n) e = absurd (false≢true e)
-owner_one (entry_of m) (default-of n) e = absurd (false≢true e)
-owner_one (entry_of m) (transition-of n) e = absurd (false≢true e)
-owner_one (exit-of m) (entry_of n) e = absurd (false≢true e)
-owner_one (exit-of m) (exit-of n) e = ap exit-of (eqb-true m n e)
-owner_one (exit-of m) (default-of n) e = absurd (false≢true e)
-owner_one (exit-of m) (transition-of n) e = absurd (false≢true e)
-owner_one (default-of m) (entry_of n) e = absurd (false≢true e)
-owner_one (default-of m) (exit-of n) e = absurd (false≢true e)
-owner_one (default-of m) (default-of n) e = ap default-of (eqb-true m n e)
-owner_one (default-of m) (transition-of n) e = absurd (false≢true e)
-owner_one (transition-of m) (entry_of n) e = absurd (false≢true e)
-owner_one (transition-of m) (exit-of n) e = absurd (false≢true e)
-owner_one (transition-of m) (default-of n) e = absurd (false≢true e)
-owner_one (transition-of m) (transition-of n) e = ap transition-of (eqb-true m n e)
+owner_one (entry_of m) (exit_of n) e = absurd (false≢true e)
+owner_one (entry_of m) (default_of n) e = absurd (false≢true e)
+owner_one (entry_of m) (transition_of n) e = absurd (false≢true e)
+owner_one (exit_of m) (entry_of n) e = absurd (false≢true e)
+owner_one (exit_of m) (exit_of n) e = ap exit_of (eqb-true m n e)
+owner_one (exit_of m) (default_of n) e = absurd (false≢true e)
+owner_one (exit_of m) (transition_of n) e = absurd (false≢true e)
+owner_one (default_of m) (entry_of n) e = absurd (false≢true e)
+owner_one (default_of m) (exit_of n) e = absurd (false≢true e)
+owner_one (default_of m) (default_of n) e = ap default_of (eqb-true m n e)
+owner_one (default_of m) (transition_of n) e = absurd (false≢true e)
+owner_one (transition_of m) (entry_of n) e = absurd (false≢true e)
+owner_one (transition_of m) (exit_of n) e = absurd (false≢true e)
+owner_one (transition_of m) (default_of n) e = absurd (false≢true e)
+owner_one (transition_of m) (transition_of n) e = ap transition_of (eqb-true m n e)
 
 fits_named : (v : List ℤ) (o : Owner) → OwnerFacts (chart_of v) o → Fits o
-fits_named v (entry_of s) f = omega (arith, states-most v)
-fits_named v (exit-of s) f = omega (arith, states-most v)
-fits_named v (default-of s) f = omega (arith, states-most v, f.0)
-fits_named v (transition-of t) f = omega (arith, transitions-most v)
+fits_named v (entry_of s) f = omega (arith, states_most v)
+fits_named v (exit_of s) f = omega (arith, states_most v)
+fits_named v (default_of s) f = omega (arith, states_most v, f.0)
+fits_named v (transition_of t) f = omega (arith, transitions_most v)
 
 -- R7: the owner of a row has a place
 pub owner_fits : (v : List ℤ) → Ruled v → (i : ℕ) → i < length (chart_of v).actions → (w : Owner)
@@ -93,60 +93,60 @@ pub owner_said : (v : List ℤ) (i : ℕ) → i < length (chart_of v).actions
     → owner_by (get_or v (ACTIONS_AT + i * ACT_ROW) (pos 0)) (get_or v (ACTIONS_AT + i * ACT_ROW + 1) (pos 0))
     ≡ (get_or (chart_of v).actions i no_action).owner
 unfolding action_by
-owner_said v i l = sym (ap (λ r. r.owner) (action-at v i l)
+owner_said v i l = sym (ap (λ r. r.owner) (action_at v i l)
     ∙ rw (num_first ACT_ROW (ACTIONS_AT + i * ACT_ROW) v (omega arith), num_at ACT_ROW (ACTIONS_AT + i * ACT_ROW) v 1 (omega arith)))
 
 -- ---- the first row of an owner
 
 module _ (o : Owner) where
-  first-here : (r : ActRow) (rs : List ActRow) → same_owner o r.owner ≡ true → before_first o (r ∷ rs) ≡ 0
+  first_here : (r : ActRow) (rs : List ActRow) → same_owner o r.owner ≡ true → before_first o (r ∷ rs) ≡ 0
   unfolding before_first
-  first-here r rs e = ap (λ t. cond t 0 (suc (before_first o rs))) e
+  first_here r rs e = ap (λ t. cond t 0 (suc (before_first o rs))) e
 
-  first-later : (r : ActRow) (rs : List ActRow) → same_owner o r.owner ≡ false → before_first o (r ∷ rs) ≡ suc (before_first o rs)
+  first_later : (r : ActRow) (rs : List ActRow) → same_owner o r.owner ≡ false → before_first o (r ∷ rs) ≡ suc (before_first o rs)
   unfolding before_first
-  first-later r rs e = ap (λ t. cond t 0 (suc (before_first o rs))) e
+  first_later r rs e = ap (λ t. cond t 0 (suc (before_first o rs))) e
 
-  pub acts-here : (r : ActRow) (rs : List ActRow) → same_owner o r.owner ≡ true → acts_in (r ∷ rs) o ≡ r.act ∷ acts_in rs o
+  pub acts_here : (r : ActRow) (rs : List ActRow) → same_owner o r.owner ≡ true → acts_in (r ∷ rs) o ≡ r.act ∷ acts_in rs o
   unfolding acts_in
-  acts-here r rs e = ap (λ t. cond t (r.act ∷ acts_in rs o) (acts_in rs o)) e
+  acts_here r rs e = ap (λ t. cond t (r.act ∷ acts_in rs o) (acts_in rs o)) e
 
-  acts-later : (r : ActRow) (rs : List ActRow) → same_owner o r.owner ≡ false → acts_in (r ∷ rs) o ≡ acts_in rs o
+  acts_later : (r : ActRow) (rs : List ActRow) → same_owner o r.owner ≡ false → acts_in (r ∷ rs) o ≡ acts_in rs o
   unfolding acts_in
-  acts-later r rs e = ap (λ t. cond t (r.act ∷ acts_in rs o) (acts_in rs o)) e
+  acts_later r rs e = ap (λ t. cond t (r.act ∷ acts_in rs o) (acts_in rs o)) e
 
-  acts-first : (rows : List ActRow) → acts_in (drop (before_first o rows) rows) o ≡ acts_in rows o
+  acts_first : (rows : List ActRow) → acts_in (drop (before_first o rows) rows) o ≡ acts_in rows o
   unfolding before_first
-  acts-first [] = refl
-  acts-first (r ∷ rs) = go (same_owner o r.owner) refl (acts-first rs)
+  acts_first [] = refl
+  acts_first (r ∷ rs) = go (same_owner o r.owner) refl (acts_first rs)
     where
       go : (b : Bool) → same_owner o r.owner ≡ b → acts_in (drop (before_first o rs) rs) o ≡ acts_in rs o
           → acts_in (drop (before_first o (r ∷ rs)) (r ∷ rs)) o ≡ acts_in (r ∷ rs) o
-      go true e h = ap (λ k. acts_in (drop k (r ∷ rs)) o) (first-here r rs e)
-      go false e h = ap (λ k. acts_in (drop k (r ∷ rs)) o) (first-later r rs e) ∙ h ∙ sym (acts-later r rs e)
+      go true e h = ap (λ k. acts_in (drop k (r ∷ rs)) o) (first_here r rs e)
+      go false e h = ap (λ k. acts_in (drop k (r ∷ rs)) o) (first_later r rs e) ∙ h ∙ sym (acts_later r rs e)
 
-  first-first : (rows : List ActRow) → before_first o (drop (before_first o rows) rows) ≡ 0
+  first_first : (rows : List ActRow) → before_first o (drop (before_first o rows) rows) ≡ 0
   unfolding before_first
-  first-first [] = refl
-  first-first (r ∷ rs) = go (same_owner o r.owner) refl (first-first rs)
+  first_first [] = refl
+  first_first (r ∷ rs) = go (same_owner o r.owner) refl (first_first rs)
     where
       go : (b : Bool) → same_owner o r.owner ≡ b → before_first o (drop (before_first o rs) rs) ≡ 0
           → before_first o (drop (before_first o (r ∷ rs)) (r ∷ rs)) ≡ 0
-      go true e h = ap (λ k. before_first o (drop k (r ∷ rs))) (first-here r rs e) ∙ first-here r rs e
-      go false e h = ap (λ k. before_first o (drop k (r ∷ rs))) (first-later r rs e) ∙ h
+      go true e h = ap (λ k. before_first o (drop k (r ∷ rs))) (first_here r rs e) ∙ first_here r rs e
+      go false e h = ap (λ k. before_first o (drop k (r ∷ rs))) (first_later r rs e) ∙ h
 
   -- a row that is its owner's first from itself on
-  pub first-own : (r : ActRow) (rs : List ActRow) → before_first o (r ∷ rs) ≡ 0 → same_owner o r.owner ≡ true
-  first-own r rs z = go (same_owner o r.owner) refl
+  pub first_own : (r : ActRow) (rs : List ActRow) → before_first o (r ∷ rs) ≡ 0 → same_owner o r.owner ≡ true
+  first_own r rs z = go (same_owner o r.owner) refl
     where
       go : (b : Bool) → same_owner o r.owner ≡ b → b ≡ true
       go true e = refl
-      go false e = let q = first-later r rs e in absurd (omega arith)
+      go false e = let q = first_later r rs e in absurd (omega arith)
 
-  first-within : (rows : List ActRow) → before_first o rows ≤ length rows
+  first_within : (rows : List ActRow) → before_first o rows ≤ length rows
   unfolding before_first
-  first-within [] = omega arith
-  first-within (r ∷ rs) = go (same_owner o r.owner) (first-within rs)
+  first_within [] = omega arith
+  first_within (r ∷ rs) = go (same_owner o r.owner) (first_within rs)
     where
       go : (b : Bool) → before_first o rs ≤ length rs → cond b 0 (suc (before_first o rs)) ≤ suc (length rs)
       go true h = omega arith
@@ -157,19 +157,19 @@ module _ (o : Owner) where
     unfolding row_from
     dropped i = sym (drop-drop (before_first o (drop i c.actions)) i c.actions)
 
-    pub acts-onward : (i : ℕ) → acts_in (drop (row_from c o i) c.actions) o ≡ acts_in (drop i c.actions) o
-    acts-onward i = ap (λ l. acts_in l o) (dropped i) ∙ acts-first (drop i c.actions)
+    pub acts_onward : (i : ℕ) → acts_in (drop (row_from c o i) c.actions) o ≡ acts_in (drop i c.actions) o
+    acts_onward i = ap (λ l. acts_in l o) (dropped i) ∙ acts_first (drop i c.actions)
 
     pub first_from : (i : ℕ) → before_first o (drop (row_from c o i) c.actions) ≡ 0
-    first_from i = ap (before_first o) (dropped i) ∙ first-first (drop i c.actions)
+    first_from i = ap (before_first o) (dropped i) ∙ first_first (drop i c.actions)
 
-    pub later-from : (i : ℕ) → i ≤ row_from c o i
+    pub later_from : (i : ℕ) → i ≤ row_from c o i
     unfolding row_from
-    later-from i = omega arith
+    later_from i = omega arith
 
     pub row_within : (i : ℕ) → i ≤ length c.actions → row_from c o i ≤ length c.actions
     unfolding row_from
-    row_within i h = omega (arith, first-within (drop i c.actions), length-drop i c.actions)
+    row_within i h = omega (arith, first_within (drop i c.actions), length-drop i c.actions)
 
 -- ---- making the index
 
@@ -208,15 +208,15 @@ module _ (c : Chart) (m : ℕ) (index : List ℕ) (h : Building c (suc m) index)
   row_here o e =
       let z : before_first o (drop m c.actions) ≡ 0 =
       ap (before_first o) at_row
-      ∙ first-here o (get_or c.actions m no_action) (drop (suc m) c.actions) (ap (same_owner o) (sym ew) ∙ e) in
+      ∙ first_here o (get_or c.actions m no_action) (drop (suc m) c.actions) (ap (same_owner o) (sym ew) ∙ e) in
       omega arith
 
-  row-later : (o : Owner) → same_owner o w ≡ false → row_from c o (suc m) ≡ row_from c o m
+  row_later : (o : Owner) → same_owner o w ≡ false → row_from c o (suc m) ≡ row_from c o m
   unfolding row_from
-  row-later o e =
+  row_later o e =
       let z : before_first o (drop m c.actions) ≡ suc (before_first o (drop (suc m) c.actions)) =
       ap (before_first o) at_row
-      ∙ first-later o (get_or c.actions m no_action) (drop (suc m) c.actions) (ap (same_owner o) (sym ew) ∙ e) in
+      ∙ first_later o (get_or c.actions m no_action) (drop (suc m) c.actions) (ap (same_owner o) (sym ew) ∙ e) in
       omega arith
 
   after_first : (o : Owner) → Fits o → (b : Bool) → same_owner o w ≡ b → get_or after (key o) 0 ≡ length c.actions - row_from c o m
@@ -232,7 +232,7 @@ module _ (c : Chart) (m : ℕ) (index : List ℕ) (h : Building c (suc m) index)
       get_or-set_other linked (key w) (key o) left 0 other
       ∙ get_or-set_other index (OWNERS + m) (key o) (get_or index (key w) 0) 0 apart
       ∙ h.first o f
-      ∙ ap (λ k. length c.actions - k) (row-later o e)
+      ∙ ap (λ k. length c.actions - k) (row_later o e)
 
   after_next : (j : ℕ) → m ≤ j → j < length c.actions → (m ≡ j) ⊎ (m ≡ j → ⊥)
       → get_or after (OWNERS + j) 0 ≡ length c.actions - row_from c (get_or c.actions j no_action).owner (suc j)
@@ -274,7 +274,7 @@ building_on v r (suc m) p index h w e k q left el =
     let el' : left ≡ length (chart_of v).actions - m = el ∙ ap (λ x. length (chart_of v).actions - x) (sym z) in
     subst (λ x. Building (chart_of v) x (set (set index (OWNERS + x) (get_or index k 0)) k left)) z
     (subst (λ x. Building (chart_of v) m (set (set index (OWNERS + m) (get_or index x 0)) x left)) (sym q)
-    (built (chart_of v) m index h (actions-most v) w (owner_fits v r m (omega (arith, h.within)) w e') e' left el'))
+    (built (chart_of v) m index h (actions_most v) w (owner_fits v r m (omega (arith, h.within)) w e') e' left el'))
 
 pub building_end : (c : Chart) (i : ℕ) (index : List ℕ) → i ≤ 0 → Building c i index → Indexed c index
 building_end c i index z h = record {
@@ -292,9 +292,9 @@ module _ (c : Chart) (index : List ℕ) (h : Indexed c index) (n : ℕ) (e : n �
       let l : row_from c o 0 ≤ length c.actions = row_within o c 0 (omega arith) in
       (omega arith, omega arith)
 
-  pub next-read : (i : ℕ) → i < length c.actions
+  pub next_read : (i : ℕ) → i < length c.actions
       → (get_or index (OWNERS + i) 0 ≤ n) × (n - get_or index (OWNERS + i) 0 ≡ row_from c (get_or c.actions i no_action).owner (suc i))
-  next-read i l =
+  next_read i l =
       let z : get_or index (OWNERS + i) 0 ≡ length c.actions - row_from c (get_or c.actions i no_action).owner (suc i) = h.next i l in
       let m : row_from c (get_or c.actions i no_action).owner (suc i) ≤ length c.actions =
       row_within (get_or c.actions i no_action).owner c (suc i) (omega arith) in

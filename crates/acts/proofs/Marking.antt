@@ -11,14 +11,14 @@ use Rattle.numbers.specs.declared.Place.TheVariants.{Empty, At}
 use Rattle.laws.specs.Facts.{Ordered}
 use Rattle.meaning.specs.Chart.{Chart}
 use Rattle.meaning.specs.declared.chart.Owner.{Owner}
-use Rattle.meaning.specs.declared.chart.Owner.TheVariants.{EntryOf as entry_of, ExitOf as exit-of}
+use Rattle.meaning.specs.declared.chart.Owner.TheVariants.{EntryOf as entry_of, ExitOf as exit_of}
 use Rattle.meaning.specs.Effects.{enter, leave, mark_entered, mark_left, o_parent, perform_all}
 use Rattle.meaning.specs.Tree.{is_o, kind_of, parent_of}
 use Rattle.meaning.specs.Value.{chart_of}
 use Rattle.widget.specs.declared.Went.{Went}
 use Rattle.widget.specs.View.{Lent, all_lent, with_active, with_slots, with_vars, with_queue, with_trace, Within, Did}
 use Rattle.widget.specs.Acts.{Below}
-use Rattle.widget.proofs.Going.{then-on, then-stop}
+use Rattle.widget.proofs.Going.{then_on, then_stop}
 use Rattle.meaning.specs.Rules.{Ruled}
 use Rattle.tree.proofs.Passing.{sound}
 
@@ -32,12 +32,12 @@ Acts c arg o v q t at r v₁ q₁ t₁ =
 
 module _ (c : Chart) (arg : ℤ) (s : ℕ) {a : List Bool} {v q t : List ℤ} {at : ℕ} {r : Went} {a₁ : List Bool} {t₁ : List ℤ}
     (w : Within t r t₁ × ((k : Lent) → Did (mark_entered s) (with_active a (with_trace t k)) at r (with_active a₁ (with_trace t₁ k)))) where
-  pub entered-stop : (r.number ≡ 0 → ⊥)
+  pub entered_stop : (r.number ≡ 0 → ⊥)
       → Within t r t₁ × ((k : Lent)
       → Did (enter c arg s) (with_active a (with_vars v (with_queue q (with_trace t k)))) at r (with_active a₁ (with_vars v
       (with_queue q (with_trace t₁ k)))))
   unfolding enter
-  entered-stop z = (w.0, λ k. then-stop (perform_all c arg (entry_of s)) (w.1 (with_vars v (with_queue q k))) z)
+  entered_stop z = (w.0, λ k. then_stop (perform_all c arg (entry_of s)) (w.1 (with_vars v (with_queue q k))) z)
 
   pub entered_on : {x : Went} {v₂ q₂ t₂ : List ℤ} → r.number ≡ 0 → Acts c arg (entry_of s) v q t₁ r.at x v₂ q₂ t₂
       → Within t x t₂ × ((k : Lent)
@@ -50,7 +50,7 @@ module _ (c : Chart) (arg : ℤ) (s : ℕ) {a : List Bool} {v q t : List ℤ} {a
       kept = p.0.kept
           ∙ w.0.kept;
     },
-    λ k. then-on (w.1 (with_vars v (with_queue q k))) z (p.1 (with_active a₁ k)),
+    λ k. then_on (w.1 (with_vars v (with_queue q k))) z (p.1 (with_active a₁ k)),
   )
 
 -- ---- leaving
@@ -77,11 +77,11 @@ module _ (c : Chart) (arg : ℤ)
   marked : Did (mark_left (o_parent c s) s) (all_lent a sl v q t) at r (all_lent a₁ sl₁ v q t₁)
   marked = subst (λ x. Did (mark_left x s) (all_lent a sl v q t) at r (all_lent a₁ sl₁ v q t₁)) e (w.1 (all_lent a sl v q t))
 
-  pub left-stop : (r.number ≡ 0 → ⊥) → Did (leave c arg s) (all_lent a sl v q t) at r (all_lent a₁ sl₁ v q t₁)
+  pub left_stop : (r.number ≡ 0 → ⊥) → Did (leave c arg s) (all_lent a sl v q t) at r (all_lent a₁ sl₁ v q t₁)
   unfolding leave
-  left-stop z = then-stop (perform_all c arg (exit-of s)) marked z
+  left_stop z = then_stop (perform_all c arg (exit_of s)) marked z
 
-  pub left_on : {x : Went} {v₂ q₂ t₂ : List ℤ} → r.number ≡ 0 → Acts c arg (exit-of s) v q t₁ r.at x v₂ q₂ t₂
+  pub left_on : {x : Went} {v₂ q₂ t₂ : List ℤ} → r.number ≡ 0 → Acts c arg (exit_of s) v q t₁ r.at x v₂ q₂ t₂
       → Did (leave c arg s) (all_lent a sl v q t) at x (all_lent a₁ sl₁ v₂ q₂ t₂)
   unfolding leave
-  left_on z p₁ = then-on marked z (p₁.1 (all_lent a₁ sl₁ v q t₁))
+  left_on z p₁ = then_on marked z (p₁.1 (all_lent a₁ sl₁ v q t₁))

@@ -3,8 +3,8 @@ use Rattle.std.specs.Prelude.{◌≡◌, ℕ, zero, suc, ◌+◌, ◌-◌, ◌*�
 use Rattle.sizes.specs.Sizes.{STATES, TRANSITIONS, ACTIONS}
 use Rattle.meaning.specs.Chart.{Chart, no_action}
 use Rattle.meaning.specs.declared.chart.Owner.{Owner}
-use Rattle.meaning.specs.declared.chart.Owner.TheVariants.{EntryOf as entry_of, ExitOf as exit-of, DefaultOf as default-of}
-use Rattle.meaning.specs.declared.chart.Owner.TheVariants.{TransitionOf as transition-of}
+use Rattle.meaning.specs.declared.chart.Owner.TheVariants.{EntryOf as entry_of, ExitOf as exit_of, DefaultOf as default_of}
+use Rattle.meaning.specs.declared.chart.Owner.TheVariants.{TransitionOf as transition_of}
 use Rattle.meaning.specs.declared.chart.ActRow.{ActRow}
 use Rattle.meaning.specs.Effects.{same_owner}
 use Rattle.meaning.specs.Value.{chart_of}
@@ -16,16 +16,16 @@ OWNERS = 3 * STATES + TRANSITIONS
 
 abbrev pub key : Owner → ℕ
 key (entry_of s) = s
-key (exit-of s) = STATES + s
-key (default-of s) = 2 * STATES + s
-key (transition-of t) = 3 * STATES + t
+key (exit_of s) = STATES + s
+key (default_of s) = 2 * STATES + s
+key (transition_of t) = 3 * STATES + t
 
 -- an owner that a chart of this size can have
 abbrev pub Fits : Owner → Type 0
 Fits (entry_of s) = s < STATES
-Fits (exit-of s) = s < STATES
-Fits (default-of s) = s < STATES
-Fits (transition-of t) = t < TRANSITIONS
+Fits (exit_of s) = s < STATES
+Fits (default_of s) = s < STATES
+Fits (transition_of t) = t < TRANSITIONS
 
 -- how many rows stand before the first one of the owner
 unfoldable pub before_first : Owner → List ActRow → ℕ

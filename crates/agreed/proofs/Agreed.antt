@@ -8,7 +8,7 @@ use mathlib.Core.List.{List}
 use lib.IntN.{ℤ}
 use lib.ListN.{length}
 use contract.Lifetimes.{Lfts}
-use Rattle.agreed.proofs.Promised.{discards-agree, posts-agree, runs-agree, starts-agree}
+use Rattle.agreed.proofs.Promised.{discards_agree, posts_agree, runs_agree, starts_agree}
 use Rattle.invariants.proofs.CallLists.{Lived}
 use Rattle.meaning.specs.Value.{chart_of}
 use Rattle.meaning.specs.declared.State.{State}
@@ -52,7 +52,7 @@ pub starts : (κ κ₁ κ₂ : Lfts 2) → Agrees (compile-reads.Learnt κ) (sta
     (λ x. x.1.1.0.now) (λ y. y.1.1.0.now)
 starts κ κ₁ κ₂ = record {
   agree = λ c k d p a r x q b s y o e.
-      starts-agree p e.0.done e.0.lived e.1
+      starts_agree p e.0.done e.0.lived e.1
       (subst (λ v. Started v a.1.0 a.1.1.0.now r x.1.1.0.now) e.0.one_chart q)
       (subst (λ n. PlanStarted n a.1.0 b.1.1.0.now s y.1.1.0.now) e.0.its_plan
       (subst (λ w. PlanStarted b.0.now w b.1.1.0.now s y.1.1.0.now) e.0.one_widget o));
@@ -64,7 +64,7 @@ pub runs : (κ κ₁ κ₂ : Lfts 2) → Agrees (compile-reads.Learnt κ) (run-r
     (λ x. x.1.1.0.now) (λ y. y.1.1.0.now)
 runs κ κ₁ κ₂ = record {
   agree = λ c k d p a r x q b s y o e.
-      runs-agree p e.0.done e.0.lived e.1
+      runs_agree p e.0.done e.0.lived e.1
       (subst (λ v. Ran v a.1.0 a.1.1.0.now r x.1.1.0.now) e.0.one_chart q)
       (subst (λ n. PlanRan n a.1.0 b.1.1.0.now s y.1.1.0.now) e.0.its_plan
       (subst (λ w. PlanRan b.0.now w b.1.1.0.now s y.1.1.0.now) e.0.one_widget o));
@@ -78,7 +78,7 @@ pub posts : (κ : Lfts 2) (κ₁ κ₂ : Lfts 1) → Agrees (compile-reads.Learn
     (λ x. tt {0}) (λ y. tt {0})
 posts κ κ₁ κ₂ = record {
   agree = λ c k d p a r x q b s y o e. (
-    posts-agree p e.0.done e.0.lived
+    posts_agree p e.0.done e.0.lived
         (subst (λ v. Posted v a.1.0 a.1.1.0 a.1.1.1.0 r) e.0.one_chart q)
         (subst (λ i. PlanPosted d.1.0.now a.1.0 i a.1.1.1.0 s) e.1
         (subst (λ i. PlanPosted d.1.0.now a.1.0 b.1.1.0 i s) e.2
@@ -93,7 +93,7 @@ pub discards : (κ : Lfts 2) (κ₁ κ₂ : Lfts 1) → Agrees (compile-reads.Le
     (λ x. tt {0}) (λ y. tt {0})
 discards κ κ₁ κ₂ = record {
   agree = λ c k d p a r x q b s y o e. (
-    discards-agree p e.done e.lived
+    discards_agree p e.done e.lived
         (subst (λ v. Discarded v a.1.0 r) e.one_chart q)
         (subst (λ n. PlanDiscarded n a.1.0 s) e.its_plan (subst (λ w. PlanDiscarded b.0.now w s) e.one_widget o)),
     refl,

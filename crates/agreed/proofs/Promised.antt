@@ -21,35 +21,35 @@ use Rattle.promises.specs.Promises.{Compiles, Discarded, PlanDiscarded, PlanPost
 -- what compiling promises, where it is done, makes each call over the slice it left the call over the chart
 module _ {v plan ns : List ℤ} {k : Compiled} (compiles : Compiles v plan k ns) (done : k.answer.number ≡ 0) {u : State}
     (l : Lived (chart_of v) u) where
-  number-0 : (answer_of (compile_of v (length plan))).number ≡ 0
+  number_0 : (answer_of (compile_of v (length plan))).number ≡ 0
   unfolding compiled
-  number-0 = sym (ap (λ c. c.answer.number) compiles.result) ∙ done
+  number_0 = sym (ap (λ c. c.answer.number) compiles.result) ∙ done
 
-  same-call : (x : Call) → machine_make ns x u ≡ make_of v x u
-  same-call x = ap (λ p. machine_make p x u) compiles.lent ∙ one_call v (length plan) number-0 x u l
+  same_call : (x : Call) → machine_make ns x u ≡ make_of v x u
+  same_call x = ap (λ p. machine_make p x u) compiles.lent ∙ one_call v (length plan) number_0 x u l
 
-  pub starts-agree : {t t₂ : List ℤ} {r s : Called} {a b : List ℤ} → length t₂ ≡ length t → Started v u t r a → PlanStarted ns u t₂ s b
+  pub starts_agree : {t t₂ : List ℤ} {r s : Called} {a b : List ℤ} → length t₂ ≡ length t → Started v u t r a → PlanStarted ns u t₂ s b
       → (r ≡ s) × (a ≡ b)
   unfolding machine_make make_of
-  starts-agree {t} {t₂} e p q =
-      let o = same-call (to_start (length t)) in (
+  starts_agree {t} {t₂} e p q =
+      let o = same_call (to_start (length t)) in (
         p.result ∙ sym (q.result ∙ ap (λ n. called (machine_make ns (to_start n) u)) e ∙ ap called o),
         p.lent ∙ sym (q.lent ∙ ap (λ n. lent n (machine_make ns (to_start n) u)) e ∙ ap (lent (length t)) o),
       )
 
-  pub runs-agree : {t t₂ : List ℤ} {r s : Called} {a b : List ℤ} → length t₂ ≡ length t → Ran v u t r a → PlanRan ns u t₂ s b
+  pub runs_agree : {t t₂ : List ℤ} {r s : Called} {a b : List ℤ} → length t₂ ≡ length t → Ran v u t r a → PlanRan ns u t₂ s b
       → (r ≡ s) × (a ≡ b)
   unfolding machine_make make_of
-  runs-agree {t} {t₂} e p q =
-      let o = same-call (to_run (length t)) in (
+  runs_agree {t} {t₂} e p q =
+      let o = same_call (to_run (length t)) in (
         p.result ∙ sym (q.result ∙ ap (λ n. called (machine_make ns (to_run n) u)) e ∙ ap called o),
         p.lent ∙ sym (q.lent ∙ ap (λ n. lent n (machine_make ns (to_run n) u)) e ∙ ap (lent (length t)) o),
       )
 
-  pub posts-agree : {x y : ℤ} {r s : Called} → Posted v u x y r → PlanPosted ns u x y s → r ≡ s
+  pub posts_agree : {x y : ℤ} {r s : Called} → Posted v u x y r → PlanPosted ns u x y s → r ≡ s
   unfolding machine_make make_of
-  posts-agree {x} {y} p q = p.result ∙ sym (q.result ∙ ap called (same-call (to_post x y)))
+  posts_agree {x} {y} p q = p.result ∙ sym (q.result ∙ ap called (same_call (to_post x y)))
 
-  pub discards-agree : {r s : Called} → Discarded v u r → PlanDiscarded ns u s → r ≡ s
+  pub discards_agree : {r s : Called} → Discarded v u r → PlanDiscarded ns u s → r ≡ s
   unfolding machine_make make_of
-  discards-agree p q = p.result ∙ sym (q.result ∙ ap called (same-call to_discard))
+  discards_agree p q = p.result ∙ sym (q.result ∙ ap called (same_call to_discard))

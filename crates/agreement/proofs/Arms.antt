@@ -6,8 +6,8 @@ use mathlib.Core.List.{List, ◌∷◌}
 use lib.ListN.{length}
 use lib.IntN.{ℤ}
 use Rattle.agreement.proofs.DefaultArm.{SameSlots, default_arm_does, visits_slots}
-use Rattle.agreement.proofs.Running.{Does, DoesWhere, block-does, passed_over, run-append, test-does}
-use Rattle.agreement.proofs.StoredArm.{RestoreBegins, stored-arm-agrees}
+use Rattle.agreement.proofs.Running.{Does, DoesWhere, block_does, passed_over, run_append, test_does}
+use Rattle.agreement.proofs.StoredArm.{RestoreBegins, stored_arm_agrees}
 use Rattle.invariants.proofs.Keeps.{holds_of}
 use Rattle.invariants.proofs.Slots.{slot_at}
 use Rattle.laws.proofs.Sound.{SoundChart}
@@ -19,7 +19,7 @@ use Rattle.meaning.specs.Machine.{Mach, exec, exec_at, exec_now, go_on, on_if, p
 use Rattle.meaning.specs.Steps.{Res, Step, bind, each, look, ok, refuse, when}
 use Rattle.meaning.specs.Widget.{Ctx, is_empty, is_filled, slot}
 use Rattle.meaning.specs.declared.plan.Instr.{Instr}
-use Rattle.meaning.specs.declared.plan.Instr.TheVariants.{SkipEmpty as skip-empty, SkipFull as skip-full}
+use Rattle.meaning.specs.declared.plan.Instr.TheVariants.{SkipEmpty as skip_empty, SkipFull as skip_full}
 use Rattle.numbers.specs.declared.Place.{Place as Slot}
 use Rattle.numbers.specs.declared.Place.TheVariants.{At as holds, Empty as empty}
 
@@ -32,24 +32,24 @@ then_nothing P (refuse e) F h n = refl
 
 module _ (c : Chart) (a : ℤ) (b : ℕ) where
   -- SKIPEMPTY in front of a piece, where the slot is known
-  after-empty : (k : Ctx) (p : List Instr) → slot k.state b ≡ empty
-      → run_code c.vars a (skip-empty b (length p) ∷ p) (passing 0 k) ≡ ok (passing 0 k)
+  after_empty : (k : Ctx) (p : List Instr) → slot k.state b ≡ empty
+      → run_code c.vars a (skip_empty b (length p) ∷ p) (passing 0 k) ≡ ok (passing 0 k)
   unfolding run_code each exec exec_at exec_now passing on_if bind is_filled
-  after-empty k p e = rw e (passed_over c.vars a p k)
+  after_empty k p e = rw e (passed_over c.vars a p k)
 
-  after-full : (k : Ctx) (d : ℕ) (p : List Instr) → slot k.state b ≡ holds d
-      → run_code c.vars a (skip-empty b (length p) ∷ p) (passing 0 k) ≡ run_code c.vars a p (passing 0 k)
+  after_full : (k : Ctx) (d : ℕ) (p : List Instr) → slot k.state b ≡ holds d
+      → run_code c.vars a (skip_empty b (length p) ∷ p) (passing 0 k) ≡ run_code c.vars a p (passing 0 k)
   unfolding run_code each exec exec_at exec_now passing on_if bind is_filled
-  after-full k d p e = rw e refl
+  after_full k d p e = rw e refl
 
   abbrev second : List Instr
-  second = skip-empty b (length (stored_arm c b)) ∷ stored_arm c b
+  second = skip_empty b (length (stored_arm c b)) ∷ stored_arm c b
 
   -- the first test and arm
-  default-does : Does (run_code c.vars a (skip-full b (length (default_arm c b)) ∷ default_arm c b))
+  default_does : Does (run_code c.vars a (skip_full b (length (default_arm c b)) ∷ default_arm c b))
       (look (λ j. when (is_empty (slot j.state b)) (each (visit c a) (all_below c by_defaults b))))
   unfolding exec exec_at exec_now passing
-  default-does = test-does c.vars a _ (default_arm c b) (λ j. is_empty (slot j.state b))
+  default_does = test_does c.vars a _ (default_arm c b) (λ j. is_empty (slot j.state b))
       (each (visit c a) (all_below c by_defaults b)) (λ j. refl) (default_arm_does c a b)
 
   slot_same : (j : Ctx) (sl : List ℤ) → SameSlots sl j.state → slot j.state b ≡ slot_at sl b
@@ -57,11 +57,11 @@ module _ (c : Chart) (a : ℤ) (b : ℕ) where
   slot_same j sl e = ap (λ l. slot_at l b) e
 
   module _ (r : SoundChart c) where
-    pub arms-do : DoesWhere (λ k. RestoreBegins c b k.state) (run_code c.vars a (arms c b)) (restore c a b)
+    pub arms_do : DoesWhere (λ k. RestoreBegins c b k.state) (run_code c.vars a (arms c b)) (restore c a b)
     unfolding arms arms_of restore restore_by look when is_empty go_on bind slot
-    arms-do k y =
-        run-append c.vars a (skip-full b (length (default_arm c b)) ∷ default_arm c b) second (passing 0 k)
-        ∙ ap (λ x. bind x (run_code c.vars a second)) (default-does k)
+    arms_do k y =
+        run_append c.vars a (skip_full b (length (default_arm c b)) ∷ default_arm c b) second (passing 0 k)
+        ∙ ap (λ x. bind x (run_code c.vars a second)) (default_does k)
         ∙ go (slot k.state b) refl
       where
         go : (x : Slot) → slot k.state b ≡ x
@@ -71,9 +71,9 @@ module _ (c : Chart) (a : ℤ) (b : ℕ) where
             (run_code c.vars a second)
             (holds_of (λ j. SameSlots k.state.slots j.state) (each (visit c a) (all_below c by_defaults b) k)
             (visits_slots k.state.slots c a (all_below c by_defaults b) k refl))
-            (λ j h. after-empty j (stored_arm c b) (slot_same j k.state.slots h ∙ e)))
-        go (holds d) e = rw e (after-full k d (stored_arm c b) e ∙ stored-arm-agrees c r a b k y d e)
+            (λ j h. after_empty j (stored_arm c b) (slot_same j k.state.slots h ∙ e)))
+        go (holds d) e = rw e (after_full k d (stored_arm c b) e ∙ stored_arm_agrees c r a b k y d e)
 
     -- as a block
-    pub arms-agree : (k : Ctx) → RestoreBegins c b k.state → run_block c.vars a (arms c b) k ≡ restore c a b k
-    arms-agree k y = block-does c.vars a (arms c b) (restore c a b) k (arms-do k y)
+    pub arms_agree : (k : Ctx) → RestoreBegins c b k.state → run_block c.vars a (arms c b) k ≡ restore c a b k
+    arms_agree k y = block_does c.vars a (arms c b) (restore c a b) k (arms_do k y)

@@ -9,14 +9,14 @@ use mathlib.Core.Bool.{Bool, cond, false}
 use mathlib.Core.List.{List, ◌++◌}
 use lib.ListN.{length}
 use lib.IntN.{ℤ}
-use Rattle.agreement.proofs.Entered.{acts-do, enter-does, visits-do}
-use Rattle.agreement.proofs.Exits.{exits-do}
-use Rattle.agreement.proofs.Running.{Does, DoesWhere, append-does, append-does-where, block-does}
-use Rattle.agreement.proofs.Towards.{itinerary_rises, towards-do}
-use Rattle.invariants.proofs.Good.{acts-good}
+use Rattle.agreement.proofs.Entered.{acts_do, enter_does, visits_do}
+use Rattle.agreement.proofs.Exits.{exits_do}
+use Rattle.agreement.proofs.Running.{Does, DoesWhere, append_does, append_does_where, block_does}
+use Rattle.agreement.proofs.Towards.{itinerary_rises, towards_do}
+use Rattle.invariants.proofs.Good.{acts_good}
 use Rattle.invariants.specs.Good.{Good}
-use Rattle.invariants.proofs.GoodReaction.{below-inside, leave-all-good}
-use Rattle.invariants.proofs.Keeps.{acts-keep, gives_holds, holds_of}
+use Rattle.invariants.proofs.GoodReaction.{below_inside, leave_all_good}
+use Rattle.invariants.proofs.Keeps.{acts_keep, gives_holds, holds_of}
 use Rattle.invariants.proofs.Left.{Left, leave_all_leads, left_on, left_outside}
 use Rattle.invariants.proofs.Stepping.{Whole}
 use Rattle.laws.specs.Facts.{TargetFacts, Under}
@@ -25,7 +25,7 @@ use Rattle.laws.proofs.Sound.{SoundChart}
 use Rattle.laws.proofs.Steps.{Holds}
 use Rattle.laws.proofs.Tree.{under_has, under_trans}
 use Rattle.laws.proofs.Value.{SizedChart}
-use Rattle.laws.proofs.Ways.{owner-sound}
+use Rattle.laws.proofs.Ways.{owner_sound}
 use Rattle.meaning.specs.Chart.{Chart}
 use Rattle.meaning.specs.Compile.{block, block_to, code_acts, enter_code, exits_code, start_block, towards_code, visit_code}
 use Rattle.meaning.specs.Effects.{enter, perform_all}
@@ -36,33 +36,33 @@ use Rattle.meaning.specs.Reaction.{fire_to, leave_all}
 use Rattle.meaning.specs.Steps.{◌then◌, each}
 use Rattle.meaning.specs.Tree.{descendants, kind_of, scope, trans_row}
 use Rattle.meaning.specs.Widget.{Ctx, is_active}
-use Rattle.meaning.specs.declared.chart.Kind.TheVariants.{O as kind-o}
-use Rattle.meaning.specs.declared.chart.Owner.TheVariants.{TransitionOf as transition-of}
+use Rattle.meaning.specs.declared.chart.Kind.TheVariants.{O as kind_o}
+use Rattle.meaning.specs.declared.chart.Owner.TheVariants.{TransitionOf as transition_of}
 use Rattle.meaning.specs.declared.chart.Target.{Target}
 use Rattle.meaning.specs.declared.chart.Target.TheVariants.{History as history, InPlace as in_place, To as to}
 
 -- ---- from any context
 
 module _ (c : Chart) (a : ℤ) where
-  to-does : (t s d : ℕ) → Does (run_code c.vars a (block_to c t s (to d))) (fire_to c a t s (to d))
+  to_does : (t s d : ℕ) → Does (run_code c.vars a (block_to c t s (to d))) (fire_to c a t s (to d))
   unfolding block_to fire_to
-  to-does t s d =
-      append-does c.vars a (exits_code c (descendants c (scope c s d))) _ (leave_all c a (descendants c (scope c s d))) _
-      (exits-do c a (descendants c (scope c s d)))
-      (append-does c.vars a (code_acts c (transition-of t)) _ (perform_all c a (transition-of t)) _ (acts-do c a (transition-of t))
-      (visits-do c a (all_below c (towards c d) (scope c s d))))
+  to_does t s d =
+      append_does c.vars a (exits_code c (descendants c (scope c s d))) _ (leave_all c a (descendants c (scope c s d))) _
+      (exits_do c a (descendants c (scope c s d)))
+      (append_does c.vars a (code_acts c (transition_of t)) _ (perform_all c a (transition_of t)) _ (acts_do c a (transition_of t))
+      (visits_do c a (all_below c (towards c d) (scope c s d))))
 
-  in-place-does : (t s : ℕ) → Does (run_code c.vars a (block_to c t s in_place)) (fire_to c a t s in_place)
+  in_place_does : (t s : ℕ) → Does (run_code c.vars a (block_to c t s in_place)) (fire_to c a t s in_place)
   unfolding block_to fire_to
-  in-place-does t s = acts-do c a (transition-of t)
+  in_place_does t s = acts_do c a (transition_of t)
 
   -- the start block enters the root and its defaults
-  pub start-agrees : (k : Ctx) → run_block c.vars a (start_block c) k ≡ (enter c a 0 then each (visit c a) (all_below c by_defaults 0)) k
+  pub start_agrees : (k : Ctx) → run_block c.vars a (start_block c) k ≡ (enter c a 0 then each (visit c a) (all_below c by_defaults 0)) k
   unfolding start_block
-  start-agrees k = block-does c.vars a (enter_code c 0 ++ concat_map (visit_code c) (all_below c by_defaults 0))
+  start_agrees k = block_does c.vars a (enter_code c 0 ++ concat_map (visit_code c) (all_below c by_defaults 0))
       (enter c a 0 then each (visit c a) (all_below c by_defaults 0)) k
-      (append-does c.vars a (enter_code c 0) (concat_map (visit_code c) (all_below c by_defaults 0)) (enter c a 0)
-      (each (visit c a) (all_below c by_defaults 0)) (enter-does c a 0) (visits-do c a (all_below c by_defaults 0)) k)
+      (append_does c.vars a (enter_code c 0) (concat_map (visit_code c) (all_below c by_defaults 0)) (enter c a 0)
+      (each (visit c a) (all_below c by_defaults 0)) (enter_does c a 0) (visits_do c a (all_below c by_defaults 0)) k)
 
 -- ---- to a history
 
@@ -71,19 +71,19 @@ module _ (c : Chart) (r : SoundChart c) (z : SizedChart c) (a : ℤ) where
   abbrev Exited : (ℕ → Bool) → ℕ → Ctx → Type 0
   Exited on s j = Left c on s j.state × Good c j
 
-  exits-lead : (s : ℕ) → s < length c.states → (k : Ctx) → Whole c k
+  exits_lead : (s : ℕ) → s < length c.states → (k : Ctx) → Whole c k
       → Holds (leave_all c a (descendants c s) k) (Exited (is_active k.state) s)
-  exits-lead s l k w = holds_of (Exited (is_active k.state) s) (leave_all c a (descendants c s) k)
+  exits_lead s l k w = holds_of (Exited (is_active k.state) s) (leave_all c a (descendants c s) k)
       (gives_holds (λ j. Left c (is_active k.state) s j.state) (Good c) (leave_all c a (descendants c s) k)
       (leave_all_leads c r a s l k w.0.config w.0.lead (omega (arith, z.states, w.1.sized.slots)))
-      (leave-all-good c r z a s k w.1))
+      (leave_all_good c r z a s k w.1))
 
-  acts-lead : (t s : ℕ) (on : ℕ → Bool) (k : Ctx) → Exited on s k → Holds (perform_all c a (transition-of t) k) (Exited on s)
-  acts-lead t s on k w = holds_of (Exited on s) (perform_all c a (transition-of t) k)
-      (gives_holds (λ j. Left c on s j.state) (Good c) (perform_all c a (transition-of t) k)
-      (acts-keep (Left c on s) (left_outside c on s) c a (transition-of t) k w.0) (acts-good c r z a (transition-of t) k w.1))
+  acts_lead : (t s : ℕ) (on : ℕ → Bool) (k : Ctx) → Exited on s k → Holds (perform_all c a (transition_of t) k) (Exited on s)
+  acts_lead t s on k w = holds_of (Exited on s) (perform_all c a (transition_of t) k)
+      (gives_holds (λ j. Left c on s j.state) (Good c) (perform_all c a (transition_of t) k)
+      (acts_keep (Left c on s) (left_outside c on s) c a (transition_of t) k w.0) (acts_good c r z a (transition_of t) k w.1))
 
-  module _ (s b : ℕ) (ls : s < length c.states) (lb : b < length c.states) (kb : kind_of c b ≡ kind-o) (us : Under c s b) where
+  module _ (s b : ℕ) (ls : s < length c.states) (lb : b < length c.states) (kb : kind_of c b ≡ kind_o) (us : Under c s b) where
     abbrev visits : List Visit
     visits = all_below c (towards_owner c b) s
 
@@ -92,42 +92,42 @@ module _ (c : Chart) (r : SoundChart c) (z : SizedChart c) (a : ℤ) where
     unfolding left_on
     clear on x u = ap (λ t. cond t false (on x)) (under_has c r.ordered s x (under_trans us u))
 
-    enters-do : (on : ℕ → Bool)
+    enters_do : (on : ℕ → Bool)
         → DoesWhere (Exited on s) (run_code c.vars a (concat_map (towards_code c b) visits)) (each (visit_towards c a b) visits)
-    enters-do on k w =
-        let g = owner-sound c r b lb in
-        towards-do c r a b lb kb k.state.slots w.1.slots w.0.lead (suc s) visits (itinerary_rises c (towards_owner c b) g s ls)
-        (below-inside c r (towards_owner c b) g s ls) (left_on c on s) (λ m. clear on) k
+    enters_do on k w =
+        let g = owner_sound c r b lb in
+        towards_do c r a b lb kb k.state.slots w.1.slots w.0.lead (suc s) visits (itinerary_rises c (towards_owner c b) g s ls)
+        (below_inside c r (towards_owner c b) g s ls) (left_on c on s) (λ m. clear on) k
         (record { marks = w.0.marks; slots = refl; wide = omega (arith, z.states, w.1.sized.active) })
 
     -- the exits, the transition's actions, the entries
-    history-does : (t : ℕ) → DoesWhere (Whole c)
-        (run_code c.vars a (exits_code c (descendants c s) ++ (code_acts c (transition-of t) ++ concat_map (towards_code c b) visits)))
-        (leave_all c a (descendants c s) then perform_all c a (transition-of t) then each (visit_towards c a b) visits)
-    history-does t k w =
-        append-does-where c.vars a (λ j. j ≡ k) (Exited on s) (exits_code c (descendants c s)) _ (leave_all c a (descendants c s)) _
-        (λ j e. exits-do c a (descendants c s) j) (λ j e. rw e (exits-lead s ls k w))
-        (append-does-where c.vars a (Exited on s) (Exited on s) (code_acts c (transition-of t)) _ (perform_all c a (transition-of t)) _
-        (λ j h. acts-do c a (transition-of t) j) (acts-lead t s on) (enters-do on)) k refl
+    history_does : (t : ℕ) → DoesWhere (Whole c)
+        (run_code c.vars a (exits_code c (descendants c s) ++ (code_acts c (transition_of t) ++ concat_map (towards_code c b) visits)))
+        (leave_all c a (descendants c s) then perform_all c a (transition_of t) then each (visit_towards c a b) visits)
+    history_does t k w =
+        append_does_where c.vars a (λ j. j ≡ k) (Exited on s) (exits_code c (descendants c s)) _ (leave_all c a (descendants c s)) _
+        (λ j e. exits_do c a (descendants c s) j) (λ j e. rw e (exits_lead s ls k w))
+        (append_does_where c.vars a (Exited on s) (Exited on s) (code_acts c (transition_of t)) _ (perform_all c a (transition_of t)) _
+        (λ j h. acts_do c a (transition_of t) j) (acts_lead t s on) (enters_do on)) k refl
       where
         on : ℕ → Bool
         on = is_active k.state
 
   -- ---- the block of a transition
 
-  block-to-does : (t s : ℕ) (x : Target) → TargetFacts c s x
+  block_to_does : (t s : ℕ) (x : Target) → TargetFacts c s x
       → DoesWhere (Whole c) (run_code c.vars a (block_to c t s x)) (fire_to c a t s x)
   unfolding block_to fire_to
-  block-to-does t s (to d) f k w = to-does c a t s d k
-  block-to-does t s (history b) f k w =
+  block_to_does t s (to d) f k w = to_does c a t s d k
+  block_to_does t s (history b) f k w =
       let q = scope_facts c r s b f.3 f.1 in
-      history-does (scope c s b) b q.inside f.0 f.2 q.above_target t k w
-  block-to-does t s in_place f k w = in-place-does c a t s k
+      history_does (scope c s b) b q.inside f.0 f.2 q.above_target t k w
+  block_to_does t s in_place f k w = in_place_does c a t s k
 
   -- the block does what the firing does, from all that is kept between firings
-  pub block-agrees : (t : ℕ) → t < length c.transitions → (k : Ctx) → Whole c k
+  pub block_agrees : (t : ℕ) → t < length c.transitions → (k : Ctx) → Whole c k
       → run_block c.vars a (block c t) k ≡ fire_to c a t (trans_row c t).source (trans_row c t).target k
   unfolding block
-  block-agrees t l k w = block-does c.vars a (block_to c t (trans_row c t).source (trans_row c t).target)
+  block_agrees t l k w = block_does c.vars a (block_to c t (trans_row c t).source (trans_row c t).target)
       (fire_to c a t (trans_row c t).source (trans_row c t).target) k
-      (block-to-does t (trans_row c t).source (trans_row c t).target (r.transitions t l).target k w)
+      (block_to_does t (trans_row c t).source (trans_row c t).target (r.transitions t l).target k w)

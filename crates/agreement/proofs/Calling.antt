@@ -11,14 +11,14 @@ use lib.ListN.{drop, get_or, length, take}
 use lib.Seq.{get_or-drop, get_or-take, length-take-le, take-append_seam}
 use lib.IntN.{negsuc, pos, ℤ}
 use borrow.Author.Tests.{eq-eqb, lt-ltb}
-use Rattle.agreement.proofs.Stepping.{BlocksFire, settle-agrees, steps-agree}
+use Rattle.agreement.proofs.Stepping.{BlocksFire, settle_agrees, steps_agree}
 use Rattle.invariants.specs.CallLists.{Call, make, to_discard, to_post, to_run, to_start}
 use Rattle.invariants.proofs.CallLists.{Lived}
-use Rattle.invariants.proofs.Calls.{front-stands}
+use Rattle.invariants.proofs.Calls.{front_stands}
 use Rattle.invariants.proofs.Keeps.{holds_of}
-use Rattle.invariants.proofs.Own.{OwnState, own-whole, start-enters}
+use Rattle.invariants.proofs.Own.{OwnState, own_whole, start_enters}
 use Rattle.invariants.specs.Good.{SlotOk, SlotsOk}
-use Rattle.invariants.proofs.Stepping.{Whole, step-stands}
+use Rattle.invariants.proofs.Stepping.{Whole, step_stands}
 use Rattle.laws.proofs.Lists.{and_both, and_left, and_right, at_every}
 use Rattle.laws.proofs.Rules.{o_inside}
 use Rattle.laws.proofs.Sound.{SoundChart}
@@ -83,9 +83,9 @@ entering c k = run_block c.vars (pos 0) (start_block c) k
     ≡ bind (enter c (pos 0) 0 k) (each (visit c (pos 0)) (all_below c by_defaults 0))
 
 module _ (c : Chart) (r : SoundChart c) (z : SizedChart c) where
-  own-passes : (u : State) → OwnState c u → plan_own (length c.states) c.vars c.events u ≡ true
+  own_passes : (u : State) → OwnState c u → plan_own (length c.states) c.vars c.events u ≡ true
   unfolding plan_own own legal begin
-  own-passes u h =
+  own_passes u h =
       let q = queue_fits c.events u.queue in
       let s = slots_fit c u && q in
       let v = values_fit c.vars u.vars && s in
@@ -93,7 +93,7 @@ module _ (c : Chart) (r : SoundChart c) (z : SizedChart c) where
       let e1 = and_right (legal c u) m h.is_own in
       let e2 = and_right (marks_fit (length c.states) u) v e1 in
       let e3 = and_right (values_fit c.vars u.vars) s e2 in
-      let w = own-whole c r z u 0 h in
+      let w = own_whole c r z u 0 h in
       and_both (is_active u 0) _ (and_left (is_active u 0) (every (legal_at c u) (all_states c)) (and_left (legal c u) m h.is_own))
       (and_both (marks_fit (length c.states) u) _ (and_left (marks_fit (length c.states) u) v e1)
       (and_both (values_fit c.vars u.vars) _ (and_left (values_fit c.vars u.vars) s e2)
@@ -102,26 +102,26 @@ module _ (c : Chart) (r : SoundChart c) (z : SizedChart c) where
 
   -- ---- the tests 7 and 6
 
-  tests-alike : (u : State) → Lived c u → (k : Ctx) → plan_tests (plan_of c) u k ≡ tests c u k
+  tests_alike : (u : State) → Lived c u → (k : Ctx) → plan_tests (plan_of c) u k ≡ tests c u k
   unfolding plan_tests tests ◌then◌ bind require plan_of
-  tests-alike u (inl e) k =
+  tests_alike u (inl e) k =
       ap (λ b. bind (require 7 b k) (require 6 (plan_own (length c.states) c.vars c.events u))) e
       ∙ sym (ap (λ b. bind (require 7 b k) (require 6 (own c u))) e)
-  tests-alike u (inr h) k = ap (λ b. bind (require 7 u.started k) (require 6 b)) (own-passes u h ∙ sym h.is_own)
+  tests_alike u (inr h) k = ap (λ b. bind (require 7 u.started k) (require 6 b)) (own_passes u h ∙ sym h.is_own)
 
   -- what passes them is its own, and they change nothing
-  tests-hold : (u : State) → Lived c u → (k : Ctx) → Holds (tests c u k) (λ j. (j ≡ k) × OwnState c u)
+  tests_hold : (u : State) → Lived c u → (k : Ctx) → Holds (tests c u k) (λ j. (j ≡ k) × OwnState c u)
   unfolding tests ◌then◌ bind require
-  tests-hold u (inl e) k = subst (λ b. Holds (bind (require 7 b k) (require 6 (own c u))) (λ j. (j ≡ k) × OwnState c u)) (sym e) tt
-  tests-hold u (inr h) k = subst (λ b. Holds (bind (require 7 b k) (require 6 (own c u))) (λ j. (j ≡ k) × OwnState c u)) (sym h.started)
+  tests_hold u (inl e) k = subst (λ b. Holds (bind (require 7 b k) (require 6 (own c u))) (λ j. (j ≡ k) × OwnState c u)) (sym e) tt
+  tests_hold u (inr h) k = subst (λ b. Holds (bind (require 7 b k) (require 6 (own c u))) (λ j. (j ≡ k) × OwnState c u)) (sym h.started)
       (subst (λ b. Holds (require 6 b k) (λ j. (j ≡ k) × OwnState c u)) (sym h.is_own) (refl, h))
 
   -- so what follows them need only agree from a state of the chart's own
-  tested-alike : (u : State) → Lived c u → (F G : Step Ctx) (k : Ctx) → (OwnState c u → F k ≡ G k)
+  tested_alike : (u : State) → Lived c u → (F G : Step Ctx) (k : Ctx) → (OwnState c u → F k ≡ G k)
       → outcome u ((plan_tests (plan_of c) u then F) k) ≡ outcome u ((tests c u then G) k)
   unfolding ◌then◌
-  tested-alike u l F G k h = ap (outcome u) (ap (λ x. bind x F) (tests-alike u l k)
-      ∙ bind_cong_where (λ j. (j ≡ k) × OwnState c u) (tests c u k) F G (tests-hold u l k)
+  tested_alike u l F G k h = ap (outcome u) (ap (λ x. bind x F) (tests_alike u l k)
+      ∙ bind_cong_where (λ j. (j ≡ k) × OwnState c u) (tests c u k) F G (tests_hold u l k)
       (λ j q. subst (λ i. F i ≡ G i) (sym q.0) (h q.1)))
 
   module _ (fires : BlocksFire c) (enters : (k : Ctx) → entering c k) where
@@ -131,30 +131,30 @@ module _ (c : Chart) (r : SoundChart c) (z : SizedChart c) where
     unfolding code_of
     start_code = take-append_seam (start_block c) (concat_map (block c) (head_order c))
 
-    pub start-agrees : (u : State) (n : ℕ) → plan_start (plan_of c) u n ≡ start c u n
+    pub start_agrees : (u : State) (n : ℕ) → plan_start (plan_of c) u n ≡ start c u n
     unfolding plan_start start plan_start_steps start_steps plan_of fresh ◌then◌
-    start-agrees u n = ap (outcome u)
+    start_agrees u n = ap (outcome u)
         (ap (λ b. bind (run_block c.vars (pos 0) b k) (plan_settle (plan_of c))) start_code
         ∙ ap (λ x. bind x (plan_settle (plan_of c))) (enters k)
         ∙ bind_cong_where (Whole c) (bind (enter c (pos 0) 0 k) (each (visit c (pos 0)) (all_below c by_defaults 0)))
         (plan_settle (plan_of c)) (settle c)
-        (holds_of (Whole c) (bind (enter c (pos 0) 0 k) (each (visit c (pos 0)) (all_below c by_defaults 0))) (start-enters c r z n))
-        (settle-agrees c r z fires))
+        (holds_of (Whole c) (bind (enter c (pos 0) 0 k) (each (visit c (pos 0)) (all_below c by_defaults 0))) (start_enters c r z n))
+        (settle_agrees c r z fires))
       where
         k : Ctx
         k = begin (fresh_by c.vars) n
 
     -- ---- run
 
-    react-agrees : (u : State) (n : ℕ) → OwnState c u
+    react_agrees : (u : State) (n : ℕ) → OwnState c u
         → plan_react (plan_of c) (removed u.queue) (begin u n) ≡ react c (removed u.queue) (begin u n)
     unfolding plan_react react ◌then◌
-    react-agrees u n h = bind_cong_where (Whole c) (take_front q (begin u n)) (plan_step (plan_of c) e a then plan_settle (plan_of c))
+    react_agrees u n h = bind_cong_where (Whole c) (take_front q (begin u n)) (plan_step (plan_of c) e a then plan_settle (plan_of c))
         (step c e a then settle c)
-        (holds_of (Whole c) (take_front q (begin u n)) (front-stands c r z u h n))
-        (λ j w. ap (λ x. bind x (plan_settle (plan_of c))) (steps-agree c r z fires e a j w)
+        (holds_of (Whole c) (take_front q (begin u n)) (front_stands c r z u h n))
+        (λ j w. ap (λ x. bind x (plan_settle (plan_of c))) (steps_agree c r z fires e a j w)
         ∙ bind_cong_where (Whole c) (step c e a j) (plan_settle (plan_of c)) (settle c)
-        (holds_of (Whole c) (step c e a j) (step-stands c r z e a j w)) (settle-agrees c r z fires))
+        (holds_of (Whole c) (step c e a j) (step_stands c r z e a j w)) (settle_agrees c r z fires))
       where
         q : Removed
         q = removed u.queue
@@ -167,12 +167,12 @@ module _ (c : Chart) (r : SoundChart c) (z : SizedChart c) where
 
     -- ---- the four calls
 
-    pub calls-agree : (x : Call) (u : State) → Lived c u → plan_make (plan_of c) x u ≡ make c x u
+    pub calls_agree : (x : Call) (u : State) → Lived c u → plan_make (plan_of c) x u ≡ make c x u
     unfolding plan_make make plan_run run plan_post post plan_discard discard plan_of
-    calls-agree (to_start n) u l = start-agrees u n
-    calls-agree (to_run n) u l =
-        tested-alike u l (plan_react (plan_of c) (removed u.queue)) (react c (removed u.queue)) (begin u n) (react-agrees u n)
-    calls-agree (to_post e a) u l =
-        let F : Step Ctx = require 10 (event_fits c.events e a) then enqueue e a in tested-alike u l F F (begin u 0) (λ h. refl)
-    calls-agree to_discard u l =
-        tested-alike u l (take_front (removed u.queue)) (take_front (removed u.queue)) (begin u 0) (λ h. refl)
+    calls_agree (to_start n) u l = start_agrees u n
+    calls_agree (to_run n) u l =
+        tested_alike u l (plan_react (plan_of c) (removed u.queue)) (react c (removed u.queue)) (begin u n) (react_agrees u n)
+    calls_agree (to_post e a) u l =
+        let F : Step Ctx = require 10 (event_fits c.events e a) then enqueue e a in tested_alike u l F F (begin u 0) (λ h. refl)
+    calls_agree to_discard u l =
+        tested_alike u l (take_front (removed u.queue)) (take_front (removed u.queue)) (begin u 0) (λ h. refl)

@@ -4,7 +4,7 @@ use mathlib.Core.Path.{◌≡◌}
 use Prim.Native.Nat.{ℕ}
 use mathlib.Core.List.{List}
 use lib.IntN.{ℤ}
-use Rattle.agreement.proofs.Entered.{visits-do}
+use Rattle.agreement.proofs.Entered.{visits_do}
 use Rattle.agreement.proofs.Running.{Does}
 use Rattle.invariants.proofs.Keeps.{Keeps, Outside, each_keeps, visit_leads}
 use Rattle.meaning.specs.Chart.{Chart}
@@ -18,7 +18,7 @@ use Rattle.meaning.specs.declared.State.{State}
 pub default_arm_does : (c : Chart) (a : ℤ) (b : ℕ)
     → Does (run_code c.vars a (default_arm c b)) (each (visit c a) (all_below c by_defaults b))
 unfolding default_arm
-default_arm_does c a b = visits-do c a (all_below c by_defaults b)
+default_arm_does c a b = visits_do c a (all_below c by_defaults b)
 
 -- ---- entering keeps the slots
 

@@ -31,13 +31,13 @@ pub data HeadsFor (c : Chart) (code : List Instr) : List Head → List ℕ → T
 
 module _ (c : Chart) (code : List Instr) where
   -- two tests that agree on a head and its transition keep heads and their transitions
-  pub heads-kept : (p : Head → Bool) (q : ℕ → Bool) → ((h : Head) (t : ℕ) → HeadFor c code h t → p h ≡ q t)
+  pub heads_kept : (p : Head → Bool) (q : ℕ → Bool) → ((h : Head) (t : ℕ) → HeadFor c code h t → p h ≡ q t)
       → {hs : List Head} {ts : List ℕ} → HeadsFor c code hs ts → HeadsFor c code (keep p hs) (keep q ts)
   unfolding keep
-  heads-kept p q f no_heads = no_heads
-  heads-kept p q f (one_head {h} {t} {hs} {ts} x xs) = subst
+  heads_kept p q f no_heads = no_heads
+  heads_kept p q f (one_head {h} {t} {hs} {ts} x xs) = subst
       (λ b. HeadsFor c code (cond b (h ∷ keep p hs) (keep p hs)) (cond (q t) (t ∷ keep q ts) (keep q ts)))
-      (sym (f h t x)) (go (q t) (heads-kept p q f xs))
+      (sym (f h t x)) (go (q t) (heads_kept p q f xs))
     where
       go : (b : Bool) → HeadsFor c code (keep p hs) (keep q ts)
           → HeadsFor c code (cond b (h ∷ keep p hs) (keep p hs)) (cond b (t ∷ keep q ts) (keep q ts))
@@ -45,14 +45,14 @@ module _ (c : Chart) (code : List Instr) where
       go false ih = ih
 
   -- the blocks follow one another behind what stands before them
-  pub heads-stand : (pre : List Instr) (ts : List ℕ) → Each (λ t. t < length c.transitions) ts → code ≡ pre ++ concat_map (block c) ts
+  pub heads_stand : (pre : List Instr) (ts : List ℕ) → Each (λ t. t < length c.transitions) ts → code ≡ pre ++ concat_map (block c) ts
       → HeadsFor c code (heads_from c (length pre) ts) ts
   unfolding heads_from concat_map head_of
-  heads-stand pre [] none_left e = no_heads
-  heads-stand pre (t ∷ ts) (one_more l ls) e = one_head
+  heads_stand pre [] none_left e = no_heads
+  heads_stand pre (t ∷ ts) (one_more l ls) e = one_head
       (record { inside = l; says = refl; its_block = its })
       (subst (λ n. HeadsFor c code (heads_from c n ts) ts) (length-append pre (block c t))
-      (heads-stand (pre ++ block c t) ts ls (e ∙ sym (append_assoc pre (block c t) (concat_map (block c) ts)))))
+      (heads_stand (pre ++ block c t) ts ls (e ∙ sym (append_assoc pre (block c t) (concat_map (block c) ts)))))
     where
       its : take (length (block c t)) (drop (length pre) code) ≡ block c t
       its = ap (λ l. take (length (block c t)) (drop (length pre) l)) e
@@ -62,6 +62,6 @@ module _ (c : Chart) (code : List Instr) where
 -- the heads of the compiled plan are those of all transitions, in choosing order
 pub plan_heads : (c : Chart) → HeadsFor c (code_of c) (plan_of c).heads (head_order c)
 unfolding plan_of code_of head_order all_transitions
-plan_heads c = heads-stand c (code_of c) (start_block c) (head_order c)
+plan_heads c = heads_stand c (code_of c) (start_block c) (head_order c)
     (ordered_each (λ t. t < length c.transitions) c (all_transitions c)
     (each_range 0 (length c.transitions) (length c.transitions) (omega arith))) refl

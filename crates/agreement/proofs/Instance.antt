@@ -5,9 +5,9 @@ use native.Mathlib.Omega.{arith}
 use mathlib.Core.Bool.{Bool, false, true}
 use lib.ListN.{length}
 use lib.IntN.{pos}
-use Rattle.agreement.proofs.Blocks.{block-agrees}
+use Rattle.agreement.proofs.Blocks.{block_agrees}
 use Rattle.invariants.proofs.Instance.{own_K, rules_K, sized_K}
-use Rattle.invariants.proofs.Own.{OwnState, own-whole}
+use Rattle.invariants.proofs.Own.{OwnState, own_whole}
 use Rattle.invariants.proofs.Stepping.{Whole}
 use Rattle.laws.proofs.Sound.{sound_chart}
 use Rattle.meaning.specs.Calls.{start, unstarted}
@@ -25,7 +25,7 @@ abbrev started_K : Ctx
 started_K = begin (start chart_K unstarted 3000).after 3000
 
 whole_K : Whole chart_K started_K
-whole_K = own-whole chart_K (sound_chart chart_K rules_K) sized_K (start chart_K unstarted 3000).after 3000 own_K
+whole_K = own_whole chart_K (sound_chart chart_K rules_K) sized_K (start chart_K unstarted 3000).after 3000 own_K
 
 -- the same, and the slot of state 2 holds its child 4
 abbrev stored_K : Ctx
@@ -36,7 +36,7 @@ unfolding all_open
 own_stored_K = record { sized = record { active = refl; slots = refl; vars = refl; items = refl }; started = refl; is_own = refl }
 
 whole_stored_K : Whole chart_K stored_K
-whole_stored_K = own-whole chart_K (sound_chart chart_K rules_K) sized_K (set_slot 2 4 (start chart_K unstarted 3000).after) 3000
+whole_stored_K = own_whole chart_K (sound_chart chart_K rules_K) sized_K (set_slot 2 4 (start chart_K unstarted 3000).after) 3000
     own_stored_K
 
 first_of_three : 0 < length chart_K.transitions
@@ -50,8 +50,8 @@ AgreesK k = run_block chart_K.vars (pos 0) (block chart_K 0) k ≡ fire_to chart
 
 pub history_K : AgreesK started_K × AgreesK stored_K
 history_K = (
-  block-agrees chart_K (sound_chart chart_K rules_K) sized_K (pos 0) 0 first_of_three started_K whole_K,
-  block-agrees chart_K (sound_chart chart_K rules_K) sized_K (pos 0) 0 first_of_three stored_K whole_stored_K,
+  block_agrees chart_K (sound_chart chart_K rules_K) sized_K (pos 0) 0 first_of_three started_K whole_K,
+  block_agrees chart_K (sound_chart chart_K rules_K) sized_K (pos 0) 0 first_of_three stored_K whole_stored_K,
 )
 
 -- and each is done: the one enters state 3, the other state 4

@@ -7,7 +7,7 @@ use lib.IntN.{ℤ}
 use Rattle.agreement.proofs.CompiledCalls.{one_call}
 use Rattle.agreement.specs.PlanCalls.{Made, Runner, by_chart, by_plan, machine_make, made_by, mixed_outcomes, outcomes}
 use Rattle.invariants.specs.CallLists.{Call, make_of}
-use Rattle.invariants.proofs.CallLists.{Lived, make-of-lives}
+use Rattle.invariants.proofs.CallLists.{Lived, make_of_lives}
 use Rattle.meaning.specs.Compile.{compile_of, plan_lent}
 use Rattle.meaning.specs.Text.{answer_of}
 use Rattle.meaning.specs.Value.{chart_of}
@@ -22,17 +22,17 @@ module _ (v : List ℤ) (n : ℕ) (done : (answer_of (compile_of v n)).number �
   lists_agree [] u l = refl
   lists_agree (x ∷ xs) u l =
       ap (λ o. o ∷ outcomes (machine_make plan) xs o.after) (one_call v n done x u l)
-      ∙ ap (λ os. make_of v x u ∷ os) (lists_agree xs (make_of v x u).after (make-of-lives v x u l).lived)
+      ∙ ap (λ os. make_of v x u ∷ os) (lists_agree xs (make_of v x u).after (make_of_lives v x u l).lived)
 
-  either-agrees : (r : Runner) (x : Call) (u : State) → Lived (chart_of v) u → made_by v plan r x u ≡ make_of v x u
+  either_agrees : (r : Runner) (x : Call) (u : State) → Lived (chart_of v) u → made_by v plan r x u ≡ make_of v x u
   unfolding made_by
-  either-agrees by_chart x u l = refl
-  either-agrees by_plan x u l = one_call v n done x u l
+  either_agrees by_chart x u l = refl
+  either_agrees by_plan x u l = one_call v n done x u l
 
-  pub mixed-agree : (xs : List Made) (u : State) → Lived (chart_of v) u
+  pub mixed_agree : (xs : List Made) (u : State) → Lived (chart_of v) u
       → mixed_outcomes v plan xs u ≡ outcomes (make_of v) (map (λ x. x.call) xs) u
   unfolding outcomes mixed_outcomes
-  mixed-agree [] u l = refl
-  mixed-agree (x ∷ xs) u l =
-      ap (λ o. o ∷ mixed_outcomes v plan xs o.after) (either-agrees x.runner x.call u l)
-      ∙ ap (λ os. make_of v x.call u ∷ os) (mixed-agree xs (make_of v x.call u).after (make-of-lives v x.call u l).lived)
+  mixed_agree [] u l = refl
+  mixed_agree (x ∷ xs) u l =
+      ap (λ o. o ∷ mixed_outcomes v plan xs o.after) (either_agrees x.runner x.call u l)
+      ∙ ap (λ os. make_of v x.call u ∷ os) (mixed_agree xs (make_of v x.call u).after (make_of_lives v x.call u l).lived)

@@ -14,27 +14,27 @@ use Rattle.meaning.specs.Reaction.{meets}
 -- ---- two ranges, neither of them empty
 
 module _ (a n b m : ℕ) where
-  meet-at : (x : ℕ) → a ≤ x → x < a + suc n → b ≤ x → x < b + suc m → meets (from a (suc n)) (from b (suc m)) ≡ true
+  meet_at : (x : ℕ) → a ≤ x → x < a + suc n → b ≤ x → x < b + suc m → meets (from a (suc n)) (from b (suc m)) ≡ true
   unfolding meets
-  meet-at x i j k l = exists_in (λ y. has y (from b (suc m))) x a (suc n) i j (has_in x b (suc m) k l)
+  meet_at x i j k l = exists_in (λ y. has y (from b (suc m))) x a (suc n) i j (has_in x b (suc m) k l)
 
-  meet-never : (b + m < a) ⊎ (a + n < b) → meets (from a (suc n)) (from b (suc m)) ≡ false
+  meet_never : (b + m < a) ⊎ (a + n < b) → meets (from a (suc n)) (from b (suc m)) ≡ false
   unfolding meets
-  meet-never o = exists_none (λ y. has y (from b (suc m))) a (suc n)
+  meet_never o = exists_none (λ y. has y (from b (suc m))) a (suc n)
       (λ x i j. has_out x b (suc m) (⊎_elim (λ q. inr (omega arith)) (λ q. inl (omega arith)) o))
 
   both : a ≤ b + m → b ≤ a + n → meets (from a (suc n)) (from b (suc m)) ≡ true
   both p q = ⊎_elim
-      (λ l. meet-at b l (omega arith) (omega arith) (omega arith))
-      (λ l. meet-at a (omega arith) (omega arith) (omega arith) (omega arith))
+      (λ l. meet_at b l (omega arith) (omega arith) (omega arith))
+      (λ l. meet_at a (omega arith) (omega arith) (omega arith) (omega arith))
       (le_or_lt a b)
 
   -- they have a number in common where each begins no later than the other ends
-  pub ranges-meet : meets (from a (suc n)) (from b (suc m)) ≡ (leb a (b + m) && leb b (a + n))
-  ranges-meet = ⊎_elim
+  pub ranges_meet : meets (from a (suc n)) (from b (suc m)) ≡ (leb a (b + m) && leb b (a + n))
+  ranges_meet = ⊎_elim
       (λ p. ⊎_elim
       (λ q. both p q ∙ sym (rw (le-leb a (b + m) p, le-leb b (a + n) q) refl))
-      (λ q. meet-never (inr q) ∙ sym (rw (le-leb a (b + m) p, lt-leb b (a + n) q) refl))
+      (λ q. meet_never (inr q) ∙ sym (rw (le-leb a (b + m) p, lt-leb b (a + n) q) refl))
       (le_or_lt b (a + n)))
-      (λ p. meet-never (inl p) ∙ sym (rw (lt-leb a (b + m) p) refl))
+      (λ p. meet_never (inl p) ∙ sym (rw (lt-leb a (b + m) p) refl))
       (le_or_lt a (b + m))

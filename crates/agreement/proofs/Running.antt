@@ -45,9 +45,9 @@ each_does F G h (x ∷ xs) k = rw (h x k) (bind_does_all (G x k) (each F xs) (ea
 module _ (vs : List VarRow) (a : ℤ) where
   -- ---- pieces of code
 
-  pub run-append : (p q : List Instr) (m : Mach) → run_code vs a (p ++ q) m ≡ bind (run_code vs a p m) (run_code vs a q)
+  pub run_append : (p q : List Instr) (m : Mach) → run_code vs a (p ++ q) m ≡ bind (run_code vs a p m) (run_code vs a q)
   unfolding run_code
-  run-append p q m = each_append (exec vs a) p q m
+  run_append p q m = each_append (exec vs a) p q m
 
   -- a skip over exactly the length of a piece passes over that piece
   pub passed_over : (p : List Instr) (k : Ctx) → run_code vs a p (passing (length p) k) ≡ ok (passing 0 k)
@@ -56,39 +56,39 @@ module _ (vs : List VarRow) (a : ℤ) where
   passed_over (i ∷ p) k = passed_over p k
 
   -- one piece after another
-  pub append-does-where : (P Q : Ctx → Type 0) (p q : List Instr) (F G : Step Ctx) → DoesWhere P (run_code vs a p) F
+  pub append_does_where : (P Q : Ctx → Type 0) (p q : List Instr) (F G : Step Ctx) → DoesWhere P (run_code vs a p) F
       → ((k : Ctx) → P k → Holds (F k) Q)
       → DoesWhere Q (run_code vs a q) G → DoesWhere P (run_code vs a (p ++ q)) (F then G)
   unfolding ◌then◌
-  append-does-where P Q p q F G dp l dq k h = run-append p q (passing 0 k) ∙ rw (dp k h) (bind_does Q (F k) (run_code vs a q) G (l k h) dq)
+  append_does_where P Q p q F G dp l dq k h = run_append p q (passing 0 k) ∙ rw (dp k h) (bind_does Q (F k) (run_code vs a q) G (l k h) dq)
 
-  pub append-does : (p q : List Instr) (F G : Step Ctx) → Does (run_code vs a p) F → Does (run_code vs a q) G
+  pub append_does : (p q : List Instr) (F G : Step Ctx) → Does (run_code vs a p) F → Does (run_code vs a q) G
       → Does (run_code vs a (p ++ q)) (F then G)
   unfolding ◌then◌
-  append-does p q F G dp dq k = run-append p q (passing 0 k) ∙ rw (dp k) (bind_does_all (F k) (run_code vs a q) G dq)
+  append_does p q F G dp dq k = run_append p q (passing 0 k) ∙ rw (dp k) (bind_does_all (F k) (run_code vs a q) G dq)
 
   -- one instruction, then a piece
-  pub cons-does : (i : Instr) (p : List Instr) (F G : Step Ctx) → Does (exec vs a i) F → Does (run_code vs a p) G
+  pub cons_does : (i : Instr) (p : List Instr) (F G : Step Ctx) → Does (exec vs a i) F → Does (run_code vs a p) G
       → Does (run_code vs a (i ∷ p)) (F then G)
   unfolding run_code ◌then◌ each
-  cons-does i p F G di dp k = rw (di k) (bind_does_all (F k) (each (exec vs a) p) G dp)
+  cons_does i p F G di dp k = rw (di k) (bind_does_all (F k) (each (exec vs a) p) G dp)
 
   -- a test in front of a piece that passes over all of it
-  pub test-does : (i : Instr) (p : List Instr) (b : Ctx → Bool) (G : Step Ctx)
+  pub test_does : (i : Instr) (p : List Instr) (b : Ctx → Bool) (G : Step Ctx)
       → ((k : Ctx) → exec vs a i (passing 0 k) ≡ on_if (b k) (length p) k)
       → Does (run_code vs a p) G → Does (run_code vs a (i ∷ p)) (look (λ k. when (b k) G))
   unfolding run_code each look bind on_if when go_on
-  test-does i p b G di dp k = rw (di k) (go (b k))
+  test_does i p b G di dp k = rw (di k) (go (b k))
     where
       go : (t : Bool) → bind (on_if t (length p) k) (run_code vs a p) ≡ go_on (when t G k)
       go true = dp k
       go false = passed_over p k
 
   -- a piece for each element of a list
-  pub code-does : {A : Type 0} (code : A → List Instr) (G : A → Step Ctx) → ((x : A) → Does (run_code vs a (code x)) (G x))
+  pub code_does : {A : Type 0} (code : A → List Instr) (G : A → Step Ctx) → ((x : A) → Does (run_code vs a (code x)) (G x))
       → (xs : List A) → Does (run_code vs a (concat_map code xs)) (each G xs)
   unfolding run_code
-  code-does code G h xs k = each_concat_map (exec vs a) code xs (passing 0 k) ∙ each_does (λ x. each (exec vs a) (code x)) G h xs k
+  code_does code G h xs k = each_concat_map (exec vs a) code xs (passing 0 k) ∙ each_does (λ x. each (exec vs a) (code x)) G h xs k
 
   -- ---- blocks
 
@@ -98,20 +98,20 @@ module _ (vs : List VarRow) (a : ℤ) where
   end_of (refuse n) = refl
 
   -- code that does what F does, run as a block
-  pub block-does : (code : List Instr) (F : Step Ctx) (k : Ctx) → run_code vs a code (passing 0 k) ≡ go_on (F k)
+  pub block_does : (code : List Instr) (F : Step Ctx) (k : Ctx) → run_code vs a code (passing 0 k) ≡ go_on (F k)
       → run_block vs a code k ≡ F k
   unfolding run_block
-  block-does code F k d = rw d (end_of (F k))
+  block_does code F k d = rw d (end_of (F k))
 
   -- a closed piece: begun with nothing to pass over, it ends so
   abbrev pub Closed : List Instr → Type 0
   Closed p = Does (run_code vs a p) (run_block vs a p)
 
-  pub does-closed : (p : List Instr) (F : Step Ctx) → Does (run_code vs a p) F → Closed p
-  does-closed p F d k = d k ∙ ap go_on (sym (block-does p F k (d k)))
+  pub does_closed : (p : List Instr) (F : Step Ctx) → Does (run_code vs a p) F → Closed p
+  does_closed p F d k = d k ∙ ap go_on (sym (block_does p F k (d k)))
 
   -- closed pieces after one another, run as one block
-  pub closed-append : (p q : List Instr) → Closed p → Closed q → (k : Ctx)
+  pub closed_append : (p q : List Instr) → Closed p → Closed q → (k : Ctx)
       → run_block vs a (p ++ q) k ≡ (run_block vs a p then run_block vs a q) k
-  closed-append p q cp cq k = block-does (p ++ q) (run_block vs a p then run_block vs a q) k
-      (append-does p q (run_block vs a p) (run_block vs a q) cp cq k)
+  closed_append p q cp cq k = block_does (p ++ q) (run_block vs a p then run_block vs a q) k
+      (append_does p q (run_block vs a p) (run_block vs a q) cp cq k)

@@ -11,8 +11,8 @@ use mathlib.Core.List.{List, ◌∷◌}
 use lib.ListN.{length, length-set}
 use lib.Seq.{get_or-set_other, get_or-set_same}
 use lib.IntN.{ℤ}
-use Rattle.agreement.proofs.Entered.{enter-does}
-use Rattle.agreement.proofs.Running.{Does, code-does, test-does}
+use Rattle.agreement.proofs.Entered.{enter_does}
+use Rattle.agreement.proofs.Running.{Does, code_does, test_does}
 use Rattle.invariants.proofs.Keeps.{Outside, enter_leads, holds_of}
 use Rattle.invariants.proofs.Slots.{slot_at}
 use Rattle.laws.proofs.Descent.{Reached, picks}
@@ -29,7 +29,7 @@ use Rattle.meaning.specs.Tree.{descendants, kind_of, parent_of}
 use Rattle.meaning.specs.Widget.{Ctx, is_active, set_active, set_queue, set_value, slot}
 use Rattle.meaning.specs.declared.State.{State}
 use Rattle.meaning.specs.declared.chart.Kind.{Kind}
-use Rattle.meaning.specs.declared.chart.Kind.TheVariants.{A as kind-a, B as kind-b, O as kind-o}
+use Rattle.meaning.specs.declared.chart.Kind.TheVariants.{A as kind_a, B as kind_b, O as kind_o}
 use Rattle.numbers.specs.declared.Place.{Place as Slot}
 use Rattle.numbers.specs.declared.Place.TheVariants.{At as holds, Empty as empty}
 
@@ -37,31 +37,31 @@ use Rattle.numbers.specs.declared.Place.TheVariants.{At as holds, Empty as empty
 
 -- d is entered if it is what the slot of its o parent p holds, or if p is no o state
 unfoldable pub held_step : Chart → ℤ → Kind → ℕ → ℕ → Step Ctx
-held_step c a kind-o p d = look (λ k. when (holds_it d (slot k.state p)) (enter c a d))
-held_step c a kind-a p d = enter c a d
-held_step c a kind-b p d = enter c a d
+held_step c a kind_o p d = look (λ k. when (holds_it d (slot k.state p)) (enter c a d))
+held_step c a kind_a p d = enter c a d
+held_step c a kind_b p d = enter c a d
 
 -- and only if p is in
 unfoldable pub scan : Chart → ℤ → ℕ → Step Ctx
 scan c a d = look (λ k. when (is_active k.state (parent_of c d)) (held_step c a (kind_of c (parent_of c d)) (parent_of c d) d))
 
 module _ (c : Chart) (a : ℤ) where
-  held-does : (x : Kind) (p d : ℕ) → Does (run_code c.vars a (held_code c x p d)) (held_step c a x p d)
+  held_does : (x : Kind) (p d : ℕ) → Does (run_code c.vars a (held_code c x p d)) (held_step c a x p d)
   unfolding held_code held_step exec exec_at exec_now passing
-  held-does kind-o p d = test-does c.vars a _ (enter_code c d) (λ k. holds_it d (slot k.state p)) (enter c a d) (λ k. refl)
-      (enter-does c a d)
-  held-does kind-a p d = enter-does c a d
-  held-does kind-b p d = enter-does c a d
+  held_does kind_o p d = test_does c.vars a _ (enter_code c d) (λ k. holds_it d (slot k.state p)) (enter c a d) (λ k. refl)
+      (enter_does c a d)
+  held_does kind_a p d = enter_does c a d
+  held_does kind_b p d = enter_does c a d
 
-  stored-does : (d : ℕ) → Does (run_code c.vars a (stored_code c d)) (scan c a d)
+  stored_does : (d : ℕ) → Does (run_code c.vars a (stored_code c d)) (scan c a d)
   unfolding stored_code past_if_out scan exec exec_at exec_now passing
-  stored-does d = test-does c.vars a _ (held_code c (kind_of c (parent_of c d)) (parent_of c d) d)
+  stored_does d = test_does c.vars a _ (held_code c (kind_of c (parent_of c d)) (parent_of c d) d)
       (λ k. is_active k.state (parent_of c d))
-      (held_step c a (kind_of c (parent_of c d)) (parent_of c d) d) (λ k. refl) (held-does (kind_of c (parent_of c d)) (parent_of c d) d)
+      (held_step c a (kind_of c (parent_of c d)) (parent_of c d) d) (λ k. refl) (held_does (kind_of c (parent_of c d)) (parent_of c d) d)
 
-  pub stored-arm-does : (b : ℕ) → Does (run_code c.vars a (stored_arm c b)) (each (scan c a) (descendants c b))
+  pub stored_arm_does : (b : ℕ) → Does (run_code c.vars a (stored_arm c b)) (each (scan c a) (descendants c b))
   unfolding stored_arm
-  stored-arm-does b = code-does c.vars a (stored_code c) (scan c a) stored-does (descendants c b)
+  stored_arm_does b = code_does c.vars a (stored_code c) (scan c a) stored_does (descendants c b)
 
 -- ---- in the midst of the pass
 
@@ -73,9 +73,9 @@ pub record Upto (sl : List ℤ) (r : ℕ → Bool) (b d e : ℕ) (u : State) : T
   pub rest : (x : ℕ) → d ≤ x → x < e → is_active u x ≡ false
 
 module _ (sl : List ℤ) (r : ℕ → Bool) (b : ℕ) where
-  upto-outside : (d e : ℕ) → Outside (Upto sl r b d e)
+  upto_outside : (d e : ℕ) → Outside (Upto sl r b d e)
   unfolding set_value set_queue is_active
-  upto-outside d e = record {
+  upto_outside d e = record {
     values = λ u v x h. record { slots = h.slots; wide = h.wide; done = h.done; rest = h.rest };
     queue = λ u q h. record { slots = h.slots; wide = h.wide; done = h.done; rest = h.rest };
   }
@@ -83,9 +83,9 @@ module _ (sl : List ℤ) (r : ℕ → Bool) (b : ℕ) where
   at_last : (d x : ℕ) → x < suc d → (x ≡ d) ⊎ (x < d)
   at_last d x l = eq-or-lt_of_le (omega arith)
 
-  upto-entered : (d e : ℕ) → d < e → r d ≡ true → (u : State) → Upto sl r b d e u → Upto sl r b (suc d) e (set_active d true u)
+  upto_entered : (d e : ℕ) → d < e → r d ≡ true → (u : State) → Upto sl r b d e u → Upto sl r b (suc d) e (set_active d true u)
   unfolding set_active is_active
-  upto-entered d e l q u h = record {
+  upto_entered d e l q u h = record {
     slots = h.slots;
     wide = rw length-set h.wide;
     done = λ x m z. ⊎_elim
@@ -95,8 +95,8 @@ module _ (sl : List ℤ) (r : ℕ → Bool) (b : ℕ) where
     rest = λ x m z. get_or-set_other u.active d x true false (λ n. omega arith) ∙ h.rest x (omega arith) z;
   }
 
-  upto-passed : (d e : ℕ) → d < e → r d ≡ false → (u : State) → Upto sl r b d e u → Upto sl r b (suc d) e u
-  upto-passed d e l q u h = record {
+  upto_passed : (d e : ℕ) → d < e → r d ≡ false → (u : State) → Upto sl r b d e u → Upto sl r b (suc d) e u
+  upto_passed d e l q u h = record {
     slots = h.slots;
     wide = h.wide;
     done = λ x m z. ⊎_elim (λ s. rw s (h.rest d (omega arith) l ∙ sym q)) (λ s. h.done x m s) (at_last d x z);
@@ -109,13 +109,13 @@ module _ (sl : List ℤ) (r : ℕ → Bool) (b : ℕ) where
 held_when : (c : Chart) (a : ℤ) (x : Kind) (p d : ℕ) (k : Ctx)
     → held_step c a x p d k ≡ when (picks c x (slot_way (slot k.state p)) p d) (enter c a d) k
 unfolding held_step picks look when holds_it slot_way
-held_when c a kind-o p d k = go (slot k.state p)
+held_when c a kind_o p d k = go (slot k.state p)
   where
-    go : (y : Slot) → when (holds_it d y) (enter c a d) k ≡ when (picks c kind-o (slot_way y) p d) (enter c a d) k
+    go : (y : Slot) → when (holds_it d y) (enter c a d) k ≡ when (picks c kind_o (slot_way y) p d) (enter c a d) k
     go empty = refl
     go (holds y) = refl
-held_when c a kind-a p d k = refl
-held_when c a kind-b p d k = refl
+held_when c a kind_a p d k = refl
+held_when c a kind_b p d k = refl
 
 when_when : (x y : Bool) (F : Step Ctx) (k : Ctx) → when x (when y F) k ≡ when (y && x) F k
 unfolding when
@@ -130,10 +130,10 @@ when_same true F G k e = e
 when_same false F G k e = refl
 
 module _ (c : Chart) (a : ℤ) (sl : List ℤ) (r : ℕ → Bool) (b : ℕ) (h : Reached c (λ s. slot_way (slot_at sl s)) b r) where
-  scan-one : (n e : ℕ) (k : Ctx) → Under c b (suc n) → b ≤ parent_of c (suc n) → parent_of c (suc n) ≤ n → Upto sl r b (suc n) e k.state
+  scan_one : (n e : ℕ) (k : Ctx) → Under c b (suc n) → b ≤ parent_of c (suc n) → parent_of c (suc n) ≤ n → Upto sl r b (suc n) e k.state
       → scan c a (suc n) k ≡ when (r (suc n)) (enter c a (suc n)) k
   unfolding scan look slot
-  scan-one n e k u lo hi q =
+  scan_one n e k u lo hi q =
       when_same (is_active k.state p) (held_step c a (kind_of c p) p (suc n))
       (when (picks c (kind_of c p) (slot_way (slot_at k.state.slots p)) p (suc n)) (enter c a (suc n))) k
       (held_when c a (kind_of c p) p (suc n) k)
@@ -146,15 +146,15 @@ module _ (c : Chart) (a : ℤ) (sl : List ℤ) (r : ℕ → Bool) (b : ℕ) (h :
       p = parent_of c (suc n)
 
   -- the whole pass enters the states that r names
-  pub scan-all : (m n : ℕ) (k : Ctx) → ((x : ℕ) → suc n ≤ suc x → suc x < suc n + m
+  pub scan_all : (m n : ℕ) (k : Ctx) → ((x : ℕ) → suc n ≤ suc x → suc x < suc n + m
       → Under c b (suc x) × (b ≤ parent_of c (suc x)) × (parent_of c (suc x) ≤ x))
       → Upto sl r b (suc n) (suc n + m) k.state → each (scan c a) (from (suc n) m) k ≡ each (enter c a) (keep r (from (suc n) m)) k
   unfolding each from keep when bind
-  scan-all zero n k t q = refl
-  scan-all (suc m) n k t q =
-      rw (scan-one n (suc n + suc m) k (t n (omega arith) (omega arith)).0 (t n (omega arith) (omega arith)).1
+  scan_all zero n k t q = refl
+  scan_all (suc m) n k t q =
+      rw (scan_one n (suc n + suc m) k (t n (omega arith) (omega arith)).0 (t n (omega arith) (omega arith)).1
       (t n (omega arith) (omega arith)).2 q)
-      (go (r (suc n)) refl (λ j w. scan-all m (suc n) j (λ x l g. t x (omega arith) (omega arith))
+      (go (r (suc n)) refl (λ j w. scan_all m (suc n) j (λ x l g. t x (omega arith) (omega arith))
       (subst (λ e. Upto sl r b (suc (suc n)) e j.state) (omega arith) w)))
     where
       rest : List ℕ
@@ -167,6 +167,6 @@ module _ (c : Chart) (a : ℤ) (sl : List ℤ) (r : ℕ → Bool) (b : ℕ) (h :
           (each (scan c a) rest) (each (enter c a) (keep r rest))
           (holds_of (λ j. Upto sl r b (suc (suc n)) (suc n + suc m) j.state) (enter c a (suc n) k)
           (enter_leads (Upto sl r b (suc n) (suc n + suc m)) (Upto sl r b (suc (suc n)) (suc n + suc m))
-          (upto-outside sl r b (suc (suc n)) (suc n + suc m)) c a (suc n)
-          (upto-entered sl r b (suc n) (suc n + suc m) (omega arith) e) k q)) ih
-      go false e ih = ih k (upto-passed sl r b (suc n) (suc n + suc m) (omega arith) e k.state q)
+          (upto_outside sl r b (suc (suc n)) (suc n + suc m)) c a (suc n)
+          (upto_entered sl r b (suc n) (suc n + suc m) (omega arith) e) k q)) ih
+      go false e ih = ih k (upto_passed sl r b (suc n) (suc n + suc m) (omega arith) e k.state q)

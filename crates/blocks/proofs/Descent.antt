@@ -16,9 +16,9 @@ use Rattle.meaning.specs.Tree.{kind_of, is_child, descendants}
 use Rattle.meaning.specs.Entry.{Visit, Way, below}
 use Rattle.tree.specs.Courses.{defaulting, visit_as}
 use Rattle.blocks.specs.Kids.{KidsLeft}
-use Rattle.leave_enter.proofs.Descending.{range_none, range-next, range-skip, range-take}
+use Rattle.leave_enter.proofs.Descending.{range_none, range_next, range_skip, range_take}
 use Rattle.leave_enter.proofs.Falling.{falls_by}
-use Rattle.tree.proofs.On.{end-within}
+use Rattle.tree.proofs.On.{end_within}
 use Rattle.emitter.specs.Pen.{Pen, pen, emits, Room}
 use Rattle.emitter.proofs.Laws.{concat_map_append, owes_on, owes_none, owes_room, same_size}
 
@@ -33,19 +33,19 @@ module _ (f : Visit → List Instr) (c : Chart) (way : ℕ → Way) (next : Way)
   unfoldable pub due : ℕ → List Instr
   due i = concat_map f (concat_map child (keep (is_child c s) (from i (end - i))))
 
-  due-none : (i : ℕ) → end ≤ i → due i ≡ []
+  due_none : (i : ℕ) → end ≤ i → due i ≡ []
   unfolding due concat_map
-  due-none i l = ap (concat_map f) (range_none child (is_child c s) i end l)
+  due_none i l = ap (concat_map f) (range_none child (is_child c s) i end l)
 
-  due-skip : (i : ℕ) → i < end → is_child c s i ≡ false → due i ≡ due (i + 1)
+  due_skip : (i : ℕ) → i < end → is_child c s i ≡ false → due i ≡ due (i + 1)
   unfolding due
-  due-skip i l e = ap (concat_map f) (range-skip child (is_child c s) i end l e)
+  due_skip i l e = ap (concat_map f) (range_skip child (is_child c s) i end l e)
 
-  due-take : (i : ℕ) → i < end → is_child c s i ≡ true
+  due_take : (i : ℕ) → i < end → is_child c s i ≡ true
       → due i ≡ f (visit_as (defaulting (kind_of c s) next) s i) ++ (concat_map f (below c way (left - 1) i) ++ due (i + 1))
   unfolding due concat_map
-  due-take i l e =
-      ap (concat_map f) (range-take child (is_child c s) i end l e)
+  due_take i l e =
+      ap (concat_map f) (range_take child (is_child c s) i end l e)
       ∙ ap (λ xs. f (visit_as (defaulting (kind_of c s) next) s i) ++ xs)
       (concat_map_append f (below c way (left - 1) i) (concat_map child (keep (is_child c s) (from (i + 1) (end - (i + 1))))))
 
@@ -55,32 +55,32 @@ pub record Going (f : Visit → List Instr)
   pub owes : emits (due f c way next s left end i) (pen l₁ p) ≡ emits (concat_map f (below c way left s)) (pen l at)
 
 module _ (f : Visit → List Instr) (c : Chart) (way : ℕ → Way) (next : Way) (s left first end : ℕ) (l : List ℤ) (at : ℕ) where
-  pub going-begin : way s ≡ next → KidsLeft c next s left first end → Going f c way next s left first end l at first l at
+  pub going_begin : way s ≡ next → KidsLeft c next s left first end → Going f c way next s left first end l at first l at
   unfolding due
-  going-begin e k = record { since = omega arith; owes = ap (λ xs. emits (concat_map f xs) (pen l at)) (sym (k.goes way e)) }
+  going_begin e k = record { since = omega arith; owes = ap (λ xs. emits (concat_map f xs) (pen l at)) (sym (k.goes way e)) }
 
   module _ {i : ℕ} {l₁ : List ℤ} {p : ℕ} (h : Going f c way next s left first end l at i l₁ p) where
     pub going_end : end ≤ i → pen l₁ p ≡ emits (concat_map f (below c way left s)) (pen l at)
-    going_end n = owes_none (pen l₁ p) (ap (λ xs. emits xs (pen l₁ p)) (sym (due-none f c way next s left end i n)) ∙ h.owes)
+    going_end n = owes_none (pen l₁ p) (ap (λ xs. emits xs (pen l₁ p)) (sym (due_none f c way next s left end i n)) ∙ h.owes)
 
-    pub going-size : length l₁ ≡ length l
-    going-size = same_size _ _ l l₁ at p h.owes
+    pub going_size : length l₁ ≡ length l
+    going_size = same_size _ _ l l₁ at p h.owes
 
     module _ (n : i < end) where
-      pub going-skip : is_child c s i ≡ false → Going f c way next s left first end l at (i + 1) l₁ p
-      going-skip e = record {
+      pub going_skip : is_child c s i ≡ false → Going f c way next s left first end l at (i + 1) l₁ p
+      going_skip e = record {
         since = omega (arith, h.since);
-        owes = ap (λ xs. emits xs (pen l₁ p)) (sym (due-skip f c way next s left end i n e)) ∙ h.owes;
+        owes = ap (λ xs. emits xs (pen l₁ p)) (sym (due_skip f c way next s left end i n e)) ∙ h.owes;
       }
 
       module _ (e : is_child c s i ≡ true) where
         visits : emits (f (visit_as (defaulting (kind_of c s) next) s i)
             ++ (concat_map f (below c way (left - 1) i) ++ due f c way next s left end (i + 1))) (pen l₁ p)
             ≡ emits (concat_map f (below c way left s)) (pen l at)
-        visits = ap (λ xs. emits xs (pen l₁ p)) (sym (due-take f c way next s left end i n e)) ∙ h.owes
+        visits = ap (λ xs. emits xs (pen l₁ p)) (sym (due_take f c way next s left end i n e)) ∙ h.owes
 
-        pub going-room : Room (concat_map f (below c way left s)) at → Room (f (visit_as (defaulting (kind_of c s) next) s i)) p
-        going-room = owes_room (f (visit_as (defaulting (kind_of c s) next) s i)) (concat_map f (below c way (left - 1) i)
+        pub going_room : Room (concat_map f (below c way left s)) at → Room (f (visit_as (defaulting (kind_of c s) next) s i)) p
+        going_room = owes_room (f (visit_as (defaulting (kind_of c s) next) s i)) (concat_map f (below c way (left - 1) i)
             ++ due f c way next s left end (i + 1)) (concat_map f (below c way left s)) l l₁ at p visits
 
         module _ {l₂ : List ℤ} {q : ℕ} (v : pen l₂ q ≡ emits (f (visit_as (defaulting (kind_of c s) next) s i)) (pen l₁ p)) where
@@ -88,8 +88,8 @@ module _ (f : Visit → List Instr) (c : Chart) (way : ℕ → Way) (next : Way)
               ≡ emits (concat_map f (below c way left s)) (pen l at)
           deeper = owes_on _ _ (pen l₁ p) visits v
 
-          pub going-room-below : Room (concat_map f (below c way left s)) at → Room (concat_map f (below c way (left - 1) i)) q
-          going-room-below = owes_room (concat_map f (below c way (left - 1) i))
+          pub going_room_below : Room (concat_map f (below c way left s)) at → Room (concat_map f (below c way (left - 1) i)) q
+          going_room_below = owes_room (concat_map f (below c way (left - 1) i))
               (due f c way next s left end (i + 1)) (concat_map f (below c way left s)) l l₂ at q deeper
 
           pub going_on : {l₃ : List ℤ} {r : ℕ} → pen l₃ r ≡ emits (concat_map f (below c way (left - 1) i)) (pen l₂ q)
@@ -114,27 +114,27 @@ module _ (f : ℕ → List Instr) (l : List ℤ) (at : ℕ) (all : List Instr) w
 
 module _ {f : ℕ → List Instr} {l : List ℤ}
     {at : ℕ} {all : List Instr} {end i : ℕ} {l₁ : List ℤ} {p : ℕ} (h : Rising f l at all end i l₁ p) where
-  pub rising-end : end ≤ i → pen l₁ p ≡ emits all (pen l at)
+  pub rising_end : end ≤ i → pen l₁ p ≡ emits all (pen l at)
   unfolding concat_map from
-  rising-end n = let z : end - i ≡ 0 = omega arith in
+  rising_end n = let z : end - i ≡ 0 = omega arith in
       owes_none (pen l₁ p) (ap (λ k. emits (concat_map f (from i k)) (pen l₁ p)) (sym z) ∙ h.owes)
 
   module _ (n : i < end) where
     rises : emits (f i ++ concat_map f (from (i + 1) (end - (i + 1)))) (pen l₁ p) ≡ emits all (pen l at)
     unfolding concat_map
-    rises = ap (λ xs. emits (concat_map f xs) (pen l₁ p)) (sym (range-next f (λ x. true) i end n)) ∙ h.owes
+    rises = ap (λ xs. emits (concat_map f xs) (pen l₁ p)) (sym (range_next f (λ x. true) i end n)) ∙ h.owes
 
-    pub rising-room : Room all at → Room (f i) p
-    rising-room = owes_room (f i) (concat_map f (from (i + 1) (end - (i + 1)))) all l l₁ at p rises
+    pub rising_room : Room all at → Room (f i) p
+    rising_room = owes_room (f i) (concat_map f (from (i + 1) (end - (i + 1)))) all l l₁ at p rises
 
-    pub rising-on : {l₂ : List ℤ} {q : ℕ} → pen l₂ q ≡ emits (f i) (pen l₁ p) → Rising f l at all end (i + 1) l₂ q
-    rising-on w = record { owes = owes_on _ _ (pen l₁ p) rises w }
+    pub rising_on : {l₂ : List ℤ} {q : ℕ} → pen l₂ q ≡ emits (f i) (pen l₁ p) → Rising f l at all end (i + 1) l₂ q
+    rising_on w = record { owes = owes_on _ _ (pen l₁ p) rises w }
 
 module _ {f : ℕ → List Instr} {l : List ℤ}
     {at : ℕ} {all : List Instr} {s d : ℕ} {l₁ : List ℤ} {p : ℕ} (h : Falling f l at all s d l₁ p) where
-  pub falling-end : d ≤ suc s → pen l₁ p ≡ emits all (pen l at)
+  pub falling_end : d ≤ suc s → pen l₁ p ≡ emits all (pen l at)
   unfolding concat_map from
-  falling-end n = let z : d - suc s ≡ 0 = omega arith in
+  falling_end n = let z : d - suc s ≡ 0 = omega arith in
       owes_none (pen l₁ p) (ap (λ k. emits (concat_map f (reverse (from (suc s) k))) (pen l₁ p)) (sym z) ∙ h.owes)
 
   module _ (n : suc s < d) where
@@ -142,27 +142,27 @@ module _ {f : ℕ → List Instr} {l : List ℤ}
     unfolding concat_map
     falls = ap (λ xs. emits (concat_map f xs) (pen l₁ p)) (sym (falls_by s d n)) ∙ h.owes
 
-    pub falling-room : Room all at → Room (f (d - 1)) p
-    falling-room = owes_room (f (d - 1)) (concat_map f (reverse (from (suc s) ((d - 1) - suc s)))) all l l₁ at p falls
+    pub falling_room : Room all at → Room (f (d - 1)) p
+    falling_room = owes_room (f (d - 1)) (concat_map f (reverse (from (suc s) ((d - 1) - suc s)))) all l l₁ at p falls
 
-    pub falling-on : {l₂ : List ℤ} {q : ℕ} → pen l₂ q ≡ emits (f (d - 1)) (pen l₁ p) → Falling f l at all s (d - 1) l₂ q
-    falling-on w = record { past = omega arith; owes = owes_on _ _ (pen l₁ p) falls w }
+    pub falling_on : {l₂ : List ℤ} {q : ℕ} → pen l₂ q ≡ emits (f (d - 1)) (pen l₁ p) → Falling f l at all s (d - 1) l₂ q
+    falling_on w = record { past = omega arith; owes = owes_on _ _ (pen l₁ p) falls w }
 
 module _ (c : Chart) (h : SoundChart c) (s : ℕ) (inside : s < length c.states)
     (f : ℕ → List Instr) (l : List ℤ) (at end : ℕ) (e : end ≡ suc s + length (descendants c s)) where
-  pub rising-begin : Rising f l at (concat_map f (descendants c s)) end (s + 1) l at
-  rising-begin =
+  pub rising_begin : Rising f l at (concat_map f (descendants c s)) end (s + 1) l at
+  rising_begin =
       let z : s + 1 ≡ suc s = omega arith in
       record {
         owes = ap (λ k. emits (concat_map f (from k (end - k))) (pen l at)) z
             ∙ ap (λ xs. emits (concat_map f xs) (pen l at)) (sym (below_as c h s inside end e));
       }
 
-  pub falling-begin : Falling f l at (concat_map f (reverse (descendants c s))) s end l at
-  falling-begin = record {
+  pub falling_begin : Falling f l at (concat_map f (reverse (descendants c s))) s end l at
+  falling_begin = record {
     past = omega arith;
     owes = ap (λ xs. emits (concat_map f (reverse xs)) (pen l at)) (sym (below_as c h s inside end e));
   }
 
-  pub end-inside : end ≤ length c.states
-  end-inside = omega (arith, end-within c h.ordered s inside)
+  pub end_inside : end ≤ length c.states
+  end_inside = omega (arith, end_within c h.ordered s inside)

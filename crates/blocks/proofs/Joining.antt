@@ -11,11 +11,11 @@ use lib.IntN.{ℤ}
 use Rattle.laws.proofs.Scope.{scope_facts}
 use Rattle.laws.specs.Facts.{TargetFacts}
 use Rattle.meaning.specs.Chart.{Chart}
-use Rattle.meaning.specs.declared.chart.Owner.TheVariants.{TransitionOf as transition-of}
+use Rattle.meaning.specs.declared.chart.Owner.TheVariants.{TransitionOf as transition_of}
 use Rattle.meaning.specs.declared.chart.Target.{Target}
 use Rattle.meaning.specs.declared.chart.TransRow.{TransRow}
 use Rattle.meaning.specs.declared.plan.Instr.{Instr}
-use Rattle.meaning.specs.declared.plan.Instr.TheVariants.{SkipEmpty as skip-empty, SkipFull as skip-full}
+use Rattle.meaning.specs.declared.plan.Instr.TheVariants.{SkipEmpty as skip_empty, SkipFull as skip_full}
 use Rattle.meaning.specs.Lists.{concat_map}
 use Rattle.meaning.specs.Tree.{kind_of, trans_row, descendants, scope}
 use Rattle.meaning.specs.Entry.{Visit, state_of, below, all_below, by_defaults, Way}
@@ -39,28 +39,28 @@ use Rattle.blocks.proofs.Putting.{put_as}
 -- ---- the arms
 
 module _ (c : Chart) (b n : ℕ) (e : n ≡ length c.states) where
-  pub arm-as : default_arm c b ≡ concat_map (visit_code c) (below c by_defaults n b)
+  pub arm_as : default_arm c b ≡ concat_map (visit_code c) (below c by_defaults n b)
   unfolding default_arm all_below
-  arm-as = ap (λ k. concat_map (visit_code c) (below c by_defaults k b)) (sym e)
+  arm_as = ap (λ k. concat_map (visit_code c) (below c by_defaults k b)) (sym e)
 
-  pub arms-put : (k m : ℕ) (p : Pen) {p₁ p₂ p₃ p₄ : Pen} → k ≡ length (default_arm c b) → m ≡ length (stored_arm c b)
-      → p₁ ≡ emits (skip-full b k ∷ []) p → p₂ ≡ emits (concat_map (visit_code c) (below c by_defaults n b)) p₁
-      → p₃ ≡ emits (skip-empty b m ∷ []) p₂ → p₄ ≡ emits (stored_arm c b) p₃ → p₄ ≡ emits (arms c b) p
+  pub arms_put : (k m : ℕ) (p : Pen) {p₁ p₂ p₃ p₄ : Pen} → k ≡ length (default_arm c b) → m ≡ length (stored_arm c b)
+      → p₁ ≡ emits (skip_full b k ∷ []) p → p₂ ≡ emits (concat_map (visit_code c) (below c by_defaults n b)) p₁
+      → p₃ ≡ emits (skip_empty b m ∷ []) p₂ → p₄ ≡ emits (stored_arm c b) p₃ → p₄ ≡ emits (arms c b) p
   unfolding arms arms_of
-  arms-put k m p {p₁} {p₂} {p₃} q r f g h j =
-      put_first _ _ p (f ∙ ap (λ x. emits (skip-full b x ∷ []) p) q)
-      (put_both _ _ p₁ (put_as _ _ p₁ arm-as g) (put_first _ _ p₂ (h ∙ ap (λ x. emits (skip-empty b x ∷ []) p₂) r) j))
+  arms_put k m p {p₁} {p₂} {p₃} q r f g h j =
+      put_first _ _ p (f ∙ ap (λ x. emits (skip_full b x ∷ []) p) q)
+      (put_both _ _ p₁ (put_as _ _ p₁ arm_as g) (put_first _ _ p₂ (h ∙ ap (λ x. emits (skip_empty b x ∷ []) p₂) r) j))
 
 pub arms_long : (c : Chart) (b : ℕ) → length (arms c b) ≡ suc (length (default_arm c b) + suc (length (stored_arm c b)))
 unfolding arms arms_of
-arms_long c b = ap suc (length-append (default_arm c b) (skip-empty b (length (stored_arm c b)) ∷ stored_arm c b))
+arms_long c b = ap suc (length-append (default_arm c b) (skip_empty b (length (stored_arm c b)) ∷ stored_arm c b))
 
 -- ---- the start block
 
 module _ (c : Chart) (n : ℕ) (e : n ≡ length c.states) where
-  pub start-as : start_block c ≡ enter_code c 0 ++ concat_map (visit_code c) (below c by_defaults n 0)
+  pub start_as : start_block c ≡ enter_code c 0 ++ concat_map (visit_code c) (below c by_defaults n 0)
   unfolding start_block all_below
-  start-as = ap (λ k. enter_code c 0 ++ concat_map (visit_code c) (below c by_defaults k 0)) (sym e)
+  start_as = ap (λ k. enter_code c 0 ++ concat_map (visit_code c) (below c by_defaults k 0)) (sym e)
 
 -- ---- a visit on the way to a goal
 
@@ -70,93 +70,93 @@ state_entered true p s = refl
 state_entered false p s = refl
 
 module _ (c : Chart) (goal : Goal) (p s : ℕ) (w : Way) (e : w ≡ goal_way c goal p) where
-  the-visit : visit_as (defaulting (kind_of c p) w) p s ≡ visit_as (defaulting (kind_of c p) (goal_way c goal p)) p s
-  the-visit = ap (λ x. visit_as (defaulting (kind_of c p) x) p s) e
+  the_visit : visit_as (defaulting (kind_of c p) w) p s ≡ visit_as (defaulting (kind_of c p) (goal_way c goal p)) p s
+  the_visit = ap (λ x. visit_as (defaulting (kind_of c p) x) p s) e
 
   begins : (g : Goal) (v : Visit) → length (visit_code c v) + 0 < suc (length (goal_code c g v))
   unfolding towards_code
   begins (aim t) v = omega arith
   begins (owner b) v = omega (arith, length-append (visit_code c v) (elim (eqb (state_of v) b) [ true ↦ arms c b | false ↦ [] ]))
 
-  pub arrival-room : (at : ℕ) → Room (goal_code c goal (visit_as (defaulting (kind_of c p) (goal_way c goal p)) p s)) at
+  pub arrival_room : (at : ℕ) → Room (goal_code c goal (visit_as (defaulting (kind_of c p) (goal_way c goal p)) p s)) at
       → Room (visit_code c (visit_as (defaulting (kind_of c p) w) p s)) at
-  arrival-room at r = omega (
+  arrival_room at r = omega (
     arith,
-    ap (λ v. length (visit_code c v)) the-visit,
+    ap (λ v. length (visit_code c v)) the_visit,
     begins goal (visit_as (defaulting (kind_of c p) (goal_way c goal p)) p s),
   )
 
   module _ (q : Pen) {q₁ : Pen} (f : q₁ ≡ emits (visit_code c (visit_as (defaulting (kind_of c p) w) p s)) q) where
     entered : q₁ ≡ emits (visit_code c (visit_as (defaulting (kind_of c p) (goal_way c goal p)) p s)) q
-    entered = f ∙ ap (λ v. emits (visit_code c v) q) the-visit
+    entered = f ∙ ap (λ v. emits (visit_code c v) q) the_visit
 
-    pub arrival-target : (t : ℕ) → goal ≡ aim t
+    pub arrival_target : (t : ℕ) → goal ≡ aim t
         → q₁ ≡ emits (goal_code c goal (visit_as (defaulting (kind_of c p) (goal_way c goal p)) p s)) q
-    arrival-target t g = entered ∙ ap (λ x. emits (goal_code c x (visit_as (defaulting (kind_of c p) (goal_way c goal p)) p s)) q) (sym g)
+    arrival_target t g = entered ∙ ap (λ x. emits (goal_code c x (visit_as (defaulting (kind_of c p) (goal_way c goal p)) p s)) q) (sym g)
 
     module _ (b : ℕ) (g : goal ≡ owner b) where
-      towards-is : (v : Visit) (x : Bool) → eqb (state_of v) b ≡ x
+      towards_is : (v : Visit) (x : Bool) → eqb (state_of v) b ≡ x
           → towards_code c b v ≡ visit_code c v ++ elim x [ true ↦ arms c b | false ↦ [] ]
       unfolding towards_code
-      towards-is v x h = ap (λ y. visit_code c v ++ elim y [ true ↦ arms c b | false ↦ [] ]) h
+      towards_is v x h = ap (λ y. visit_code c v ++ elim y [ true ↦ arms c b | false ↦ [] ]) h
 
       here : (x : Bool) → eqb s b ≡ x
           → goal_code c goal (visit_as (defaulting (kind_of c p) (goal_way c goal p)) p s)
           ≡ visit_code c (visit_as (defaulting (kind_of c p) (goal_way c goal p)) p s) ++ elim x [ true ↦ arms c b | false ↦ [] ]
       here x h =
           ap (λ y. goal_code c y (visit_as (defaulting (kind_of c p) (goal_way c goal p)) p s)) g
-          ∙ towards-is (visit_as (defaulting (kind_of c p) (goal_way c goal p)) p s) x
+          ∙ towards_is (visit_as (defaulting (kind_of c p) (goal_way c goal p)) p s) x
           (ap (λ y. eqb y b) (state_entered (defaulting (kind_of c p) (goal_way c goal p)) p s) ∙ h)
 
-      pub arrival-past : (s ≡ b → ⊥) → q₁ ≡ emits (goal_code c goal (visit_as (defaulting (kind_of c p) (goal_way c goal p)) p s)) q
-      arrival-past n = put_as _ _ q (here false (ne_eqb s b n) ∙ append-nil _) entered
+      pub arrival_past : (s ≡ b → ⊥) → q₁ ≡ emits (goal_code c goal (visit_as (defaulting (kind_of c p) (goal_way c goal p)) p s)) q
+      arrival_past n = put_as _ _ q (here false (ne_eqb s b n) ∙ append-nil _) entered
 
-      pub arrival-long : s ≡ b → length (goal_code c goal (visit_as (defaulting (kind_of c p) (goal_way c goal p)) p s))
+      pub arrival_long : s ≡ b → length (goal_code c goal (visit_as (defaulting (kind_of c p) (goal_way c goal p)) p s))
           ≡ length (visit_code c (visit_as (defaulting (kind_of c p) w) p s)) + length (arms c b)
-      arrival-long n =
+      arrival_long n =
           ap length (here true (eq-eqb s b n))
           ∙ length-append (visit_code c (visit_as (defaulting (kind_of c p) (goal_way c goal p)) p s)) (arms c b)
-          ∙ ap (λ v. length (visit_code c v) + length (arms c b)) (sym the-visit)
+          ∙ ap (λ v. length (visit_code c v) + length (arms c b)) (sym the_visit)
 
-      pub arrival-owner : s ≡ b → {q₂ : Pen} → q₂ ≡ emits (arms c b) q₁
+      pub arrival_owner : s ≡ b → {q₂ : Pen} → q₂ ≡ emits (arms c b) q₁
           → q₂ ≡ emits (goal_code c goal (visit_as (defaulting (kind_of c p) (goal_way c goal p)) p s)) q
-      arrival-owner n h = put_as _ _ q (here true (eq-eqb s b n)) (put_both _ _ q entered h)
+      arrival_owner n h = put_as _ _ q (here true (eq-eqb s b n)) (put_both _ _ q entered h)
 
 -- ---- a move, and a block
 
 module _ (c : Chart) (t : ℕ) (goal : Goal) (top n : ℕ) (e : n ≡ length c.states) where
-  pub move-as : move_code c t goal top
+  pub move_as : move_code c t goal top
       ≡ exits_code c (descendants c top)
-      ++ (code_acts c (transition-of t) ++ concat_map (goal_code c goal) (below c (goal_way c goal) n top))
+      ++ (code_acts c (transition_of t) ++ concat_map (goal_code c goal) (below c (goal_way c goal) n top))
   unfolding move_code all_below
-  move-as = ap (λ k. exits_code c (descendants c top)
-      ++ (code_acts c (transition-of t) ++ concat_map (goal_code c goal) (below c (goal_way c goal) k top))) (sym e)
+  move_as = ap (λ k. exits_code c (descendants c top)
+      ++ (code_acts c (transition_of t) ++ concat_map (goal_code c goal) (below c (goal_way c goal) k top))) (sym e)
 
-  pub move-long : length (move_code c t goal top)
+  pub move_long : length (move_code c t goal top)
       ≡ length (exits_code c (descendants c top))
-      + (length (code_acts c (transition-of t)) + length (concat_map (goal_code c goal) (below c (goal_way c goal) n top)))
-  move-long =
-      ap length move-as ∙ length-append (exits_code c (descendants c top))
-      (code_acts c (transition-of t) ++ concat_map (goal_code c goal) (below c (goal_way c goal) n top))
+      + (length (code_acts c (transition_of t)) + length (concat_map (goal_code c goal) (below c (goal_way c goal) n top)))
+  move_long =
+      ap length move_as ∙ length-append (exits_code c (descendants c top))
+      (code_acts c (transition_of t) ++ concat_map (goal_code c goal) (below c (goal_way c goal) n top))
       ∙ ap (λ k. length (exits_code c (descendants c top)) + k)
-      (length-append (code_acts c (transition-of t)) (concat_map (goal_code c goal) (below c (goal_way c goal) n top)))
+      (length-append (code_acts c (transition_of t)) (concat_map (goal_code c goal) (below c (goal_way c goal) n top)))
 
 block_to_goes : (c : Chart) (t s : ℕ) (g : Target) (goal : Goal) → aim_by g ≡ Goes goal
     → block_to c t s g ≡ move_code c t goal (scope c s (aimed_at goal))
 unfolding block_to move_code
 block_to_goes c t s = goes_by (λ g goal. block_to c t s g ≡ move_code c t goal (scope c s (aimed_at goal))) (λ d. refl) (λ b. refl)
 
-block_to_stays : (c : Chart) (t s : ℕ) (g : Target) → aim_by g ≡ Stays → block_to c t s g ≡ code_acts c (transition-of t)
+block_to_stays : (c : Chart) (t s : ℕ) (g : Target) → aim_by g ≡ Stays → block_to c t s g ≡ code_acts c (transition_of t)
 unfolding block_to
-block_to_stays c t s = stays_by (λ g. block_to c t s g ≡ code_acts c (transition-of t)) refl
+block_to_stays c t s = stays_by (λ g. block_to c t s g ≡ code_acts c (transition_of t)) refl
 
 module _ (v : List ℤ) (r : Ruled v) (t : ℕ) (l : t < length (chart_of v).transitions) (row : TransRow) (e : row ≡ trans_row (chart_of v) t)
     {x : Aim} (q : x ≡ aim_by row.target) {goal : Goal} (o : x ≡ Goes goal) {d : ℕ} (m : d ≡ aimed_at goal) where
   facts : TargetFacts (chart_of v) row.source row.target
   facts = subst (λ y. TargetFacts (chart_of v) y.source y.target) (sym e) ((sound v r).transitions t l).target
 
-  pub goes-inside : {top : ℕ} → top ≡ scope (chart_of v) row.source d → Inside (chart_of v) goal × (top < length (chart_of v).states)
-  goes-inside h =
+  pub goes_inside : {top : ℕ} → top ≡ scope (chart_of v) row.source d → Inside (chart_of v) goal × (top < length (chart_of v).states)
+  goes_inside h =
       let f = goal_facts (chart_of v) row.source row.target goal (sym q ∙ o) facts in (
         (goal_bound (chart_of v) row.source row.target goal (sym q ∙ o) facts).0,
         omega (
@@ -176,5 +176,5 @@ module _ (c : Chart) (t : ℕ) (row : TransRow) (e : row ≡ trans_row c t) {x :
   block_goes {goal} o m f = block_of ∙ block_to_goes c t row.source row.target goal (sym q ∙ o)
       ∙ ap (move_code c t goal) (sym (f ∙ ap (scope c row.source) m))
 
-  pub block-stays : x ≡ Stays → block c t ≡ code_acts c (transition-of t)
-  block-stays o = block_of ∙ block_to_stays c t row.source row.target (sym q ∙ o)
+  pub block_stays : x ≡ Stays → block c t ≡ code_acts c (transition_of t)
+  block_stays o = block_of ∙ block_to_stays c t row.source row.target (sym q ∙ o)

@@ -1,7 +1,7 @@
 -- The parts of a block as the code has them: a visit on the way to a goal, and a move to a goal. Assumes nothing.
 use Rattle.std.specs.Prelude.{ℕ, List, ◌++◌}
 use Rattle.meaning.specs.Chart.{Chart}
-use Rattle.meaning.specs.declared.chart.Owner.TheVariants.{TransitionOf as transition-of}
+use Rattle.meaning.specs.declared.chart.Owner.TheVariants.{TransitionOf as transition_of}
 use Rattle.meaning.specs.Tree.{descendants}
 use Rattle.meaning.specs.Lists.{concat_map}
 use Rattle.meaning.specs.Entry.{Visit, all_below}
@@ -19,4 +19,4 @@ goal_code c (Owner b) = towards_code c b
 -- the states below the scope left, the transition's actions, the way to the goal
 unfoldable pub move_code : Chart → ℕ → Goal → ℕ → List Instr
 move_code c t goal top =
-    exits_code c (descendants c top) ++ (code_acts c (transition-of t) ++ concat_map (goal_code c goal) (all_below c (goal_way c goal) top))
+    exits_code c (descendants c top) ++ (code_acts c (transition_of t) ++ concat_map (goal_code c goal) (all_below c (goal_way c goal) top))

@@ -10,7 +10,7 @@ ghost use Rattle.std.specs.Prelude.{◌≡◌, ◌<◌, length};
 ghost use Rattle.meaning.specs.Compile.{exits_code, block, start_block};
 ghost use Rattle.meaning.specs.Entry.{below};
 ghost use Rattle.meaning.specs.Lists.{concat_map};
-ghost use Rattle.meaning.specs.Tree.{kind_of as kind-in, descendants};
+ghost use Rattle.meaning.specs.Tree.{kind_of as kind_in, descendants};
 ghost use Rattle.meaning.specs.Value.{chart_of};
 ghost use Rattle.tree.specs.Courses.{goal_way, defaulting, visit_as, Inside};
 ghost use Rattle.emitter.specs.Pen.{pen, emits, Room};
@@ -57,9 +57,9 @@ fn put_arrival(
 ) -> usize
     requires { Prepared chart.now index.now × (p < length (chart_of chart.now).states)
         × (s < length (chart_of chart.now).states) × Room (goal_code (chart_of chart.now)
-        goal (visit_as (defaulting (kind-in (chart_of chart.now) p) (goal_way (chart_of chart.now) goal p)) p s)) at }
+        goal (visit_as (defaulting (kind_in (chart_of chart.now) p) (goal_way (chart_of chart.now) goal p)) p s)) at }
     ensures { pen plan.new result ≡ emits (goal_code (chart_of chart.now) goal
-        (visit_as (defaulting (kind-in (chart_of chart.now) p) (goal_way (chart_of chart.now) goal p)) p s))
+        (visit_as (defaulting (kind_in (chart_of chart.now) p) (goal_way (chart_of chart.now) goal p)) p s))
         (pen plan.old at) }
 {
     let next = next_of(chart, goal, p);

@@ -2,7 +2,7 @@
 // again in a restore.
 ghost use Rattle.std.specs.Prelude.{◌≡◌, ◌<◌, length};
 ghost use Rattle.meaning.specs.Compile.{exit_code, enter_code, visit_code, stored_code};
-ghost use Rattle.meaning.specs.Tree.{kind_of as kind-in};
+ghost use Rattle.meaning.specs.Tree.{kind_of as kind_in};
 ghost use Rattle.meaning.specs.Value.{chart_of};
 ghost use Rattle.tree.specs.Courses.{way_by, defaulting, visit_as};
 ghost use Rattle.emitter.specs.Pen.{pen, emits, Room};
@@ -58,9 +58,9 @@ pub fn put_visit(
 ) -> usize
     requires { Prepared chart.now index.now
         × (p < length (chart_of chart.now).states) × (s < length (chart_of chart.now).states) ×
-        Room (visit_code (chart_of chart.now) (visit_as (defaulting (kind-in (chart_of chart.now) p) (way_by next)) p s)) at }
+        Room (visit_code (chart_of chart.now) (visit_as (defaulting (kind_in (chart_of chart.now) p) (way_by next)) p s)) at }
     ensures { pen plan.new result ≡ emits (visit_code (chart_of chart.now)
-        (visit_as (defaulting (kind-in (chart_of chart.now) p) (way_by next)) p s)) (pen plan.old at) }
+        (visit_as (defaulting (kind_in (chart_of chart.now) p) (way_by next)) p s)) (pen plan.old at) }
 {
     if !by_default(chart, p, next) {
         return put_enter(chart, index, s, plan, at);

@@ -67,8 +67,8 @@ Ends o t r t₁ = (r ≡ called o) × (t₁ ≡ lent (length t) o)
 -- ---- on an accepted chart a call is the one on its chart
 
 module _ (v : List ℤ) (u : State) (h : Ruled v) where
-  pub start-on : (n : ℕ) → start_of v u n ≡ start (chart_of v) u n
-  start-on n = start_by v u none h n
+  pub start_on : (n : ℕ) → start_of v u n ≡ start (chart_of v) u n
+  start_on n = start_by v u none h n
 
   pub run_on : (n : ℕ) → run_of v u n ≡ run (chart_of v) u n
   run_on n = run_by v u none h n
@@ -76,13 +76,13 @@ module _ (v : List ℤ) (u : State) (h : Ruled v) where
   pub post_on : (x a : ℤ) → post_of v u x a ≡ post (chart_of v) u x a
   post_on x a = post_by v u none h x a
 
-  pub discard-on : discard_of v u ≡ discard (chart_of v) u
-  discard-on = discard_by v u none h
+  pub discard_on : discard_of v u ≡ discard (chart_of v) u
+  discard_on = discard_by v u none h
 
 module _ {v : List ℤ} {u : State} where
   module _ (h : Ruled v) where
     pub starts : {t : List ℤ} {r : Called} {t₁ : List ℤ} → Ends (start (chart_of v) u (length t)) t r t₁ → Started v u t r t₁
-    starts {t} d = let e = sym (start-on v u h (length t)) in record { result = d.0 ∙ ap called e; lent = d.1 ∙ ap (lent (length t)) e }
+    starts {t} d = let e = sym (start_on v u h (length t)) in record { result = d.0 ∙ ap called e; lent = d.1 ∙ ap (lent (length t)) e }
 
     pub runs : {t : List ℤ} {r : Called} {t₁ : List ℤ} → Ends (run (chart_of v) u (length t)) t r t₁ → Ran v u t r t₁
     runs {t} d = let e = sym (run_on v u h (length t)) in record { result = d.0 ∙ ap called e; lent = d.1 ∙ ap (lent (length t)) e }
@@ -91,22 +91,22 @@ module _ {v : List ℤ} {u : State} where
     posts {x} {a} d = record { result = d ∙ ap called (sym (post_on v u h x a)) }
 
     pub discards : {r : Called} → r ≡ called (discard (chart_of v) u) → Discarded v u r
-    discards d = record { result = d ∙ ap called (sym (discard-on v u h)) }
+    discards d = record { result = d ∙ ap called (sym (discard_on v u h)) }
 
   -- ---- on a chart that fails a rule: 3 with the rule
   module _ {c : Answer} (k : Checked v c) (z : c.number ≡ 0 → ⊥) where
-    pub start-3 : {t : List ℤ} {r : Called} {t₁ : List ℤ} → Ends (as_found 3 c.place u) t r t₁ → Started v u t r t₁
-    start-3 {t} d =
+    pub start_3 : {t : List ℤ} {r : Called} {t₁ : List ℤ} → Ends (as_found 3 c.place u) t r t₁ → Started v u t r t₁
+    start_3 {t} d =
         let e = sym (start_by v u (some c.place) (rejected k z) (length t)) in
         record { result = d.0 ∙ ap called e; lent = d.1 ∙ ap (lent (length t)) e }
 
-    pub run-3 : {t : List ℤ} {r : Called} {t₁ : List ℤ} → Ends (as_found 3 c.place u) t r t₁ → Ran v u t r t₁
-    run-3 {t} d =
+    pub run_3 : {t : List ℤ} {r : Called} {t₁ : List ℤ} → Ends (as_found 3 c.place u) t r t₁ → Ran v u t r t₁
+    run_3 {t} d =
         let e = sym (run_by v u (some c.place) (rejected k z) (length t)) in
         record { result = d.0 ∙ ap called e; lent = d.1 ∙ ap (lent (length t)) e }
 
-    pub post-3 : {x a : ℤ} {r : Called} → r ≡ called (as_found 3 c.place u) → Posted v u x a r
-    post-3 {x} {a} d = record { result = d ∙ ap called (sym (post_by v u (some c.place) (rejected k z) x a)) }
+    pub post_3 : {x a : ℤ} {r : Called} → r ≡ called (as_found 3 c.place u) → Posted v u x a r
+    post_3 {x} {a} d = record { result = d ∙ ap called (sym (post_by v u (some c.place) (rejected k z) x a)) }
 
-    pub discard-3 : {r : Called} → r ≡ called (as_found 3 c.place u) → Discarded v u r
-    discard-3 d = record { result = d ∙ ap called (sym (discard_by v u (some c.place) (rejected k z))) }
+    pub discard_3 : {r : Called} → r ≡ called (as_found 3 c.place u) → Discarded v u r
+    discard_3 d = record { result = d ∙ ap called (sym (discard_by v u (some c.place) (rejected k z))) }

@@ -35,9 +35,9 @@ module _ (k : ℕ) (r : Record) (h : 0 < name r) where
       go true x e ih = eqb-true k (name q) x ∙ eqb-true (name q) (name r) e
       go false x e ih = ih e
 
-  pub same-no : (k ≡ name r → ⊥) → same (record_by k) r ≡ false
+  pub same_no : (k ≡ name r → ⊥) → same (record_by k) r ≡ false
   unfolding record_by
-  same-no n = ne_eqb (name (record_by k)) (name r) (λ e. n (same_in ORDER (eq-eqb (name (record_by k)) (name r) e)))
+  same_no n = ne_eqb (name (record_by k)) (name r) (λ e. n (same_in ORDER (eq-eqb (name (record_by k)) (name r) e)))
 
 -- ---- the kind that a letter names
 
@@ -51,15 +51,15 @@ area_is q r a e s = rw e (record { most = s.0; count = s.1; place = s.2; size = 
 
 -- how many rows of it there are
 module _ (v : List ℤ) (k : ℕ) where
-  pub many-one : k ≡ 69 → (1 ≡ how_many v (record_by k)) × (1 ≤ most (record_by k))
+  pub many_one : k ≡ 69 → (1 ≡ how_many v (record_by k)) × (1 ≤ most (record_by k))
   unfolding record_by
-  many-one e = rw e (refl, omega arith)
+  many_one e = rw e (refl, omega arith)
 
-  pub many-counted : (k ≡ 69 → ⊥) → (a : Area) (n : ℕ) → AreaOf (record_by k) a → n ≡ size_by a.most (num v a.count)
+  pub many_counted : (k ≡ 69 → ⊥) → (a : Area) (n : ℕ) → AreaOf (record_by k) a → n ≡ size_by a.most (num v a.count)
       → (n ≡ how_many v (record_by k)) × (n ≤ most (record_by k))
-  many-counted h a n i e =
+  many_counted h a n i e =
       let z = size_most a.most (num v a.count) in
-      (rw (same-no k e_record (omega arith) h) (e ∙ rw (i.most, i.count)), rw (← i.most) (omega arith))
+      (rw (same_no k e_record (omega arith) h) (e ∙ rw (i.most, i.count)), rw (← i.most) (omega arith))
 
 -- the rows of a kind end within the value
 pub within_value : (r : Record) → place (laid r) + most r * row_size r ≤ VALUE

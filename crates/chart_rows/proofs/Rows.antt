@@ -14,7 +14,7 @@ use Rattle.sizes.specs.Sizes.{STATES, VARIABLES, EVENTS, TRANSITIONS, ACTIONS}
 use Rattle.numbers.specs.Reference.{ref}
 use Rattle.meaning.specs.Lists.{chunks}
 use Rattle.meaning.specs.declared.chart.Kind.{Kind}
-use Rattle.meaning.specs.declared.chart.Kind.TheVariants.{B as kind-b}
+use Rattle.meaning.specs.declared.chart.Kind.TheVariants.{B as kind_b}
 use Rattle.meaning.specs.declared.chart.VarRow.{VarRow}
 use Rattle.meaning.specs.declared.chart.TransRow.{TransRow}
 use Rattle.meaning.specs.declared.chart.ActRow.{ActRow}
@@ -63,8 +63,8 @@ module _ {A : Type 0} (f : List ℤ → A) (n k a : ℕ) (v : List ℤ) (i : ℕ
       get_d_map f (chunks n k (drop a v)) i [] d (omega arith)
       ∙ ap f (chunk_at n k (drop a v) i h ∙ ap (take k) (drop-drop (i * k) a v))
 
-  pub row-none : n ≤ i → get_or (map f (chunks n k (drop a v))) i d ≡ d
-  row-none h = get_or-eq_default (map f (chunks n k (drop a v))) d (rw (length-map, length_chunks) h)
+  pub row_none : n ≤ i → get_or (map f (chunks n k (drop a v))) i d ≡ d
+  row_none h = get_or-eq_default (map f (chunks n k (drop a v))) d (rw (length-map, length_chunks) h)
 
 pub length_rows : {A : Type 0} (f : List ℤ → A) (n k : ℕ) (l : List ℤ) → length (map f (chunks n k l)) ≡ n
 length_rows f n k l = length-map (chunks n k l) f ∙ length_chunks n k l
@@ -87,115 +87,115 @@ size_most most z = go (leb (ref z) most) refl
     go false e = omega arith
 
 module _ (v : List ℤ) where
-  pub states-count : length (chart_of v).states ≡ size_by STATES (num v (place (counted s_record)))
+  pub states_count : length (chart_of v).states ≡ size_by STATES (num v (place (counted s_record)))
   unfolding chart_of chart_by rows_of
-  states-count = length_rows state_by _ _ _
+  states_count = length_rows state_by _ _ _
 
-  pub vars-count : length (chart_of v).vars ≡ size_by VARIABLES (num v (place (counted v_record)))
+  pub vars_count : length (chart_of v).vars ≡ size_by VARIABLES (num v (place (counted v_record)))
   unfolding chart_of chart_by rows_of
-  vars-count = length_rows var_by _ _ _
+  vars_count = length_rows var_by _ _ _
 
-  pub transitions-count : length (chart_of v).transitions ≡ size_by TRANSITIONS (num v (place (counted t_record)))
+  pub transitions_count : length (chart_of v).transitions ≡ size_by TRANSITIONS (num v (place (counted t_record)))
   unfolding chart_of chart_by rows_of
-  transitions-count = length_rows trans_by _ _ _
+  transitions_count = length_rows trans_by _ _ _
 
-  pub actions-count : length (chart_of v).actions ≡ size_by ACTIONS (num v (place (counted a_record)))
+  pub actions_count : length (chart_of v).actions ≡ size_by ACTIONS (num v (place (counted a_record)))
   unfolding chart_of chart_by rows_of
-  actions-count = length_rows action_by _ _ _
+  actions_count = length_rows action_by _ _ _
 
-  pub events-count : (chart_of v).events ≡ ref (num v 2)
+  pub events_count : (chart_of v).events ≡ ref (num v 2)
   unfolding chart_of chart_by rows_of chunks
-  events-count = ap ref (num_first 1 2 v (omega arith))
+  events_count = ap ref (num_first 1 2 v (omega arith))
 
   -- what a value states is never more than its size
-  pub states-most : length (chart_of v).states ≤ STATES
-  states-most = rw states-count (size_most STATES (num v (place (counted s_record))))
+  pub states_most : length (chart_of v).states ≤ STATES
+  states_most = rw states_count (size_most STATES (num v (place (counted s_record))))
 
-  pub vars-most : length (chart_of v).vars ≤ VARIABLES
-  vars-most = rw vars-count (size_most VARIABLES (num v (place (counted v_record))))
+  pub vars_most : length (chart_of v).vars ≤ VARIABLES
+  vars_most = rw vars_count (size_most VARIABLES (num v (place (counted v_record))))
 
-  pub transitions-most : length (chart_of v).transitions ≤ TRANSITIONS
-  transitions-most = rw transitions-count (size_most TRANSITIONS (num v (place (counted t_record))))
+  pub transitions_most : length (chart_of v).transitions ≤ TRANSITIONS
+  transitions_most = rw transitions_count (size_most TRANSITIONS (num v (place (counted t_record))))
 
-  pub actions-most : length (chart_of v).actions ≤ ACTIONS
-  actions-most = rw actions-count (size_most ACTIONS (num v (place (counted a_record))))
+  pub actions_most : length (chart_of v).actions ≤ ACTIONS
+  actions_most = rw actions_count (size_most ACTIONS (num v (place (counted a_record))))
 
 -- ---- the rows
 
 -- a place that a chart does not have
 module _ (c : Chart) where
-  state-none : (s : ℕ) → length c.states ≤ s → state_row c s ≡ no_state
+  state_none : (s : ℕ) → length c.states ≤ s → state_row c s ≡ no_state
   unfolding state_row
-  state-none s h = get_or-eq_default c.states no_state h
+  state_none s h = get_or-eq_default c.states no_state h
 
-  pub parent-none : (s : ℕ) → length c.states ≤ s → parent_of c s ≡ 0
+  pub parent_none : (s : ℕ) → length c.states ≤ s → parent_of c s ≡ 0
   unfolding parent_of
-  parent-none s h = ap (λ r. r.parent) (state-none s h)
+  parent_none s h = ap (λ r. r.parent) (state_none s h)
 
-  pub kind-none : (s : ℕ) → length c.states ≤ s → kind_of c s ≡ kind-b
+  pub kind_none : (s : ℕ) → length c.states ≤ s → kind_of c s ≡ kind_b
   unfolding kind_of
-  kind-none s h = ap (λ r. r.kind) (state-none s h)
+  kind_none s h = ap (λ r. r.kind) (state_none s h)
 
   pub default_none : (s : ℕ) → length c.states ≤ s → default_child c s ≡ 0
   unfolding default_child
-  default_none s h = ap (λ r. r.default) (state-none s h)
+  default_none s h = ap (λ r. r.default) (state_none s h)
 
-  pub var-none : (i : ℕ) → length c.vars ≤ i → var_row c.vars i ≡ no_var
+  pub var_none : (i : ℕ) → length c.vars ≤ i → var_row c.vars i ≡ no_var
   unfolding var_row
-  var-none i h = get_or-eq_default c.vars no_var h
+  var_none i h = get_or-eq_default c.vars no_var h
 
-  pub trans-none : (i : ℕ) → length c.transitions ≤ i → trans_row c i ≡ no_trans
+  pub trans_none : (i : ℕ) → length c.transitions ≤ i → trans_row c i ≡ no_trans
   unfolding trans_row
-  trans-none i h = get_or-eq_default c.transitions no_trans h
+  trans_none i h = get_or-eq_default c.transitions no_trans h
 
-  pub action-none : (i : ℕ) → length c.actions ≤ i → get_or c.actions i no_action ≡ no_action
-  action-none i h = get_or-eq_default c.actions no_action h
+  pub action_none : (i : ℕ) → length c.actions ≤ i → get_or c.actions i no_action ≡ no_action
+  action_none i h = get_or-eq_default c.actions no_action h
 
 -- a place that it has: what its row of numbers says
 module _ (v : List ℤ) (i : ℕ) where
-  pub state-at : i < length (chart_of v).states → state_row (chart_of v) i ≡ state_by (take STATE_ROW (drop (STATES_AT + i * STATE_ROW) v))
+  pub state_at : i < length (chart_of v).states → state_row (chart_of v) i ≡ state_by (take STATE_ROW (drop (STATES_AT + i * STATE_ROW) v))
   unfolding state_row chart_of chart_by rows_of
-  state-at h =
-      row_at state_by (size_by STATES (num v (place (counted s_record)))) STATE_ROW STATES_AT v i no_state (rw (states-count v) at h)
+  state_at h =
+      row_at state_by (size_by STATES (num v (place (counted s_record)))) STATE_ROW STATES_AT v i no_state (rw (states_count v) at h)
 
-  pub parent-at : i < length (chart_of v).states → parent_of (chart_of v) i ≡ ref_or_none (get_or v (STATES_AT + i * STATE_ROW) (pos 0))
+  pub parent_at : i < length (chart_of v).states → parent_of (chart_of v) i ≡ ref_or_none (get_or v (STATES_AT + i * STATE_ROW) (pos 0))
   unfolding parent_of state_by
-  parent-at h =
-      ap (λ r. r.parent) (state-at h) ∙ ap ref_or_none (num_first STATE_ROW (STATES_AT + i * STATE_ROW) v (omega arith))
+  parent_at h =
+      ap (λ r. r.parent) (state_at h) ∙ ap ref_or_none (num_first STATE_ROW (STATES_AT + i * STATE_ROW) v (omega arith))
 
   pub kind_at : i < length (chart_of v).states → kind_of (chart_of v) i ≡ kind_by (get_or v (STATES_AT + i * STATE_ROW + 1) (pos 0))
   unfolding kind_of state_by
-  kind_at h = ap (λ r. r.kind) (state-at h) ∙ ap kind_by (num_at STATE_ROW (STATES_AT + i * STATE_ROW) v 1 (omega arith))
+  kind_at h = ap (λ r. r.kind) (state_at h) ∙ ap kind_by (num_at STATE_ROW (STATES_AT + i * STATE_ROW) v 1 (omega arith))
 
-  pub default-at : i < length (chart_of v).states
+  pub default_at : i < length (chart_of v).states
       → default_child (chart_of v) i ≡ ref_or_none (get_or v (STATES_AT + i * STATE_ROW + 2) (pos 0))
   unfolding default_child state_by
-  default-at h =
-      ap (λ r. r.default) (state-at h) ∙ ap ref_or_none (num_at STATE_ROW (STATES_AT + i * STATE_ROW) v 2 (omega arith))
+  default_at h =
+      ap (λ r. r.default) (state_at h) ∙ ap ref_or_none (num_at STATE_ROW (STATES_AT + i * STATE_ROW) v 2 (omega arith))
 
   pub var_at : i < length (chart_of v).vars → var_row (chart_of v).vars i ≡ var_by (take VAR_ROW (drop (VARS_AT + i * VAR_ROW) v))
   unfolding var_row chart_of chart_by rows_of
-  var_at h = row_at var_by (size_by VARIABLES (num v (place (counted v_record)))) VAR_ROW VARS_AT v i no_var (rw (vars-count v) at h)
+  var_at h = row_at var_by (size_by VARIABLES (num v (place (counted v_record)))) VAR_ROW VARS_AT v i no_var (rw (vars_count v) at h)
 
-  pub trans-at : i < length (chart_of v).transitions
+  pub trans_at : i < length (chart_of v).transitions
       → trans_row (chart_of v) i ≡ trans_by (take TRANS_ROW (drop (TRANSITIONS_AT + i * TRANS_ROW) v))
   unfolding trans_row chart_of chart_by rows_of
-  trans-at h =
+  trans_at h =
       row_at trans_by (size_by TRANSITIONS (num v (place (counted t_record)))) TRANS_ROW TRANSITIONS_AT v i no_trans
-      (rw (transitions-count v) at h)
+      (rw (transitions_count v) at h)
 
-  pub action-at : i < length (chart_of v).actions
+  pub action_at : i < length (chart_of v).actions
       → get_or (chart_of v).actions i no_action ≡ action_by (take ACT_ROW (drop (ACTIONS_AT + i * ACT_ROW) v))
   unfolding chart_of chart_by rows_of
-  action-at h =
-      row_at action_by (size_by ACTIONS (num v (place (counted a_record)))) ACT_ROW ACTIONS_AT v i no_action (rw (actions-count v) at h)
+  action_at h =
+      row_at action_by (size_by ACTIONS (num v (place (counted a_record)))) ACT_ROW ACTIONS_AT v i no_action (rw (actions_count v) at h)
 
 -- a row field by field, from the place where it begins
 module _ (v : List ℤ) (b : ℕ) where
-  pub var-said : {x y z : ℤ} → x ≡ get_or v b (pos 0) → y ≡ get_or v (b + 1) (pos 0) → z ≡ get_or v (b + 2) (pos 0)
+  pub var_said : {x y z : ℤ} → x ≡ get_or v b (pos 0) → y ≡ get_or v (b + 1) (pos 0) → z ≡ get_or v (b + 2) (pos 0)
       → record { low = x; high = y; first = z } ≡ var_by (take VAR_ROW (drop b v))
   unfolding var_by
-  var-said p q r =
+  var_said p q r =
       rw (
         p,
         q,
@@ -205,14 +205,14 @@ module _ (v : List ℤ) (b : ℕ) where
         num_at VAR_ROW b v 2 (omega arith),
       )
 
-  pub trans-said : {s e : ℕ} {g : Guard} {t : Target}
+  pub trans_said : {s e : ℕ} {g : Guard} {t : Target}
       → s ≡ ref (get_or v b (pos 0))
       → e ≡ ref (get_or v (b + 1) (pos 0))
       → g ≡ guard_by (get_or v (b + 2) (pos 0)) (get_or v (b + 3) (pos 0)) (get_or v (b + 4) (pos 0))
       → t ≡ target_by (get_or v (b + 5) (pos 0)) (get_or v (b + 6) (pos 0))
       → record { source = s; trigger = e; guard = g; target = t } ≡ trans_by (take TRANS_ROW (drop b v))
   unfolding trans_by
-  trans-said p q r t =
+  trans_said p q r t =
       rw (
         p,
         q,
@@ -227,12 +227,12 @@ module _ (v : List ℤ) (b : ℕ) where
         num_at TRANS_ROW b v 6 (omega arith),
       )
 
-  pub action-said : {o : Owner} {a : Act}
+  pub action_said : {o : Owner} {a : Act}
       → o ≡ owner_by (get_or v b (pos 0)) (get_or v (b + 1) (pos 0))
       → a ≡ act_by (get_or v (b + 2) (pos 0)) (get_or v (b + 3) (pos 0)) (get_or v (b + 4) (pos 0))
       → record { owner = o; act = a } ≡ action_by (take ACT_ROW (drop b v))
   unfolding action_by
-  action-said p q =
+  action_said p q =
       rw (
         p,
         q,
@@ -245,49 +245,49 @@ module _ (v : List ℤ) (b : ℕ) where
 
 -- each field of a transition and of an action, where it stands
 module _ (v : List ℤ) (i : ℕ) (l : i < length (chart_of v).transitions) where
-  abbrev row-begins : ℕ
-  row-begins = TRANSITIONS_AT + i * TRANS_ROW
+  abbrev row_begins : ℕ
+  row_begins = TRANSITIONS_AT + i * TRANS_ROW
 
-  pub source-said : ref (get_or v row-begins (pos 0)) ≡ (trans_row (chart_of v) i).source
+  pub source_said : ref (get_or v row_begins (pos 0)) ≡ (trans_row (chart_of v) i).source
   unfolding trans_by
-  source-said = sym (ap (λ r. r.source) (trans-at v i l) ∙ rw (num_first TRANS_ROW row-begins v (omega arith)))
+  source_said = sym (ap (λ r. r.source) (trans_at v i l) ∙ rw (num_first TRANS_ROW row_begins v (omega arith)))
 
-  pub trigger-said : ref (get_or v (row-begins + 1) (pos 0)) ≡ (trans_row (chart_of v) i).trigger
+  pub trigger_said : ref (get_or v (row_begins + 1) (pos 0)) ≡ (trans_row (chart_of v) i).trigger
   unfolding trans_by
-  trigger-said = sym (ap (λ r. r.trigger) (trans-at v i l) ∙ rw (num_at TRANS_ROW row-begins v 1 (omega arith)))
+  trigger_said = sym (ap (λ r. r.trigger) (trans_at v i l) ∙ rw (num_at TRANS_ROW row_begins v 1 (omega arith)))
 
-  pub guard-said : guard_by (get_or v (row-begins + 2) (pos 0)) (get_or v (row-begins + 3) (pos 0)) (get_or v (row-begins + 4) (pos 0))
+  pub guard_said : guard_by (get_or v (row_begins + 2) (pos 0)) (get_or v (row_begins + 3) (pos 0)) (get_or v (row_begins + 4) (pos 0))
       ≡ (trans_row (chart_of v) i).guard
   unfolding trans_by
-  guard-said = sym (ap (λ r. r.guard) (trans-at v i l) ∙ rw (
-    num_at TRANS_ROW row-begins v 2 (omega arith),
-    num_at TRANS_ROW row-begins v 3 (omega arith),
-    num_at TRANS_ROW row-begins v 4 (omega arith),
+  guard_said = sym (ap (λ r. r.guard) (trans_at v i l) ∙ rw (
+    num_at TRANS_ROW row_begins v 2 (omega arith),
+    num_at TRANS_ROW row_begins v 3 (omega arith),
+    num_at TRANS_ROW row_begins v 4 (omega arith),
   ))
 
-  pub target_said : target_by (get_or v (row-begins + 5) (pos 0)) (get_or v (row-begins + 6) (pos 0)) ≡ (trans_row (chart_of v) i).target
+  pub target_said : target_by (get_or v (row_begins + 5) (pos 0)) (get_or v (row_begins + 6) (pos 0)) ≡ (trans_row (chart_of v) i).target
   unfolding trans_by
-  target_said = sym (ap (λ r. r.target) (trans-at v i l) ∙ rw (
-    num_at TRANS_ROW row-begins v 5 (omega arith),
-    num_at TRANS_ROW row-begins v 6 (omega arith),
+  target_said = sym (ap (λ r. r.target) (trans_at v i l) ∙ rw (
+    num_at TRANS_ROW row_begins v 5 (omega arith),
+    num_at TRANS_ROW row_begins v 6 (omega arith),
   ))
 
 module _ (v : List ℤ) (i : ℕ) (l : i < length (chart_of v).actions) where
-  abbrev act-begins : ℕ
-  act-begins = ACTIONS_AT + i * ACT_ROW
+  abbrev act_begins : ℕ
+  act_begins = ACTIONS_AT + i * ACT_ROW
 
-  pub owner_said : owner_by (get_or v act-begins (pos 0)) (get_or v (act-begins + 1) (pos 0)) ≡ (get_or (chart_of v).actions i no_action).owner
+  pub owner_said : owner_by (get_or v act_begins (pos 0)) (get_or v (act_begins + 1) (pos 0)) ≡ (get_or (chart_of v).actions i no_action).owner
   unfolding action_by
-  owner_said = sym (ap (λ r. r.owner) (action-at v i l) ∙ rw (
-    num_first ACT_ROW act-begins v (omega arith),
-    num_at ACT_ROW act-begins v 1 (omega arith),
+  owner_said = sym (ap (λ r. r.owner) (action_at v i l) ∙ rw (
+    num_first ACT_ROW act_begins v (omega arith),
+    num_at ACT_ROW act_begins v 1 (omega arith),
   ))
 
-  pub act-said : act_by (get_or v (act-begins + 2) (pos 0)) (get_or v (act-begins + 3) (pos 0)) (get_or v (act-begins + 4) (pos 0))
+  pub act_said : act_by (get_or v (act_begins + 2) (pos 0)) (get_or v (act_begins + 3) (pos 0)) (get_or v (act_begins + 4) (pos 0))
       ≡ (get_or (chart_of v).actions i no_action).act
   unfolding action_by
-  act-said = sym (ap (λ r. r.act) (action-at v i l) ∙ rw (
-    num_at ACT_ROW act-begins v 2 (omega arith),
-    num_at ACT_ROW act-begins v 3 (omega arith),
-    num_at ACT_ROW act-begins v 4 (omega arith),
+  act_said = sym (ap (λ r. r.act) (action_at v i l) ∙ rw (
+    num_at ACT_ROW act_begins v 2 (omega arith),
+    num_at ACT_ROW act_begins v 3 (omega arith),
+    num_at ACT_ROW act_begins v 4 (omega arith),
   ))

@@ -7,7 +7,7 @@ use lib.ListN.{length}
 use lib.IntN.{ℤ}
 use Rattle.meaning.specs.Chart.{Chart}
 use Rattle.meaning.specs.declared.chart.Target.{Target}
-use Rattle.meaning.specs.declared.chart.Kind.TheVariants.{O as kind-o}
+use Rattle.meaning.specs.declared.chart.Kind.TheVariants.{O as kind_o}
 use Rattle.meaning.specs.Tree.{kind_of, scope, span_of, descendants}
 use Rattle.meaning.specs.Value.{chart_of}
 use Rattle.laws.proofs.Scope.{ScopeFacts, scope_facts}
@@ -20,7 +20,7 @@ use Rattle.tree.specs.Aims.{aim_by, aimed_at, top_of}
 use Rattle.tree.proofs.Aiming.{goes_by, stays_by, goal_facts}
 use Rattle.choice.specs.declared.Span.{Span}
 use Rattle.choice.specs.Span.{Spans, Spanned, Aims}
-use Rattle.choice.proofs.Walk.{scope-spans, place-spans}
+use Rattle.choice.proofs.Walk.{scope_spans, place_spans}
 
 span_goes : (c : Chart) (s : ℕ) (g : Target) (goal : Goal) → aim_by g ≡ Goes goal → span_of c s g
     ≡ descendants c (scope c s (aimed_at goal))
@@ -36,8 +36,8 @@ module _ (v : List ℤ) (h : Ruled v) (s : ℕ) (g : Target) (a : Aims (chart_of
     goes : aim_by g ≡ Goes goal
     goes = sym q ∙ e
 
-    is-scope : top ≡ scope (chart_of v) s (aimed_at goal)
-    is-scope = p ∙ ap (scope (chart_of v) s) o
+    is_scope : top ≡ scope (chart_of v) s (aimed_at goal)
+    is_scope = p ∙ ap (scope (chart_of v) s) o
 
     facts : ScopeFacts (chart_of v) s (aimed_at goal) (scope (chart_of v) s (aimed_at goal))
     facts =
@@ -45,23 +45,23 @@ module _ (v : List ℤ) (h : Ruled v) (s : ℕ) (g : Target) (a : Aims (chart_of
         scope_facts (chart_of v) (sound v h) s (aimed_at goal) f.2 f.1
 
     pub top_inside : top < length (chart_of v).states
-    top_inside = omega (arith, is-scope, facts.inside)
+    top_inside = omega (arith, is_scope, facts.inside)
 
-    pub goes-spanned : (w : Span) → w.top ≡ top → w.first ≡ top + 1 → w.end ≡ suc top + length (descendants (chart_of v) top)
+    pub goes_spanned : (w : Span) → w.top ≡ top → w.first ≡ top + 1 → w.end ≡ suc top + length (descendants (chart_of v) top)
         → Spanned (chart_of v) s g w
-    goes-spanned w f l n = record {
-      spans = subst (λ x. Spans x w) (ap (descendants (chart_of v)) is-scope ∙ sym (span_goes (chart_of v) s g goal goes))
-          (scope-spans (chart_of v) (sound v h) top w top_inside n
-          (subst (λ x. kind_of (chart_of v) x ≡ kind-o) (sym is-scope) facts.kind) l);
-      top = f ∙ is-scope ∙ ap (top_of (chart_of v) s) (sym goes);
+    goes_spanned w f l n = record {
+      spans = subst (λ x. Spans x w) (ap (descendants (chart_of v)) is_scope ∙ sym (span_goes (chart_of v) s g goal goes))
+          (scope_spans (chart_of v) (sound v h) top w top_inside n
+          (subst (λ x. kind_of (chart_of v) x ≡ kind_o) (sym is_scope) facts.kind) l);
+      top = f ∙ is_scope ∙ ap (top_of (chart_of v) s) (sym goes);
       below = n ∙ ap (λ x. suc x + length (descendants (chart_of v) x)) (sym f);
     }
 
-  pub stays-spanned : aim ≡ Stays → (w : Span) → w.top ≡ s → w.first ≡ s → w.end ≡ suc s + length (descendants (chart_of v) s)
+  pub stays_spanned : aim ≡ Stays → (w : Span) → w.top ≡ s → w.first ≡ s → w.end ≡ suc s + length (descendants (chart_of v) s)
       → Spanned (chart_of v) s g w
-  stays-spanned e w f l n = record {
+  stays_spanned e w f l n = record {
     spans = subst (λ x. Spans x w) (sym (span_stays (chart_of v) s g (sym q ∙ e)))
-        (place-spans (chart_of v) (sound v h) s w a.0 n l);
+        (place_spans (chart_of v) (sound v h) s w a.0 n l);
     top = f ∙ ap (top_of (chart_of v) s) (sym (sym q ∙ e));
     below = n ∙ ap (λ x. suc x + length (descendants (chart_of v) x)) (sym f);
   }

@@ -9,7 +9,7 @@ use Rattle.meaning.specs.Chart.{Chart}
 use Rattle.meaning.specs.declared.chart.Target.{Target}
 use Rattle.meaning.specs.declared.chart.Target.TheVariants.{To as to, History as history, InPlace as in_place}
 use Rattle.meaning.specs.Tree.{all_states, ancestors, descendants, scope, span_of}
-use Rattle.laws.proofs.Lists.{each-kept, each_range}
+use Rattle.laws.proofs.Lists.{each_kept, each_range}
 use Rattle.laws.specs.Facts.{Each, one_more}
 use Rattle.choice.specs.declared.Span.{Span}
 use Rattle.choice.specs.Span.{Spans}
@@ -22,7 +22,7 @@ last_in m a (suc n) (one_more p ps) = omega (arith, last_in m (suc a) n ps)
 below_in : (c : Chart) (s : ℕ) → Each (λ x. x < length c.states) (descendants c s)
 unfolding descendants all_states
 below_in c s =
-    each-kept _ (λ d. has s (ancestors c d)) (from 0 (length c.states))
+    each_kept _ (λ d. has s (ancestors c d)) (from 0 (length c.states))
     (each_range 0 (length c.states) (length c.states) (omega arith))
 
 span_in : (c : Chart) (s : ℕ) → s < length c.states → (t : Target) → Each (λ x. x < length c.states) (span_of c s t)

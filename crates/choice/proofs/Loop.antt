@@ -21,14 +21,14 @@ use Rattle.meaning.specs.Reaction.{enabled_by, enabled, meets}
 use mathlib.Core.Logic.{⊎_elim}
 use Rattle.laws.proofs.Lists.{le_or_lt}
 use Rattle.laws.proofs.Rules.{GuardFacts, TransitionFacts}
-use Rattle.laws.proofs.Value.{sized-chart}
+use Rattle.laws.proofs.Value.{sized_chart}
 use Rattle.meaning.specs.Rules.{Ruled}
 use Rattle.tree.proofs.Passing.{sound, rules_passed}
 use Rattle.choice.specs.declared.Span.{Span}
 use Rattle.choice.specs.Span.{Spans, Spanned, Aims, Goes}
 use Rattle.tree.specs.Aims.{aim_by, top_of, Found}
 use Rattle.choice.specs.Choice.{Reads, PICKS, TOPS_AT, ENDS_AT, noted, Carried}
-use Rattle.choice.proofs.Meets.{Gone, gone_none, gone_more, clash-hit, clash-none}
+use Rattle.choice.proofs.Meets.{Gone, gone_none, gone_more, clash_hit, clash_none}
 use Rattle.choice.proofs.Thin.{gone_after, gone_snoc}
 
 reads_by : (c : Chart) (g : Guard) → length c.vars ≤ VARIABLES → GuardFacts c g → Reads g
@@ -42,29 +42,29 @@ module _ (v : List ℤ) (h : Ruled v) (t : ℕ) (row : TransRow) (e : row ≡ tr
 
   pub row_fits : (row.source < STATES) × Reads row.guard
   row_fits =
-      let k = sized-chart v (rules_passed v h).0 in
+      let k = sized_chart v (rules_passed v h).0 in
       (omega (arith, facts.source, k.states), reads_by (chart_of v) row.guard k.vars facts.guard)
 
-  pub row-aims : (s : ℕ) → row.source ≡ s → Aims (chart_of v) s row.target
-  row-aims s q = subst (λ n. Aims (chart_of v) n row.target) q (facts.source, facts.target)
+  pub row_aims : (s : ℕ) → row.source ≡ s → Aims (chart_of v) s row.target
+  row_aims s q = subst (λ n. Aims (chart_of v) n row.target) q (facts.source, facts.target)
 
-  pub row-spans : (s : ℕ) (w : Span) → row.source ≡ s → Spans (span_of (chart_of v) s row.target) w → Spans (span (chart_of v) t) w
+  pub row_spans : (s : ℕ) (w : Span) → row.source ≡ s → Spans (span_of (chart_of v) s row.target) w → Spans (span (chart_of v) t) w
   unfolding span
-  row-spans s w q f = rw (← e, q) f
+  row_spans s w q f = rw (← e, q) f
 
-  pub row-found : (s : ℕ) (w : Span) → row.source ≡ s → Spanned (chart_of v) s row.target w → Found (chart_of v) t w.top w.end
-  row-found s w q f = record {
+  pub row_found : (s : ℕ) (w : Span) → row.source ≡ s → Spanned (chart_of v) s row.target w → Found (chart_of v) t w.top w.end
+  row_found s w q f = record {
     is = f.top ∙ ap (λ n. top_of (chart_of v) n (aim_by row.target)) (sym q)
         ∙ ap (λ x. top_of (chart_of v) x.source (aim_by x.target)) e;
     ends = f.below;
   }
 
-  pub row-enabled : (ev : ℕ) (u : State) (b : Bool) → b ≡ enabled_by row ev u → enabled (chart_of v) ev u t ≡ b
+  pub row_enabled : (ev : ℕ) (u : State) (b : Bool) → b ≡ enabled_by row ev u → enabled (chart_of v) ev u t ≡ b
   unfolding enabled
-  row-enabled ev u b q = rw (← e) (sym q)
+  row_enabled ev u b q = rw (← e) (sym q)
 
-  pub row-source : (s : ℕ) → row.source ≡ s → (trans_row (chart_of v) t).source ≡ s
-  row-source s q = rw (← e) q
+  pub row_source : (s : ℕ) → row.source ≡ s → (trans_row (chart_of v) t).source ≡ s
+  row_source s q = rw (← e) q
 
 pub source_small : (v : List ℤ) (h : Ruled v) (t n : ℕ) → n ≡ (trans_row (chart_of v) t).source → t < length (chart_of v).transitions
     → n < STATES
@@ -108,8 +108,8 @@ module _ (picks : List ℕ) (count t : ℕ) (r : Span) (l : count < TRANSITIONS)
       ∙ take_past (count + 1) (set picks count t) (TOPS_AT + count) r.top (omega arith)
       ∙ rw (add-one count, take-suc-set picks count t (omega (arith, n)))
 
-  noted-size : length (noted picks count t r) ≡ PICKS
-  noted-size =
+  noted_size : length (noted picks count t r) ≡ PICKS
+  noted_size =
       length-set (set (set picks count t) (TOPS_AT + count) r.top) (ENDS_AT + count) r.end
       ∙ length-set (set picks count t) (TOPS_AT + count) r.top ∙ length-set picks count t ∙ n
 
@@ -133,8 +133,8 @@ module _ (picks : List ℕ) (count t : ℕ) (r : Span) (l : count < TRANSITIONS)
         get_or-set_same two (ENDS_AT + count) r.end 0 (omega (arith, size)),
       )
 
-  noted-carried : (c : Chart) → Carried c count picks → Found c t r.top r.end → Carried c (count + 1) (noted picks count t r)
-  noted-carried c h f = up_to (λ j. Found c (at j) (at (TOPS_AT + j)) (at (ENDS_AT + j))) count before here
+  noted_carried : (c : Chart) → Carried c count picks → Found c t r.top r.end → Carried c (count + 1) (noted picks count t r)
+  noted_carried c h f = up_to (λ j. Found c (at j) (at (TOPS_AT + j)) (at (ENDS_AT + j))) count before here
     where
       at : ℕ → ℕ
       at i = get_or (noted picks count t r) i 0
@@ -157,8 +157,8 @@ pub held_more : (c : Chart) (picks : List ℕ) (count : ℕ) (gone new : List Bo
     → Held c (noted picks count t r) (count + 1) new
 held_more c picks count gone new t r h l f o g = record {
   few = omega arith;
-  size = noted-size picks count t r l h.size;
-  carried = noted-carried picks count t r l h.size c h.carried o;
+  size = noted_size picks count t r l h.size;
+  carried = noted_carried picks count t r l h.size c h.carried o;
   marks = subst (λ ps. Gone (gone_after c [] ps) new) (sym (one_more picks count t r l h.size))
       (subst (λ ps. Gone ps new) (sym (gone_snoc c [] (take count picks) t)) (gone_more (span c t) _ r gone new f g h.marks));
   long = g.long ∙ h.long;
@@ -167,10 +167,10 @@ held_more c picks count gone new t r h l f o g = record {
 -- a span clashes where one of its states is gone
 module _ {c : Chart} {picks : List ℕ} {count : ℕ} {gone : List Bool} (h : Held c picks count gone) (t : ℕ) {r : Span}
     (f : Spans (span c t) r) (l : r.end ≤ STATES) where
-  pub held-clash : (x : ℕ) → r.first ≤ x → x < r.end → get_or gone x false ≡ true → meets (span c t)
+  pub held_clash : (x : ℕ) → r.first ≤ x → x < r.end → get_or gone x false ≡ true → meets (span c t)
       (gone_after c [] (take count picks)) ≡ true
-  held-clash x p q e = clash-hit (span c t) _ r f x p q (sym (h.marks x (omega arith)) ∙ e)
+  held_clash x p q e = clash_hit (span c t) _ r f x p q (sym (h.marks x (omega arith)) ∙ e)
 
-  pub held-apart : ((x : ℕ) → r.first ≤ x → x < r.end → get_or gone x false ≡ false) → meets (span c t)
+  pub held_apart : ((x : ℕ) → r.first ≤ x → x < r.end → get_or gone x false ≡ false) → meets (span c t)
       (gone_after c [] (take count picks)) ≡ false
-  held-apart e = clash-none (span c t) _ r f (λ x p q. sym (h.marks x (omega arith)) ∙ e x p q)
+  held_apart e = clash_none (span c t) _ r f (λ x p q. sym (h.marks x (omega arith)) ∙ e x p q)

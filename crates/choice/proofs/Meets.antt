@@ -17,13 +17,13 @@ use Rattle.choice.specs.Span.{Spans, Goes}
 
 -- a list meets a range where a number of the range is in it
 module _ (xs g : List ℕ) (r : Span) (f : Spans xs r) where
-  pub clash-hit : (x : ℕ) → r.first ≤ x → x < r.end → has x g ≡ true → meets xs g ≡ true
+  pub clash_hit : (x : ℕ) → r.first ≤ x → x < r.end → has x g ≡ true → meets xs g ≡ true
   unfolding meets
-  clash-hit x l m e = rw f.is (exists_in (λ y. has y g) x r.first (r.end - r.first) l (omega arith) e)
+  clash_hit x l m e = rw f.is (exists_in (λ y. has y g) x r.first (r.end - r.first) l (omega arith) e)
 
-  pub clash-none : ((x : ℕ) → r.first ≤ x → x < r.end → has x g ≡ false) → meets xs g ≡ false
+  pub clash_none : ((x : ℕ) → r.first ≤ x → x < r.end → has x g ≡ false) → meets xs g ≡ false
   unfolding meets
-  clash-none h =
+  clash_none h =
       let q = f.some in
       rw f.is (exists_none (λ y. has y g) r.first (r.end - r.first) (λ x l m. h x l (omega arith)))
 
@@ -53,8 +53,8 @@ goes_none r marks e = record { within = λ x l m. absurd (omega arith); below = 
 
 module _ {top first x : ℕ} {old marks : List Bool} (h : Goes (record { top = top; first = first; end = x }) old marks)
     (l : x < length marks) (m : first ≤ x) where
-  pub goes-more : Goes (record { top = top; first = first; end = x + 1 }) old (set marks x true)
-  goes-more = record {
+  pub goes_more : Goes (record { top = top; first = first; end = x + 1 }) old (set marks x true)
+  goes_more = record {
     within = λ y p q. ⊎_elim (λ o. let z : x ≡ y = omega arith in rw (← z, get_or-set_same marks x true false l) refl)
         (λ o. rw (get_or-set_other marks x y true false (λ z. omega arith)) (h.within y p o)) (le_or_lt x y);
     below = λ y p. get_or-set_other marks x y true false (λ z. omega arith) ∙ h.below y p;

@@ -30,15 +30,15 @@ pub record Marking (c : Chart) (e : ℕ) (active : List Bool) (t : ℕ) (marks :
       (trans_row c i).source false
 
 module _ {c : Chart} {e : ℕ} {active : List Bool} {t : ℕ} {marks : List Bool} (h : Marking c e active t marks) where
-  pub marking-other : (m : ℕ) → m ≡ (trans_row c t).trigger → (m ≡ e → ⊥) → Marking c e active (t + 1) marks
-  marking-other m q o = record {
+  pub marking_other : (m : ℕ) → m ≡ (trans_row c t).trigger → (m ≡ e → ⊥) → Marking c e active (t + 1) marks
+  marking_other m q o = record {
     told = λ i l z. ⊎_elim (λ p. let y : t ≡ i = omega arith in absurd
         (o (q ∙ ap (λ x. (trans_row c x).trigger) y ∙ z))) (λ p. h.told i p z) (le_or_lt t i);
   }
 
-  pub marking-more : (s : ℕ) → s ≡ (trans_row c t).source → s < length marks → Marking c e active (t + 1)
+  pub marking_more : (s : ℕ) → s ≡ (trans_row c t).source → s < length marks → Marking c e active (t + 1)
       (set marks s (get_or active s false))
-  marking-more s q l = record {
+  marking_more s q l = record {
     told = λ i k z. ⊎_elim
         (λ p. ap (λ x. get_or (set marks s (get_or active s false)) x false) (sym p) ∙ get_or-set_same marks s _ false l ∙ ap
         (λ x. get_or active x false) p)

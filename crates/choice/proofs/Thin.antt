@@ -38,21 +38,21 @@ gone_snoc c g [] t = refl
 gone_snoc c g (x ∷ ts) t = gone_snoc c (span c x ++ g) ts t
 
 module _ (c : Chart) (g : List ℕ) (t : ℕ) (ts : List ℕ) where
-  by-meeting : (b : Bool) → meets (span c t) g ≡ b → thin c g (t ∷ ts) ≡ elim b [
+  by_meeting : (b : Bool) → meets (span c t) g ≡ b → thin c g (t ∷ ts) ≡ elim b [
     | true ↦ thin c g ts
     | false ↦ t ∷ thin c (span c t ++ g) ts
   ]
   unfolding thin
-  by-meeting b e = subst (λ d. thin c g (t ∷ ts) ≡ elim d [
+  by_meeting b e = subst (λ d. thin c g (t ∷ ts) ≡ elim d [
     | true ↦ thin c g ts
     | false ↦ t ∷ thin c (span c t ++ g) ts
   ]) e refl
 
-  pub thin-clash : meets (span c t) g ≡ true → thin c g (t ∷ ts) ≡ thin c g ts
-  thin-clash e = by-meeting true e
+  pub thin_clash : meets (span c t) g ≡ true → thin c g (t ∷ ts) ≡ thin c g ts
+  thin_clash e = by_meeting true e
 
-  pub thin-take : meets (span c t) g ≡ false → thin c g (t ∷ ts) ≡ t ∷ thin c (span c t ++ g) ts
-  thin-take e = by-meeting false e
+  pub thin_take : meets (span c t) g ≡ false → thin c g (t ∷ ts) ≡ t ∷ thin c (span c t ++ g) ts
+  thin_take e = by_meeting false e
 
 module _ (c : Chart) (e : ℕ) (u : State) (s t n : ℕ) (l : t < n) (ps : List ℕ) where
   one_more : from t (n - t) ≡ t ∷ from (t + 1) (n - (t + 1))
@@ -62,65 +62,65 @@ module _ (c : Chart) (e : ℕ) (u : State) (s t n : ℕ) (l : t < n) (ps : List 
   next : Bool → Bool → List ℕ → List ℕ
   next o f r = cond f (cond o (t ∷ r) r) r
 
-  candidates-next : (o f : Bool) → eqb (trans_row c t).source s ≡ o → enabled c e u t ≡ f
+  candidates_next : (o f : Bool) → eqb (trans_row c t).source s ≡ o → enabled c e u t ≡ f
       → candidates_from c e u s t (n - t) ≡ next o f (candidates_from c e u s (t + 1) (n - (t + 1)))
   unfolding candidates_from keep next
-  candidates-next true true p q = rw (one_more, q, p)
-  candidates-next true false p q = rw (one_more, q)
-  candidates-next false true p q = rw (one_more, q, p)
-  candidates-next false false p q = rw (one_more, q)
+  candidates_next true true p q = rw (one_more, q, p)
+  candidates_next true false p q = rw (one_more, q)
+  candidates_next false true p q = rw (one_more, q, p)
+  candidates_next false false p q = rw (one_more, q)
 
-  pub rest-other : ((trans_row c t).source ≡ s → ⊥) → with_rest c e u s (t + 1) (n - (t + 1)) ps ≡ with_rest c e u s t (n - t) ps
+  pub rest_other : ((trans_row c t).source ≡ s → ⊥) → with_rest c e u s (t + 1) (n - (t + 1)) ps ≡ with_rest c e u s t (n - t) ps
   unfolding with_rest next
-  rest-other o = go (enabled c e u t) refl
+  rest_other o = go (enabled c e u t) refl
     where
       go : (f : Bool) → enabled c e u t ≡ f → ps ++ thin c (gone_after c [] ps)
           (candidates_from c e u s (t + 1) (n - (t + 1))) ≡ ps ++ thin c (gone_after c [] ps) (candidates_from c e u s t (n - t))
-      go true f = rw (candidates-next false true (ne_eqb _ s o) f)
-      go false f = rw (candidates-next false false (ne_eqb _ s o) f)
+      go true f = rw (candidates_next false true (ne_eqb _ s o) f)
+      go false f = rw (candidates_next false false (ne_eqb _ s o) f)
 
-  pub rest-off : enabled c e u t ≡ false → with_rest c e u s (t + 1) (n - (t + 1)) ps ≡ with_rest c e u s t (n - t) ps
+  pub rest_off : enabled c e u t ≡ false → with_rest c e u s (t + 1) (n - (t + 1)) ps ≡ with_rest c e u s t (n - t) ps
   unfolding with_rest next
-  rest-off f = go (eqb (trans_row c t).source s) refl
+  rest_off f = go (eqb (trans_row c t).source s) refl
     where
       go : (o : Bool) → eqb (trans_row c t).source s ≡ o → ps ++ thin c (gone_after c [] ps)
           (candidates_from c e u s (t + 1) (n - (t + 1))) ≡ ps ++ thin c (gone_after c [] ps) (candidates_from c e u s t (n - t))
-      go true o = rw (candidates-next true false o f)
-      go false o = rw (candidates-next false false o f)
+      go true o = rw (candidates_next true false o f)
+      go false o = rw (candidates_next false false o f)
 
   -- a row of another source or trigger
-  pub rest-passed : meant (trans_row c t) s e ≡ false → with_rest c e u s (t + 1) (n - (t + 1)) ps ≡ with_rest c e u s t (n - t) ps
+  pub rest_passed : meant (trans_row c t) s e ≡ false → with_rest c e u s (t + 1) (n - (t + 1)) ps ≡ with_rest c e u s t (n - t) ps
   unfolding meant enabled enabled_by
-  rest-passed m = ⊎_elim
-      (λ o. rest-off (rw (ne_eqb (trans_row c t).trigger e (λ z. true≢false
+  rest_passed m = ⊎_elim
+      (λ o. rest_off (rw (ne_eqb (trans_row c t).trigger e (λ z. true≢false
       (sym (and_both _ _ (eq-eqb (trans_row c t).source s o) (eq-eqb (trans_row c t).trigger e z)) ∙ m)))))
-      rest-other (same_or (trans_row c t).source s)
+      rest_other (same_or (trans_row c t).source s)
 
   module _ (o : (trans_row c t).source ≡ s) (f : enabled c e u t ≡ true) where
     pub rest_clash : meets (span c t) (gone_after c [] ps) ≡ true → with_rest c e u s (t + 1) (n - (t + 1)) ps ≡ with_rest c e u s t
         (n - t) ps
     unfolding with_rest next
     rest_clash m = rw (
-      candidates-next true true (eq-eqb _ s o) f,
-      thin-clash c (gone_after c [] ps) t
+      candidates_next true true (eq-eqb _ s o) f,
+      thin_clash c (gone_after c [] ps) t
           (candidates_from c e u s (t + 1) (n - (t + 1))) m,
     )
 
-    pub rest-take : meets (span c t) (gone_after c [] ps) ≡ false → with_rest c e u s (t + 1) (n - (t + 1))
+    pub rest_take : meets (span c t) (gone_after c [] ps) ≡ false → with_rest c e u s (t + 1) (n - (t + 1))
         (ps ++ (t ∷ [])) ≡ with_rest c e u s t (n - t) ps
     unfolding with_rest next
-    rest-take m = rw (
-      candidates-next true true (eq-eqb _ s o) f,
-      thin-take c (gone_after c [] ps) t
+    rest_take m = rw (
+      candidates_next true true (eq-eqb _ s o) f,
+      thin_take c (gone_after c [] ps) t
           (candidates_from c e u s (t + 1) (n - (t + 1))) m,
       gone_snoc c [] ps t,
       append_assoc,
     )
 
     -- one more is chosen, so there is room for it
-    pub rest-longer : meets (span c t) (gone_after c [] ps) ≡ false → length ps < length (with_rest c e u s t (n - t) ps)
+    pub rest_longer : meets (span c t) (gone_after c [] ps) ≡ false → length ps < length (with_rest c e u s t (n - t) ps)
     unfolding with_rest
-    rest-longer m = rw (← rest-take m) (unfold with_rest in simp (length-append) (omega arith))
+    rest_longer m = rw (← rest_take m) (unfold with_rest in simp (length-append) (omega arith))
 
 pub rest_end : (c : Chart) (e : ℕ) (u : State) (s t n : ℕ) (ps : List ℕ) → n ≤ t → with_rest c e u s t (n - t) ps ≡ ps
 unfolding with_rest candidates_from from keep thin

@@ -17,7 +17,7 @@ use Rattle.meaning.specs.Tree.{trans_row, span}
 use Rattle.meaning.specs.Value.{chart_of}
 use Rattle.meaning.specs.Reaction.{enabled_by, enabled, meets, chosen}
 use Rattle.laws.proofs.Lists.{and_left}
-use Rattle.laws.proofs.Value.{sized-chart}
+use Rattle.laws.proofs.Value.{sized_chart}
 use Rattle.meaning.specs.Rules.{Ruled}
 use Rattle.tree.proofs.Passing.{rules_passed}
 use Rattle.tree.specs.Aims.{Found}
@@ -25,13 +25,13 @@ use Rattle.choice.specs.declared.Span.{Span}
 use Rattle.choice.specs.Span.{Spans, Spanned, Aims, Goes}
 use Rattle.choice.specs.Choice.{meant, noted}
 use Rattle.choice.proofs.Inside.{span_ends}
-use Rattle.choice.proofs.Thin.{gone_after, with_rest, rest-passed, rest-off, rest_clash, rest-take}
-use Rattle.choice.proofs.Loop.{row-aims, row-spans, row-found, row-enabled, Held, held_more, held-clash, held-apart, one_more}
-use Rattle.choice.proofs.All.{with-sources, take-room}
+use Rattle.choice.proofs.Thin.{gone_after, with_rest, rest_passed, rest_off, rest_clash, rest_take}
+use Rattle.choice.proofs.Loop.{row_aims, row_spans, row_found, row_enabled, Held, held_more, held_clash, held_apart, one_more}
+use Rattle.choice.proofs.All.{with_sources, take_room}
 
 -- before transition t of the source s: the picks, with what is still to come, are the chosen of all
 pub record Choosing (c : Chart) (e : ℕ) (u : State) (s t n : ℕ) (picks : List ℕ) (count : ℕ) (gone : List Bool) : Type 0 where
-  pub owes : with-sources c e u s (with_rest c e u s t (n - t) (take count picks)) ≡ chosen c e u
+  pub owes : with_sources c e u s (with_rest c e u s t (n - t) (take count picks)) ≡ chosen c e u
   pub held : Held c picks count gone
 
 -- an enabled transition of the source s, with its span
@@ -46,63 +46,63 @@ pub record Turn (c : Chart) (e : ℕ) (u : State) (s t : ℕ) (r : Span) : Type 
 module _ (v : List ℤ) (h : Ruled v) (t : ℕ) {row : TransRow} (q : row ≡ trans_row (chart_of v) t)
     (l : t < length (chart_of v).transitions)
     (e s : ℕ) {m : Bool} (p : m ≡ meant (trans_row (chart_of v) t) s e) (y : m ≡ true) where
-  meant-source : row.source ≡ s
+  meant_source : row.source ≡ s
   unfolding meant
-  meant-source = ap (λ x. x.source) q ∙ eqb-true _ _ (and_left (eqb (trans_row (chart_of v) t).source s) _ (sym p ∙ y))
+  meant_source = ap (λ x. x.source) q ∙ eqb-true _ _ (and_left (eqb (trans_row (chart_of v) t).source s) _ (sym p ∙ y))
 
-  pub meant-aims : Aims (chart_of v) s row.target
-  meant-aims = row-aims v h t row q l s meant-source
+  pub meant_aims : Aims (chart_of v) s row.target
+  meant_aims = row_aims v h t row q l s meant_source
 
   pub turn_of : {u : State} {b : Bool} {r : Span} → b ≡ enabled_by row e u → b ≡ true → Spanned (chart_of v) s row.target r
       → Turn (chart_of v) e u s t r
   turn_of {u} {b} {r} f z w = record {
-    source = sym (ap (λ x. x.source) q) ∙ meant-source;
-    on = row-enabled v h t row q l e u b f ∙ z;
-    spans = row-spans v h t row q l s r meant-source w.spans;
-    found = row-found v h t row q l s r meant-source w;
-    ends = omega (arith, span_ends (chart_of v) s meant-aims.0 row.target r w.spans, (sized-chart v (rules_passed v h).0).states);
+    source = sym (ap (λ x. x.source) q) ∙ meant_source;
+    on = row_enabled v h t row q l e u b f ∙ z;
+    spans = row_spans v h t row q l s r meant_source w.spans;
+    found = row_found v h t row q l s r meant_source w;
+    ends = omega (arith, span_ends (chart_of v) s meant_aims.0 row.target r w.spans, (sized_chart v (rules_passed v h).0).states);
   }
 
 module _ {c : Chart} {e : ℕ} {u : State} {s t n : ℕ} {picks : List ℕ} {count : ℕ} {gone : List Bool}
     (w : Choosing c e u s t n picks count gone) (l : t < n) where
-  pub choosing-passed : {b : Bool} → b ≡ meant (trans_row c t) s e → b ≡ false → Choosing c e u s (t + 1) n picks count gone
-  choosing-passed q z = record {
-    owes = ap (with-sources c e u s) (rest-passed c e u s t n l (take count picks) (sym q ∙ z))
+  pub choosing_passed : {b : Bool} → b ≡ meant (trans_row c t) s e → b ≡ false → Choosing c e u s (t + 1) n picks count gone
+  choosing_passed q z = record {
+    owes = ap (with_sources c e u s) (rest_passed c e u s t n l (take count picks) (sym q ∙ z))
         ∙ w.owes;
     held = w.held;
   }
 
-  pub choosing-off : enabled c e u t ≡ false → Choosing c e u s (t + 1) n picks count gone
-  choosing-off z = record { owes = ap (with-sources c e u s) (rest-off c e u s t n l (take count picks) z) ∙ w.owes; held = w.held }
+  pub choosing_off : enabled c e u t ≡ false → Choosing c e u s (t + 1) n picks count gone
+  choosing_off z = record { owes = ap (with_sources c e u s) (rest_off c e u s t n l (take count picks) z) ∙ w.owes; held = w.held }
 
   module _ {r : Span} (g : Turn c e u s t r) where
-    pub choosing-clash : (x : ℕ) → r.first ≤ x → x < r.end → get_or gone x false ≡ true → Choosing c e u s (t + 1) n picks count gone
-    choosing-clash x p q z = record {
-      owes = ap (with-sources c e u s) (rest_clash c e u s t n l (take count picks) g.source g.on
-          (held-clash w.held t g.spans g.ends x p q z)) ∙ w.owes;
+    pub choosing_clash : (x : ℕ) → r.first ≤ x → x < r.end → get_or gone x false ≡ true → Choosing c e u s (t + 1) n picks count gone
+    choosing_clash x p q z = record {
+      owes = ap (with_sources c e u s) (rest_clash c e u s t n l (take count picks) g.source g.on
+          (held_clash w.held t g.spans g.ends x p q z)) ∙ w.owes;
       held = w.held;
     }
 
     module _ (a : (x : ℕ) → r.first ≤ x → x < r.end → get_or gone x false ≡ false) (k : length c.transitions ≤ TRANSITIONS) where
       apart : meets (span c t) (gone_after c [] (take count picks)) ≡ false
-      apart = held-apart w.held t g.spans g.ends a
+      apart = held_apart w.held t g.spans g.ends a
 
-      pub choosing-room : count < TRANSITIONS
-      choosing-room = omega (
+      pub choosing_room : count < TRANSITIONS
+      choosing_room = omega (
         arith,
         length-take-le count picks (omega (arith, w.held.few, w.held.size)),
-        take-room c e u s t n (take count picks) w.owes l g.source g.on apart k,
+        take_room c e u s t n (take count picks) w.owes l g.source g.on apart k,
       )
 
-      pub choosing-take : {new : List Bool} → Goes r gone new → Choosing c e u s (t + 1) n (noted picks count t r) (count + 1) new
-      choosing-take {new} m = record {
-        owes = ap (λ ps. with-sources c e u s (with_rest c e u s (t + 1) (n - (t + 1)) ps))
-            (one_more picks count t r choosing-room w.held.size)
-            ∙ ap (with-sources c e u s) (rest-take c e u s t n l (take count picks) g.source g.on apart) ∙ w.owes;
-        held = held_more c picks count gone new t r w.held choosing-room g.spans g.found m;
+      pub choosing_take : {new : List Bool} → Goes r gone new → Choosing c e u s (t + 1) n (noted picks count t r) (count + 1) new
+      choosing_take {new} m = record {
+        owes = ap (λ ps. with_sources c e u s (with_rest c e u s (t + 1) (n - (t + 1)) ps))
+            (one_more picks count t r choosing_room w.held.size)
+            ∙ ap (with_sources c e u s) (rest_take c e u s t n l (take count picks) g.source g.on apart) ∙ w.owes;
+        held = held_more c picks count gone new t r w.held choosing_room g.spans g.found m;
       }
 
       -- the same as the code has it: the pick is noted
-      pub choosing-noted : {new : List Bool} {x : ℕ} {ps : List ℕ} → x ≡ t → ps ≡ noted picks count x r → Goes r gone new
+      pub choosing_noted : {new : List Bool} {x : ℕ} {ps : List ℕ} → x ≡ t → ps ≡ noted picks count x r → Goes r gone new
           → Choosing c e u s (x + 1) n ps (count + 1) new
-      choosing-noted q o m = rw (o, q) (choosing-take m)
+      choosing_noted q o m = rw (o, q) (choosing_take m)

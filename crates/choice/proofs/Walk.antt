@@ -9,7 +9,7 @@ use mathlib.Core.List.{List, [], ◌∷◌}
 use lib.ListN.{length}
 use Rattle.meaning.specs.Lists.{has, keep, from}
 use Rattle.meaning.specs.Chart.{Chart}
-use Rattle.meaning.specs.declared.chart.Kind.TheVariants.{O as kind-o}
+use Rattle.meaning.specs.declared.chart.Kind.TheVariants.{O as kind_o}
 use Rattle.meaning.specs.Tree.{kind_of, ancestors, descendants, all_states, default_child, is_child}
 use Rattle.laws.proofs.Lists.{le_or_lt}
 use Rattle.laws.proofs.Tree.{under_has, range}
@@ -31,9 +31,9 @@ keep_some p a (suc n) x e l m = go (p a) refl (λ q. keep_some p (suc a) n x e q
     go false f ih = ⊎_elim (λ q. let z : x ≡ a = omega arith in absurd (true≢false (sym e ∙ ap p z ∙ f))) ih (le_or_lt x a)
 
 module _ (c : Chart) (h : SoundChart c) where
-  pub o-some : (s : ℕ) → kind_of c s ≡ kind-o → 1 ≤ length (descendants c s)
+  pub o_some : (s : ℕ) → kind_of c s ≡ kind_o → 1 ≤ length (descendants c s)
   unfolding descendants all_states
-  o-some s k = go (default_child c s) (h.default s k).0 (h.default s k).1
+  o_some s k = go (default_child c s) (h.default s k).0 (h.default s k).1
     where
       go : (d : ℕ) → is_child c s d ≡ true → d < length c.states
           → 1 ≤ length (keep (λ x. has s (ancestors c x)) (from 0 (length c.states)))
@@ -45,19 +45,19 @@ module _ (c : Chart) (h : SoundChart c) where
 
 module _ (c : Chart) (h : SoundChart c) (s : ℕ) (v : Span) (l : s < length c.states)
     (e : v.end ≡ suc s + length (descendants c s)) where
-  pub scope-spans : kind_of c s ≡ kind-o → v.first ≡ s + 1 → Spans (descendants c s) v
-  scope-spans k g =
+  pub scope_spans : kind_of c s ≡ kind_o → v.first ≡ s + 1 → Spans (descendants c s) v
+  scope_spans k g =
       let q : length (descendants c s) ≡ v.end - v.first = omega arith in
       let p : suc s ≡ v.first = omega arith in
       record {
         is = range c h.ordered s l ∙ ap (from (suc s)) q
             ∙ ap (λ m. from m (v.end - v.first)) p;
-        some = omega (arith, o-some c h s k);
+        some = omega (arith, o_some c h s k);
       }
 
-  pub place-spans : v.first ≡ s → Spans (s ∷ descendants c s) v
+  pub place_spans : v.first ≡ s → Spans (s ∷ descendants c s) v
   unfolding from
-  place-spans g =
+  place_spans g =
       let q : v.end - v.first ≡ suc (length (descendants c s)) = omega arith in
       let p : from v.first (v.end - v.first) ≡ from s (suc (length (descendants c s))) = ap (λ m. from m (v.end - v.first)) g
       ∙ ap (from s) q in

@@ -8,7 +8,7 @@ ghost use Rattle.meaning.specs.Value.{chart_of};
 ghost use Rattle.meaning.specs.Reaction.{compare_by, guard_holds, enabled_by};
 ghost use Rattle.meaning.specs.Rules.{Ruled};
 ghost use Rattle.choice.specs.Span.{Spanned, Aims, Goes};
-ghost use Rattle.choice.specs.Choice.{seen, Reads, meant, Sources, noted, Chose, PICKS as picks-size};
+ghost use Rattle.choice.specs.Choice.{seen, Reads, meant, Sources, noted, Chose, PICKS as picks_size};
 
 use chart_rows::layout::{TRANS_ROW, TRANSITIONS_AT};
 use chart_rows::{number_at, state_count, trans_row, transition_count};
@@ -159,7 +159,7 @@ fn mark_gone(span: Span, gone: &mut [bool; STATES])
 // One more is chosen: its number, and what was found out of it.
 fn note(t: usize, span: Span, picks: &mut [u16; PICKS], count: usize)
     requires { (t < transitions) × (span.top < span.end)
-        × (span.end ≤ states) × (count < transitions) × (length picks.old ≡ picks-size) }
+        × (span.end ≤ states) × (count < transitions) × (length picks.old ≡ picks_size) }
     ensures { picks.new ≡ noted picks.old count t span }
 {
     picks[count] = t as u16;
@@ -176,7 +176,7 @@ pub fn choose(
     vars: &[i32; VARIABLES],
     picks: &mut [u16; PICKS],
 ) -> usize
-    requires { Ruled chart.now × (length picks.old ≡ picks-size) }
+    requires { Ruled chart.now × (length picks.old ≡ picks_size) }
     ensures { Chose (chart_of chart.now) event active.now vars.now result picks.new }
 {
     let n = transition_count(chart);

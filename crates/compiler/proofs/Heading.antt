@@ -10,10 +10,10 @@ use lib.Seq.{drop-cons, get_or-take, length-take-le, length-sets}
 use lib.IntN.{ℤ, pos}
 use Rattle.sizes.specs.Sizes.{STATES, VARIABLES, EVENTS, TRANSITIONS}
 use Rattle.numbers.specs.Reference.{NOWHERE}
-use Rattle.laws.proofs.Lists.{each_at, each-kept, each_range}
+use Rattle.laws.proofs.Lists.{each_at, each_kept, each_range}
 use Rattle.laws.specs.Facts.{Each, none_left, one_more}
 use Rattle.laws.proofs.Rules.{GuardFacts, TransitionFacts}
-use Rattle.chart_rows.proofs.Rows.{states-most, vars-most}
+use Rattle.chart_rows.proofs.Rows.{states_most, vars_most}
 use Rattle.meaning.specs.Rules.{Ruled}
 use Rattle.tree.proofs.Passing.{sound}
 use Rattle.acts.proofs.Acting.{events_most}
@@ -37,7 +37,7 @@ use Rattle.meaning.specs.Value.{chart_of}
 use Rattle.emitter.specs.Pen.{Pen, pen, puts, emits, Room}
 use Rattle.emitter.proofs.Laws.{puts_append, puts_none, puts_at, owes_on, owes_none, owes_room, same_size}
 use Rattle.compiler.specs.Plans.{InOrder}
-use Rattle.compiler.proofs.Bounds.{order_each, order-few, start-few, blocks-few, block-few}
+use Rattle.compiler.proofs.Bounds.{order_each, order_few, start_few, blocks_few, block_few}
 
 -- ---- a head's span
 
@@ -53,35 +53,35 @@ last_from a (suc n) = omega (arith, last_from (suc a) n)
 
 module _ (v : List ℤ) (r : Ruled v) (t : ℕ) (l : t < length (chart_of v).transitions)
     (row : TransRow) (e : row ≡ trans_row (chart_of v) t) where
-  pub row-facts : TransitionFacts (chart_of v) row
-  row-facts = subst (TransitionFacts (chart_of v)) (sym e) ((sound v r).transitions t l)
+  pub row_facts : TransitionFacts (chart_of v) row
+  row_facts = subst (TransitionFacts (chart_of v)) (sym e) ((sound v r).transitions t l)
 
   guarded : (g : Guard) → GuardFacts (chart_of v) g → Reads g
   guarded always f = tt
-  guarded (compares n s x) f = omega (arith, vars-most v)
+  guarded (compares n s x) f = omega (arith, vars_most v)
 
   pub row_reads : Reads row.guard
-  row_reads = guarded row.guard row-facts.guard
+  row_reads = guarded row.guard row_facts.guard
 
   pub row_small : (row.source < NOWHERE) × (row.trigger < NOWHERE)
-  row_small = (omega (arith, row-facts.source, states-most v), omega (arith, row-facts.trigger, events_most v r))
+  row_small = (omega (arith, row_facts.source, states_most v), omega (arith, row_facts.trigger, events_most v r))
 
   module _ (x : Span) (w : Spans (span_of (chart_of v) row.source row.target) x) where
-    the-span : span (chart_of v) t ≡ from x.first (x.end - x.first)
+    the_span : span (chart_of v) t ≡ from x.first (x.end - x.first)
     unfolding span
-    the-span = ap (λ y. span_of (chart_of v) y.source y.target) (sym e) ∙ w.is
+    the_span = ap (λ y. span_of (chart_of v) y.source y.target) (sym e) ∙ w.is
 
-    pub span-first : x.first ≡ first_of (span (chart_of v) t)
-    span-first = sym (ap first_of the-span ∙ first_from x.first (x.end - x.first) (omega (arith, w.some)))
+    pub span_first : x.first ≡ first_of (span (chart_of v) t)
+    span_first = sym (ap first_of the_span ∙ first_from x.first (x.end - x.first) (omega (arith, w.some)))
 
     pub span_last : x.end - 1 ≡ last_of (span (chart_of v) t)
     span_last =
         let z : x.end - x.first ≡ suc ((x.end - 1) - x.first) = omega (arith, w.some) in
         let y : x.end - 1 ≡ x.first + ((x.end - 1) - x.first) = omega (arith, w.some) in
-        y ∙ sym (ap last_of (the-span ∙ ap (from x.first) z) ∙ last_from x.first ((x.end - 1) - x.first))
+        y ∙ sym (ap last_of (the_span ∙ ap (from x.first) z) ∙ last_from x.first ((x.end - 1) - x.first))
 
     pub span_small : x.end ≤ STATES
-    span_small = omega (arith, span_ends (chart_of v) row.source row-facts.source row.target x w, states-most v)
+    span_small = omega (arith, span_ends (chart_of v) row.source row_facts.source row.target x w, states_most v)
 
 -- a head, from its three parts
 pub head_put : (c : Chart) (t start len : ℕ) (row : TransRow)
@@ -130,25 +130,25 @@ same_sized xs ys l l₁ at p e = sym (puts_size xs (pen l₁ p)) ∙ ap (λ q. l
 -- ---- the order, transition by transition
 
 module _ {c : Chart} {order : List ℕ} {count : ℕ} (o : InOrder c order count) where
-  pub order-long : count ≡ length (head_order c)
-  order-long = sym (length-take-le count order (omega (arith, o.size, o.few))) ∙ ap length o.is
+  pub order_long : count ≡ length (head_order c)
+  order_long = sym (length-take-le count order (omega (arith, o.size, o.few))) ∙ ap length o.is
 
   order_at : (j : ℕ) → j < count → get_or order j 0 ≡ get_or (head_order c) j 0
   order_at j l = sym (get_or-take count order j 0 l) ∙ ap (λ ts. get_or ts j 0) o.is
 
-  order-drop : (j : ℕ) → j < count → drop j (head_order c) ≡ get_or order j 0 ∷ drop (j + 1) (head_order c)
-  order-drop j l =
-      drop-cons (head_order c) j 0 (omega (arith, order-long)) ∙ ap (λ t. t ∷ drop (suc j) (head_order c)) (sym (order_at j l))
+  order_drop : (j : ℕ) → j < count → drop j (head_order c) ≡ get_or order j 0 ∷ drop (j + 1) (head_order c)
+  order_drop j l =
+      drop-cons (head_order c) j 0 (omega (arith, order_long)) ∙ ap (λ t. t ∷ drop (suc j) (head_order c)) (sym (order_at j l))
       ∙ ap (λ k. get_or order j 0 ∷ drop k (head_order c)) (sym (add-one j))
 
-  order-end : (j : ℕ) → count ≤ j → drop j (head_order c) ≡ []
-  order-end j l = drop_of_length-le (head_order c) {i = j} (omega (arith, order-long))
+  order_end : (j : ℕ) → count ≤ j → drop j (head_order c) ≡ []
+  order_end j l = drop_of_length-le (head_order c) {i = j} (omega (arith, order_long))
 
 pub order_inside : (v : List ℤ) → Ruled v → {order : List ℕ} {count : ℕ}
     → InOrder (chart_of v) order count → (j : ℕ) → j < count → get_or order j 0 < length (chart_of v).transitions
 order_inside v r {order} {count} o j l =
     subst (λ t. t < length (chart_of v).transitions)
-    (sym (order_at o j l)) (each_at _ (head_order (chart_of v)) (order_each v r) j (omega (arith, order-long o)) 0)
+    (sym (order_at o j l)) (each_at _ (head_order (chart_of v)) (order_each v r) j (omega (arith, order_long o)) 0)
 
 -- ---- the heads
 
@@ -163,39 +163,39 @@ heading_begin c start l at = record { sofar = refl; placed = omega arith; owes =
 
 module _ {c : Chart} {order : List ℕ} {count start : ℕ} {l : List ℤ}
     {at j : ℕ} {l₁ : List ℤ} {p here : ℕ} (o : InOrder c order count) (h : Heading c start l at j l₁ p here) where
-  pub heading-end : count ≤ j → pen l₁ p ≡ puts (concat_map head_numbers (heads_from c start (head_order c))) (pen l at)
+  pub heading_end : count ≤ j → pen l₁ p ≡ puts (concat_map head_numbers (heads_from c start (head_order c))) (pen l at)
   unfolding heads_from concat_map
-  heading-end n = sym (ap (λ ts. puts (concat_map head_numbers (heads_from c here ts)) (pen l₁ p)) (order-end o j n)
+  heading_end n = sym (ap (λ ts. puts (concat_map head_numbers (heads_from c here ts)) (pen l₁ p)) (order_end o j n)
       ∙ puts_none (pen l₁ p)) ∙ h.owes
 
   module _ (n : j < count) where
-    pub heading-few : here + length (block c (get_or order j 0)) ≤ start + length (concat_map (block c) (head_order c))
+    pub heading_few : here + length (block c (get_or order j 0)) ≤ start + length (concat_map (block c) (head_order c))
     unfolding concat_map
-    heading-few =
+    heading_few =
         omega (
           arith,
           h.sofar,
-          ap (λ ts. length (concat_map (block c) ts)) (order-drop o j n),
+          ap (λ ts. length (concat_map (block c) ts)) (order_drop o j n),
           length-append (block c (get_or order j 0)) (concat_map (block c) (drop (j + 1) (head_order c))),
         )
 
-    pub heading-on : (k : ℕ) → k ≡ length (block c (get_or order j 0))
+    pub heading_on : (k : ℕ) → k ≡ length (block c (get_or order j 0))
         → {l₂ : List ℤ} {q : ℕ} → pen l₂ q ≡ puts (head_numbers (head_of c here k (get_or order j 0))) (pen l₁ p)
         → Heading c start l at (j + 1) l₂ q (here + k)
     unfolding heads_from concat_map
-    heading-on k e {l₂} {q} w =
+    heading_on k e {l₂} {q} w =
         let t = get_or order j 0 in
         let due : puts (head_numbers (head_of c here k t)
         ++ concat_map head_numbers (heads_from c (here + k) (drop (j + 1) (head_order c)))) (pen l₁ p)
         ≡ puts (concat_map head_numbers (heads_from c start (head_order c))) (pen l at)
         = ap (λ x. puts (head_numbers (head_of c here x t)
         ++ concat_map head_numbers (heads_from c (here + x) (drop (j + 1) (head_order c)))) (pen l₁ p)) e
-        ∙ ap (λ ts. puts (concat_map head_numbers (heads_from c here ts)) (pen l₁ p)) (sym (order-drop o j n)) ∙ h.owes in
+        ∙ ap (λ ts. puts (concat_map head_numbers (heads_from c here ts)) (pen l₁ p)) (sym (order_drop o j n)) ∙ h.owes in
         record {
           sofar = omega (
             arith,
             h.sofar,
-            ap (λ ts. length (concat_map (block c) ts)) (order-drop o j n),
+            ap (λ ts. length (concat_map (block c) ts)) (order_drop o j n),
             length-append (block c (get_or order j 0)) (concat_map (block c) (drop (j + 1) (head_order c))),
           );
           placed = omega (arith, h.placed, puts_at (head_numbers (head_of c here k t)) l₁ p w, head_ten (head_of c here k t));
@@ -210,22 +210,22 @@ pub record Blocking (c : Chart) (l : List ℤ) (at j : ℕ) (l₁ : List ℤ) (p
 
 module _ {c : Chart} {order : List ℕ} {count : ℕ} {l : List ℤ}
     {at j : ℕ} {l₁ : List ℤ} {p : ℕ} (o : InOrder c order count) (h : Blocking c l at j l₁ p) where
-  pub blocking-end : count ≤ j → pen l₁ p ≡ emits (concat_map (block c) (head_order c)) (pen l at)
+  pub blocking_end : count ≤ j → pen l₁ p ≡ emits (concat_map (block c) (head_order c)) (pen l at)
   unfolding concat_map
-  blocking-end n = owes_none (pen l₁ p) (ap (λ ts. emits (concat_map (block c) ts) (pen l₁ p)) (sym (order-end o j n)) ∙ h.owes)
+  blocking_end n = owes_none (pen l₁ p) (ap (λ ts. emits (concat_map (block c) ts) (pen l₁ p)) (sym (order_end o j n)) ∙ h.owes)
 
   module _ (n : j < count) where
-    blocks-due : emits (block c (get_or order j 0) ++ concat_map (block c) (drop (j + 1) (head_order c))) (pen l₁ p)
+    blocks_due : emits (block c (get_or order j 0) ++ concat_map (block c) (drop (j + 1) (head_order c))) (pen l₁ p)
         ≡ emits (concat_map (block c) (head_order c)) (pen l at)
     unfolding concat_map
-    blocks-due = ap (λ ts. emits (concat_map (block c) ts) (pen l₁ p)) (sym (order-drop o j n)) ∙ h.owes
+    blocks_due = ap (λ ts. emits (concat_map (block c) ts) (pen l₁ p)) (sym (order_drop o j n)) ∙ h.owes
 
-    pub blocking-room : Room (concat_map (block c) (head_order c)) at → Room (block c (get_or order j 0)) p
-    blocking-room = owes_room (block c (get_or order j 0))
-        (concat_map (block c) (drop (j + 1) (head_order c))) (concat_map (block c) (head_order c)) l l₁ at p blocks-due
+    pub blocking_room : Room (concat_map (block c) (head_order c)) at → Room (block c (get_or order j 0)) p
+    blocking_room = owes_room (block c (get_or order j 0))
+        (concat_map (block c) (drop (j + 1) (head_order c))) (concat_map (block c) (head_order c)) l l₁ at p blocks_due
 
-    pub blocking-on : {l₂ : List ℤ} {q : ℕ} → pen l₂ q ≡ emits (block c (get_or order j 0)) (pen l₁ p) → Blocking c l at (j + 1) l₂ q
-    blocking-on w = record { owes = owes_on _ _ (pen l₁ p) blocks-due w }
+    pub blocking_on : {l₂ : List ℤ} {q : ℕ} → pen l₂ q ≡ emits (block c (get_or order j 0)) (pen l₁ p) → Blocking c l at (j + 1) l₂ q
+    blocking_on w = record { owes = owes_on _ _ (pen l₁ p) blocks_due w }
 
 -- ---- the variables
 
@@ -237,15 +237,15 @@ pub ranging_begin : (vars : List VarRow) (l : List ℤ) (at : ℕ) → Ranging v
 ranging_begin vars l at = record { placed = omega arith; owes = refl }
 
 module _ {vars : List VarRow} {l : List ℤ} {at i : ℕ} {l₁ : List ℤ} {p : ℕ} (h : Ranging vars l at i l₁ p) where
-  pub ranging-end : length vars ≤ i → pen l₁ p ≡ puts (concat_map var_numbers vars) (pen l at)
+  pub ranging_end : length vars ≤ i → pen l₁ p ≡ puts (concat_map var_numbers vars) (pen l at)
   unfolding concat_map
-  ranging-end n = sym (ap (λ rs. puts (concat_map var_numbers rs) (pen l₁ p)) (drop_of_length-le vars {i = i} n)
+  ranging_end n = sym (ap (λ rs. puts (concat_map var_numbers rs) (pen l₁ p)) (drop_of_length-le vars {i = i} n)
       ∙ puts_none (pen l₁ p)) ∙ h.owes
 
-  pub ranging-on : i < length vars → (row : VarRow) → row ≡ var_row vars i → {l₂ : List ℤ} {q : ℕ}
+  pub ranging_on : i < length vars → (row : VarRow) → row ≡ var_row vars i → {l₂ : List ℤ} {q : ℕ}
       → pen l₂ q ≡ puts (row.low ∷ row.high ∷ row.first ∷ []) (pen l₁ p) → Ranging vars l at (i + 1) l₂ q
   unfolding concat_map var_numbers var_row
-  ranging-on n row e {l₂} {q} w =
+  ranging_on n row e {l₂} {q} w =
       let here : drop i vars ≡ row ∷ drop (i + 1) vars
       = drop-cons vars i no_var n ∙ ap (λ r. r ∷ drop (suc i) vars) (sym e) ∙ ap (λ k. row ∷ drop k vars) (sym (add-one i)) in
       record {

@@ -12,7 +12,7 @@ use lib.Dec.{ltb}
 use lib.IntN.{ℤ, pos}
 use Rattle.sizes.specs.Sizes.{STATES, VARIABLES, TRANSITIONS}
 use Rattle.numbers.specs.Reference.{NOWHERE}
-use Rattle.chart_rows.proofs.Rows.{vars-most}
+use Rattle.chart_rows.proofs.Rows.{vars_most}
 use Rattle.meaning.specs.Rules.{Ruled}
 use Rattle.meaning.specs.Chart.{Chart}
 use Rattle.meaning.specs.declared.Answer.{Answer}
@@ -28,7 +28,7 @@ use Rattle.meaning.specs.Value.{chart_of}
 use Rattle.emitter.specs.Pen.{Pen, pen, puts, emits}
 use Rattle.emitter.proofs.Laws.{puts_append, puts_at, numbers_count}
 use Rattle.compiler.specs.Plans.{Compiles}
-use Rattle.compiler.proofs.Bounds.{CODE, code-most, order-few}
+use Rattle.compiler.proofs.Bounds.{CODE, code_most, order_few}
 use Rattle.compiler.proofs.Heading.{head_ten}
 
 -- ---- how long it is
@@ -55,55 +55,55 @@ three_each [] = refl
 three_each (r ∷ rs) = omega (arith, three_each rs)
 
 module _ (c : Chart) where
-  abbrev vars-part : List ℤ
-  vars-part = concat_map var_numbers c.vars
+  abbrev vars_part : List ℤ
+  vars_part = concat_map var_numbers c.vars
 
-  abbrev heads-part : List ℤ
-  heads-part = concat_map head_numbers (heads_from c (length (start_block c)) (head_order c))
+  abbrev heads_part : List ℤ
+  heads_part = concat_map head_numbers (heads_from c (length (start_block c)) (head_order c))
 
-  abbrev code-part : List ℤ
-  code-part = concat_map instr_numbers (code_of c)
+  abbrev code_part : List ℤ
+  code_part = concat_map instr_numbers (code_of c)
 
-  parts : compile c ≡ six (plan_of c) ++ (vars-part ++ (heads-part ++ code-part))
+  parts : compile c ≡ six (plan_of c) ++ (vars_part ++ (heads_part ++ code_part))
   unfolding compile plan_numbers plan_of
   parts = refl
 
-  six-six : length (six (plan_of c)) ≡ 6
+  six_six : length (six (plan_of c)) ≡ 6
   unfolding six
-  six-six = refl
+  six_six = refl
 
   pub plan_long : length (compile c) ≡ 6 + 3 * length c.vars + 10 * length (head_order c) + 4 * length (code_of c)
   plan_long =
       omega (
         arith,
         ap length parts,
-        length-append (six (plan_of c)) (vars-part ++ (heads-part ++ code-part)),
-        length-append vars-part (heads-part ++ code-part),
-        length-append heads-part code-part,
-        six-six,
+        length-append (six (plan_of c)) (vars_part ++ (heads_part ++ code_part)),
+        length-append vars_part (heads_part ++ code_part),
+        length-append heads_part code_part,
+        six_six,
         three_each c.vars,
         ten_each c (length (start_block c)) (head_order c),
         numbers_count (code_of c),
       )
 
-  pub whole-put : (start : ℕ) → start ≡ length (start_block c)
+  pub whole_put : (start : ℕ) → start ≡ length (start_block c)
       → (p : Pen) {p₀ p₁ p₂ p₃ : Pen} → p₀ ≡ puts (six (plan_of c)) p → p₁ ≡ puts (concat_map var_numbers c.vars) p₀
       → p₂ ≡ puts (concat_map head_numbers (heads_from c start (head_order c))) p₁ → p₃ ≡ emits (code_of c) p₂ → p₃ ≡ puts (compile c) p
   unfolding emits
-  whole-put start e p {p₀} {p₁} f g h j =
-      j ∙ ap (puts code-part) (h ∙ ap (λ n. puts (concat_map head_numbers (heads_from c n (head_order c))) p₁) e
-      ∙ ap (puts heads-part) (g ∙ ap (puts vars-part) f))
-      ∙ sym (puts_append heads-part code-part (puts vars-part (puts (six (plan_of c)) p)))
-      ∙ sym (puts_append vars-part (heads-part ++ code-part) (puts (six (plan_of c)) p))
-      ∙ sym (puts_append (six (plan_of c)) (vars-part ++ (heads-part ++ code-part)) p) ∙ ap (λ l. puts l p) (sym parts)
+  whole_put start e p {p₀} {p₁} f g h j =
+      j ∙ ap (puts code_part) (h ∙ ap (λ n. puts (concat_map head_numbers (heads_from c n (head_order c))) p₁) e
+      ∙ ap (puts heads_part) (g ∙ ap (puts vars_part) f))
+      ∙ sym (puts_append heads_part code_part (puts vars_part (puts (six (plan_of c)) p)))
+      ∙ sym (puts_append vars_part (heads_part ++ code_part) (puts (six (plan_of c)) p))
+      ∙ sym (puts_append (six (plan_of c)) (vars_part ++ (heads_part ++ code_part)) p) ∙ ap (λ l. puts l p) (sym parts)
 
   -- the six numbers, three and three
-  pub six-put : (states vars events heads code start : ℕ) → states ≡ length c.states → vars ≡ length c.vars
+  pub six_put : (states vars events heads code start : ℕ) → states ≡ length c.states → vars ≡ length c.vars
       → events ≡ c.events → heads ≡ length (head_order c) → code ≡ length (code_of c) → start ≡ length (start_block c)
       → (p : Pen) {p₁ p₂ : Pen} → p₁ ≡ puts (pos states ∷ pos vars ∷ pos events ∷ []) p
       → p₂ ≡ puts (pos heads ∷ pos code ∷ pos start ∷ []) p₁ → p₂ ≡ puts (six (plan_of c)) p
   unfolding six plan_of
-  six-put states vars events heads code start a b d e f g p h j =
+  six_put states vars events heads code start a b d e f g p h j =
       j ∙ ap (puts (pos heads ∷ pos code ∷ pos start ∷ [])) h
       ∙ sym (puts_append (pos states ∷ pos vars ∷ pos events ∷ []) (pos heads ∷ pos code ∷ pos start ∷ []) p)
       ∙ ap (λ x. puts (pos x ∷ pos vars ∷ pos events ∷ pos heads ∷ pos code ∷ pos start ∷ []) p) a
@@ -117,7 +117,7 @@ module _ (c : Chart) where
       ∷ pos (length (heads_from c (length (start_block c)) (head_order c))) ∷ pos (length (code_of c)) ∷ pos x ∷ []) p) g
 
 pub six_at : (c : Chart) (l : List ℤ) {l₁ : List ℤ} {r : ℕ} → pen l₁ r ≡ puts (six (plan_of c)) (pen l 0) → r ≡ 6
-six_at c l e = omega (arith, puts_at (six (plan_of c)) l 0 e, six-six c)
+six_at c l e = omega (arith, puts_at (six (plan_of c)) l 0 e, six_six c)
 
 pub vars_at : (c : Chart) (l : List ℤ) (at : ℕ) {l₁ : List ℤ} {r : ℕ}
     → pen l₁ r ≡ puts (concat_map var_numbers c.vars) (pen l at) → r ≡ at + 3 * length c.vars
@@ -132,9 +132,9 @@ heads_at c start l at e =
 -- ---- what the caller sees
 
 module _ (v : List ℤ) (l : List ℤ) where
-  passed-as : Ruled v → compile_of v (length l) ≡ compiled_into (length l) (compile (chart_of v))
+  passed_as : Ruled v → compile_of v (length l) ≡ compiled_into (length l) (compile (chart_of v))
   unfolding compile_of
-  passed-as r = ap (λ o. elim o [ none ↦ compiled_into (length l) (compile (chart_of v)) | some k ↦ refused 3 k ]) r
+  passed_as r = ap (λ o. elim o [ none ↦ compiled_into (length l) (compile (chart_of v)) | some k ↦ refused 3 k ]) r
 
   -- what was put at the start, and 0 behind it
   laid : (ns after : List ℤ) (end : ℕ) → pen after end ≡ puts ns (pen l 0)
@@ -150,19 +150,19 @@ module _ (v : List ℤ) (l : List ℤ) where
       ∙ ap (λ x. take (length ns) x ++ replicate (length l - length ns) (pos 0)) (a ∙ s)
       ∙ ap (λ x. x ++ replicate (length l - length ns) (pos 0)) (take-append_seam ns (drop (0 + length ns) l))
 
-  pub whole-fits : (ns after : List ℤ) (end : ℕ) → pen after end ≡ puts ns (pen l 0) → length ns ≤ length l → end ≤ length after
+  pub whole_fits : (ns after : List ℤ) (end : ℕ) → pen after end ≡ puts ns (pen l 0) → length ns ≤ length l → end ≤ length after
   unfolding puts
-  whole-fits ns after end e n = omega (arith, ap (λ p. p.at) e, ap (λ p. length p.buf) e, length-sets l 0 ns)
+  whole_fits ns after end e n = omega (arith, ap (λ p. p.at) e, ap (λ p. length p.buf) e, length-sets l 0 ns)
 
-  pub compiles-whole : Ruled v → length (compile (chart_of v)) ≤ length l
+  pub compiles_whole : Ruled v → length (compile (chart_of v)) ≤ length l
       → (after last : List ℤ) (end : ℕ) → pen after end ≡ puts (compile (chart_of v)) (pen l 0)
       → last ≡ take end after ++ replicate (length after - end) (pos 0)
       → Compiles v l (record { answer = record { number = 0; place = 0 }; length = end }) last
   unfolding compiled plan_lent compiled_into
-  compiles-whole r n after last end e f =
+  compiles_whole r n after last end e f =
       let z : end ≡ length (compile (chart_of v)) = puts_at (compile (chart_of v)) l 0 e ∙ (omega arith) in
       let k : compile_of v (length l) ≡ done (compile (chart_of v))
-      = passed-as r ∙ ap (λ b. cond b (refused 4 0) (done (compile (chart_of v))))
+      = passed_as r ∙ ap (λ b. cond b (refused 4 0) (done (compile (chart_of v))))
       (le-ltb (length l) (length (compile (chart_of v))) n) in (
         ap (λ x. record { answer = record { number = 0; place = 0 }; length = x }) z ∙ ap compiled (sym k),
         f ∙ laid (compile (chart_of v)) after end e n ∙ ap (plan_lent (length l)) (sym k),
@@ -175,13 +175,13 @@ module _ (v : List ℤ) (l : List ℤ) where
   unfolding plan_lent
   nothing n p = refl
 
-  pub compiles-over : Ruled v → length l < length (compile (chart_of v))
+  pub compiles_over : Ruled v → length l < length (compile (chart_of v))
       → (last : List ℤ) → last ≡ take 0 l ++ replicate (length l - 0) (pos 0)
       → Compiles v l (record { answer = record { number = 4; place = 0 }; length = 0 }) last
   unfolding compiled compiled_into
-  compiles-over r n last f =
+  compiles_over r n last f =
       let k : compile_of v (length l) ≡ refused 4 0
-      = passed-as r ∙ ap (λ b. cond b (refused 4 0) (done (compile (chart_of v)))) (lt-ltb (length l) (length (compile (chart_of v))) n) in
+      = passed_as r ∙ ap (λ b. cond b (refused 4 0) (done (compile (chart_of v)))) (lt-ltb (length l) (length (compile (chart_of v))) n) in
       (ap compiled (sym k), cleared last f ∙ sym (nothing 4 0) ∙ ap (plan_lent (length l)) (sym k))
 
   module _ (a : Answer) (e : a ≡ verdict (failing_rule_of v)) where
@@ -193,10 +193,10 @@ module _ (v : List ℤ) (l : List ℤ) where
         go none h₁ = refl
         go (some k) h₁ = absurd (omega arith)
 
-    pub compiles-refused : (a.number ≡ 0 → ⊥) → (last : List ℤ)
+    pub compiles_refused : (a.number ≡ 0 → ⊥) → (last : List ℤ)
         → last ≡ take 0 l ++ replicate (length l - 0) (pos 0) → Compiles v l (record { answer = a; length = 0 }) last
     unfolding compile_of compiled verdict
-    compiles-refused h last f = go (failing_rule_of v) refl
+    compiles_refused h last f = go (failing_rule_of v) refl
       where
         go : (o : Option ℕ) → failing_rule_of v ≡ o → Compiles v l (record { answer = a; length = 0 }) last
         go none x = absurd (h (ap (λ y. y.number) (e ∙ ap verdict x)))

@@ -38,23 +38,23 @@ broken (b ∷ bs) = broken bs
 
 -- one byte after digits of a value: the field and the value agree where they do so after one more digit
 module _ (b w : ℕ) (bs : List ℕ) (p : Digits) (f : Option ℕ → Num) (n : f none ≡ num.Not) (ih : read p bs ≡ f (value w bs)) where
-  digit-on : (s t : Bool) → read (cond s Broken (cond t Broken p)) bs ≡ f (cond s none (cond t none (value w bs)))
-  digit-on true t = broken bs ∙ sym n
-  digit-on false true = broken bs ∙ sym n
-  digit-on false false = ih
+  digit_on : (s t : Bool) → read (cond s Broken (cond t Broken p)) bs ≡ f (cond s none (cond t none (value w bs)))
+  digit_on true t = broken bs ∙ sym n
+  digit_on false true = broken bs ∙ sym n
+  digit_on false false = ih
 
 -- digits after a value, with no sign and behind a minus
 plain_on : (v : ℕ) (bs : List ℕ) → read (Plain v) bs ≡ with_no_sign (capped (value v bs))
 unfolding digits_on digits_fed digits_number value capped
 plain_on v [] = refl
-plain_on v (b ∷ bs) = digit-on b (grown v b)
+plain_on v (b ∷ bs) = digit_on b (grown v b)
     bs (Plain (grown v b)) (λ o. with_no_sign (capped o)) refl (plain_on (grown v b) bs) (ltb b 48) (ltb 57 b)
 
 minus_on : (v : ℕ) (bs : List ℕ) → read (Negative v) bs ≡ minus (capped (value v bs))
 unfolding digits_on digits_fed digits_number value capped
 minus_on v [] = refl
 minus_on v (b ∷ bs) =
-    digit-on b (grown v b) bs (Negative (grown v b)) (λ o. minus (capped o)) refl (minus_on (grown v b) bs) (ltb b 48) (ltb 57 b)
+    digit_on b (grown v b) bs (Negative (grown v b)) (λ o. minus (capped o)) refl (minus_on (grown v b) bs) (ltb b 48) (ltb 57 b)
 
 -- "no leading zero": 0 alone
 zero_on : (bs : List ℕ) → read Zero bs ≡ with_no_sign (capped (alone bs))

@@ -9,7 +9,7 @@ use lib.Signed.{mag}
 use lib.ListN.{length, length-append}
 use Rattle.pen.specs.Pen.{Pen, pen, put_byte, put_all}
 use Rattle.pen.proofs.Digits.{digits_length, numeral_length}
-use Rattle.pen.proofs.Laws.{all_stands, all_long, then-bytes, then-byte, then_end}
+use Rattle.pen.proofs.Laws.{all_stands, all_long, then_bytes, then_byte, then_end}
 use Rattle.meaning.specs.Number.{digits}
 use Rattle.meaning.specs.Split.{LF}
 use Rattle.meaning.specs.Widget.{ENTRY}
@@ -35,13 +35,13 @@ head_room : (number n : ℕ) → number < 2 ^ 64 → n < 2 ^ 64 → length (head
 head_room number n f g = simp length-append (omega (arith, digits_length 19 number (omega arith), digits_length 19 n (omega arith)))
 
 module _ (trace : List ℤ) (entries number n : ℕ) (l k : List ℕ) (at to r : ℕ) (a b c d e : Pen) where
-  pub report-place : n ≡ entries_held entries trace
+  pub report_place : n ≡ entries_held entries trace
       → a ≡ put_byte 82 (pen l at) → b ≡ put_byte SPACE a → c ≡ put_all (digits number) b → d ≡ put_byte SPACE c
       → e ≡ put_all (digits n) d → pen k to ≡ put_byte LF e → (to + LINE * n ≤ length k → r ≤ to + LINE * n)
       → number < 2 ^ 64 → n < 2 ^ 64 → at + largest trace ≤ length l → r ≤ at + largest trace
-  report-place hn ha hb hc hd he hk hr f g room =
-      let w = then-byte (pen l at) 82 _ ha (then-byte a SPACE _ hb (then-bytes b (digits number) _ hc (then-byte c SPACE _ hd
-      (then-bytes d (digits n) _ he (then_end e LF hk))))) in
+  report_place hn ha hb hc hd he hk hr f g room =
+      let w = then_byte (pen l at) 82 _ ha (then_byte a SPACE _ hb (then_bytes b (digits number) _ hc (then_byte c SPACE _ hd
+      (then_bytes d (digits n) _ he (then_end e LF hk))))) in
       let long : length k ≡ length l = ap (λ p. length p.bytes) w ∙ all_long (head number n) (pen l at) in
       let place : to ≤ at + HEAD = place_after (head number n) l at HEAD (pen k to) w (head_room number n f g) (omega arith) in
       let last = hr (omega arith) in

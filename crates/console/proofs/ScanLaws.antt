@@ -33,48 +33,48 @@ module _ (b : ℕ) (p : Digits) where
   pub byte_high : ZERO ≤ b → NINE < b → Broken ≡ if_digit b p
   byte_high h k = rw (le-ltb b ZERO h, lt-ltb NINE b k)
 
-  pub byte-digit : (q : Digits) → ZERO ≤ b → b ≤ NINE → q ≡ p → q ≡ if_digit b p
-  byte-digit q h k e = rw (le-ltb b ZERO h, le-ltb NINE b k) e
+  pub byte_digit : (q : Digits) → ZERO ≤ b → b ≤ NINE → q ≡ p → q ≡ if_digit b p
+  byte_digit q h k e = rw (le-ltb b ZERO h, le-ltb NINE b k) e
 
 -- ---- a field after one byte more
 module _ (p : Digits) (b : ℕ) where
   module _ (s : p ≡ Start) where
-    pub start-minus : b ≡ MINUS → Minus ≡ digits_fed p b
+    pub start_minus : b ≡ MINUS → Minus ≡ digits_fed p b
     unfolding digits_fed
-    start-minus h = rw (s, eq-eqb b MINUS h)
+    start_minus h = rw (s, eq-eqb b MINUS h)
 
-    pub start-zero : (b ≡ MINUS → ⊥) → b ≡ ZERO → Zero ≡ digits_fed p b
+    pub start_zero : (b ≡ MINUS → ⊥) → b ≡ ZERO → Zero ≡ digits_fed p b
     unfolding digits_fed
-    start-zero k h = rw (s, ne_eqb b MINUS k, eq-eqb b ZERO h)
+    start_zero k h = rw (s, ne_eqb b MINUS k, eq-eqb b ZERO h)
 
-    pub start-digit : (q : Digits) → (b ≡ MINUS → ⊥) → (b ≡ ZERO → ⊥) → q ≡ if_digit b (Plain (grown 0 b)) → q ≡ digits_fed p b
+    pub start_digit : (q : Digits) → (b ≡ MINUS → ⊥) → (b ≡ ZERO → ⊥) → q ≡ if_digit b (Plain (grown 0 b)) → q ≡ digits_fed p b
     unfolding digits_fed
-    start-digit q k h e = rw (s, ne_eqb b MINUS k, ne_eqb b ZERO h) e
+    start_digit q k h e = rw (s, ne_eqb b MINUS k, ne_eqb b ZERO h) e
 
   module _ (s : p ≡ Minus) where
-    pub minus-zero : b ≡ ZERO → Broken ≡ digits_fed p b
+    pub minus_zero : b ≡ ZERO → Broken ≡ digits_fed p b
     unfolding digits_fed
-    minus-zero h = rw (s, eq-eqb b ZERO h)
+    minus_zero h = rw (s, eq-eqb b ZERO h)
 
-    pub minus-digit : (q : Digits) → (b ≡ ZERO → ⊥) → q ≡ if_digit b (Negative (grown 0 b)) → q ≡ digits_fed p b
+    pub minus_digit : (q : Digits) → (b ≡ ZERO → ⊥) → q ≡ if_digit b (Negative (grown 0 b)) → q ≡ digits_fed p b
     unfolding digits_fed
-    minus-digit q h e = rw (s, ne_eqb b ZERO h) e
+    minus_digit q h e = rw (s, ne_eqb b ZERO h) e
 
-  pub plain-digit : (v : ℕ) (q : Digits) → p ≡ Plain v → q ≡ if_digit b (Plain (grown v b)) → q ≡ digits_fed p b
+  pub plain_digit : (v : ℕ) (q : Digits) → p ≡ Plain v → q ≡ if_digit b (Plain (grown v b)) → q ≡ digits_fed p b
   unfolding digits_fed
-  plain-digit v q s e = rw s e
+  plain_digit v q s e = rw s e
 
-  pub negative-digit : (v : ℕ) (q : Digits) → p ≡ Negative v → q ≡ if_digit b (Negative (grown v b)) → q ≡ digits_fed p b
+  pub negative_digit : (v : ℕ) (q : Digits) → p ≡ Negative v → q ≡ if_digit b (Negative (grown v b)) → q ≡ digits_fed p b
   unfolding digits_fed
-  negative-digit v q s e = rw s e
+  negative_digit v q s e = rw s e
 
   pub zero_more : p ≡ Zero → Broken ≡ digits_fed p b
   unfolding digits_fed
   zero_more s = rw s
 
-  pub broken-more : p ≡ Broken → Broken ≡ digits_fed p b
+  pub broken_more : p ≡ Broken → Broken ≡ digits_fed p b
   unfolding digits_fed
-  broken-more s = rw s
+  broken_more s = rw s
 
 -- ---- the number of a field
 neg_pos : (n : ℕ) → pos 0 -ℤ pos (suc n) ≡ negsuc n
@@ -86,59 +86,59 @@ gone zero h k = absurd (k refl)
 gone (suc n) h k = rw (neg_pos n, le-ltb MOST (suc n) (omega arith)) (omega arith, refl)
 
 module _ (v : ℕ) where
-  pub past-plain : BEYOND ≤ v → num.Beyond ≡ with_no_sign (capped (some v))
+  pub past_plain : BEYOND ≤ v → num.Beyond ≡ with_no_sign (capped (some v))
   unfolding capped
-  past-plain h = rw (lt-ltb MOST v (omega arith))
+  past_plain h = rw (lt-ltb MOST v (omega arith))
 
-  pub past-minus : BEYOND ≤ v → num.Beyond ≡ minus (capped (some v))
+  pub past_minus : BEYOND ≤ v → num.Beyond ≡ minus (capped (some v))
   unfolding capped
-  past-minus h = rw (lt-ltb MOST v (omega arith))
+  past_minus h = rw (lt-ltb MOST v (omega arith))
 
-  pub minus-none : v ≡ 0 → num.Not ≡ minus (capped (some v))
+  pub minus_none : v ≡ 0 → num.Not ≡ minus (capped (some v))
   unfolding capped
-  minus-none e = rw e
+  minus_none e = rw e
 
   module _ (h : v < BEYOND) where
     pub value_fits : SFits w32 (pos v)
     value_fits = record { sfits = omega arith }
 
-    pub in-plain : num.Is (to_z w32 v) ≡ with_no_sign (capped (some v))
+    pub in_plain : num.Is (to_z w32 v) ≡ with_no_sign (capped (some v))
     unfolding capped
-    in-plain = rw (to_z_pos w32 {n = v} (omega arith), le-ltb MOST v (omega arith))
+    in_plain = rw (to_z_pos w32 {n = v} (omega arith), le-ltb MOST v (omega arith))
 
     module _ (k : v ≡ 0 → ⊥) where
-      pub minus-fits : SFits w32 (pos 0 -ℤ to_z w32 v)
-      minus-fits = rw (to_z_pos w32 {n = v} (omega arith)) (record { sfits = (gone v h k).0 })
+      pub minus_fits : SFits w32 (pos 0 -ℤ to_z w32 v)
+      minus_fits = rw (to_z_pos w32 {n = v} (omega arith)) (record { sfits = (gone v h k).0 })
 
-      pub in-minus : num.Is (to_z w32 (of_z w32 (pos 0 -ℤ to_z w32 v))) ≡ minus (capped (some v))
-      in-minus = rw (to_z_pos w32 {n = v} (omega arith), back32 (pos 0 -ℤ pos v) (gone v h k).0) (gone v h k).1
+      pub in_minus : num.Is (to_z w32 (of_z w32 (pos 0 -ℤ to_z w32 v))) ≡ minus (capped (some v))
+      in_minus = rw (to_z_pos w32 {n = v} (omega arith), back32 (pos 0 -ℤ pos v) (gone v h k).0) (gone v h k).1
 
 module _ (p : Digits) (n : Num) where
-  pub number-plain : (v : ℕ) → p ≡ Plain v → n ≡ with_no_sign (capped (some v)) → n ≡ digits_number p
+  pub number_plain : (v : ℕ) → p ≡ Plain v → n ≡ with_no_sign (capped (some v)) → n ≡ digits_number p
   unfolding digits_number
-  number-plain v s e = rw s e
+  number_plain v s e = rw s e
 
-  pub number-negative : (v : ℕ) → p ≡ Negative v → n ≡ minus (capped (some v)) → n ≡ digits_number p
+  pub number_negative : (v : ℕ) → p ≡ Negative v → n ≡ minus (capped (some v)) → n ≡ digits_number p
   unfolding digits_number
-  number-negative v s e = rw s e
+  number_negative v s e = rw s e
 
 -- ---- a line after one byte more
 module _ (s : Scan) (b : ℕ) where
-  pub event-tab : (p : Digits) → s ≡ Event p → b ≡ TAB → Argument p Start ≡ fed s b
+  pub event_tab : (p : Digits) → s ≡ Event p → b ≡ TAB → Argument p Start ≡ fed s b
   unfolding fed
-  event-tab p e h = rw (e, eq-eqb b TAB h)
+  event_tab p e h = rw (e, eq-eqb b TAB h)
 
-  pub event-byte : (p q : Digits) → s ≡ Event p → (b ≡ TAB → ⊥) → q ≡ digits_fed p b → Event q ≡ fed s b
+  pub event_byte : (p q : Digits) → s ≡ Event p → (b ≡ TAB → ⊥) → q ≡ digits_fed p b → Event q ≡ fed s b
   unfolding fed
-  event-byte p q e h k = rw (e, ne_eqb b TAB h, k)
+  event_byte p q e h k = rw (e, ne_eqb b TAB h, k)
 
-  pub argument-tab : (a p : Digits) → s ≡ Argument a p → b ≡ TAB → More ≡ fed s b
+  pub argument_tab : (a p : Digits) → s ≡ Argument a p → b ≡ TAB → More ≡ fed s b
   unfolding fed
-  argument-tab a p e h = rw (e, eq-eqb b TAB h)
+  argument_tab a p e h = rw (e, eq-eqb b TAB h)
 
-  pub argument-byte : (a p q : Digits) → s ≡ Argument a p → (b ≡ TAB → ⊥) → q ≡ digits_fed p b → Argument a q ≡ fed s b
+  pub argument_byte : (a p q : Digits) → s ≡ Argument a p → (b ≡ TAB → ⊥) → q ≡ digits_fed p b → Argument a q ≡ fed s b
   unfolding fed
-  argument-byte a p q e h k = rw (e, ne_eqb b TAB h, k)
+  argument_byte a p q e h k = rw (e, ne_eqb b TAB h, k)
 
   pub more_byte : s ≡ More → More ≡ fed s b
   unfolding fed
@@ -146,28 +146,28 @@ module _ (s : Scan) (b : ℕ) where
 
 -- ---- the line at the end
 module _ (s : Scan) where
-  pub line-whole : (e a : Digits) (m n : Num) (l : Input)
+  pub line_whole : (e a : Digits) (m n : Num) (l : Input)
       → s ≡ Argument e a → m ≡ digits_number e → n ≡ digits_number a → l ≡ input_by m n → l ≡ line_at s
   unfolding line_at
-  line-whole e a m n l h p q r = rw (h, ← p, ← q) r
+  line_whole e a m n l h p q r = rw (h, ← p, ← q) r
 
 -- two numbers: "a number past ±1,000,000,000 is posted as 1,000,000,001"
 module _ (m n : Num) where
   pub by_number : (e : ℤ) (l : Input) → m ≡ num.Is e → l ≡ input_by (num.Is e) n → l ≡ input_by m n
   by_number e l h k = rw h k
 
-  pub by-beyond : (l : Input) → m ≡ num.Beyond → l ≡ input_by (num.Is (pos BEYOND)) n → l ≡ input_by m n
+  pub by_beyond : (l : Input) → m ≡ num.Beyond → l ≡ input_by (num.Is (pos BEYOND)) n → l ≡ input_by m n
   unfolding input_by
-  by-beyond l h k = rw h (go n k)
+  by_beyond l h k = rw h (go n k)
     where
       go : (n : Num) → l ≡ input_by (num.Is (pos BEYOND)) n → l ≡ input_by num.Beyond n
       go (num.Is a) k = k
       go num.Beyond k = k
       go num.Not k = k
 
-  pub by-none : m ≡ num.Not → Wrong ≡ input_by m n
+  pub by_none : m ≡ num.Not → Wrong ≡ input_by m n
   unfolding input_by
-  by-none h = rw h (go n)
+  by_none h = rw h (go n)
     where
       go : (n : Num) → Wrong ≡ input_by num.Not n
       go (num.Is a) = refl
@@ -175,13 +175,13 @@ module _ (m n : Num) where
       go num.Not = refl
 
 module _ (e : ℤ) (n : Num) where
-  pub posts-number : (a : ℤ) → n ≡ num.Is a → Posts e a ≡ input_by (num.Is e) n
+  pub posts_number : (a : ℤ) → n ≡ num.Is a → Posts e a ≡ input_by (num.Is e) n
   unfolding input_by
-  posts-number a h = rw h
+  posts_number a h = rw h
 
-  pub posts-beyond : n ≡ num.Beyond → Posts e (pos BEYOND) ≡ input_by (num.Is e) n
+  pub posts_beyond : n ≡ num.Beyond → Posts e (pos BEYOND) ≡ input_by (num.Is e) n
   unfolding input_by
-  posts-beyond h = rw h
+  posts_beyond h = rw h
 
 pub number_zero : (p : Digits) → p ≡ Zero → num.Is (pos 0) ≡ digits_number p
 unfolding digits_number capped

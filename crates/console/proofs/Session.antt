@@ -58,10 +58,10 @@ none_fed u = refl
 
 module _ (f : Turns) where
   -- the end of the input behind these bytes of a line
-  at-end : (u : State) (pre : List ℕ) → (finished f (after u pre)).printed ≡ turns_by f u (input_lines (pre ∷ []))
+  at_end : (u : State) (pre : List ℕ) → (finished f (after u pre)).printed ≡ turns_by f u (input_lines (pre ∷ []))
   unfolding finished turns_by input_lines
-  at-end u [] = rw none_began
-  at-end u (b ∷ bs) = rw (began_of b bs, scan_line (b ∷ bs), append-nil)
+  at_end u [] = rw none_began
+  at_end u (b ∷ bs) = rw (began_of b bs, scan_line (b ∷ bs), append-nil)
 
   -- a line that ends before others
   line_first : (u : State) (pre : List ℕ) (q : Parts) (rest : State → List ℕ) → ((w : State) → rest w ≡ turns_by f w (input_lines (all q)))
@@ -70,12 +70,12 @@ module _ (f : Turns) where
   line_first u pre q rest e = rw (scan_line pre, e (f u (input_of (fields pre))).state)
 
   -- the input from here, behind these bytes of a line
-  pub printed-from : (u : State) (pre bs : List ℕ)
+  pub printed_from : (u : State) (pre bs : List ℕ)
       → all_printed f (after u pre) bs ≡ turns_by f u (input_lines (all (onto pre (split LF bs))))
   unfolding all_printed passed split
-  printed-from u pre [] = at-end u pre ∙ rw append-nil
-  printed-from u pre (b ∷ bs) =
-      go (eqb b LF) (split LF bs) (λ w. printed-from w [] bs) (printed-from u (pre ++ (b ∷ [])) bs)
+  printed_from u pre [] = at_end u pre ∙ rw append-nil
+  printed_from u pre (b ∷ bs) =
+      go (eqb b LF) (split LF bs) (λ w. printed_from w [] bs) (printed_from u (pre ++ (b ∷ [])) bs)
     where
       go : (t : Bool) (q : Parts)
           → ((w : State) → all_printed f (after w []) bs ≡ turns_by f w (input_lines (all q)))
@@ -91,41 +91,41 @@ module _ (f : Turns) where
 
 module _ (f : Turns) where
   -- bytes and then others
-  pub under-append : (u : Under) (xs ys : List ℕ) → (passed_all f u (xs ++ ys)).under ≡ (passed_all f (passed_all f u xs).under ys).under
+  pub under_append : (u : Under) (xs ys : List ℕ) → (passed_all f u (xs ++ ys)).under ≡ (passed_all f (passed_all f u xs).under ys).under
   unfolding passed_all
-  under-append u [] ys = refl
-  under-append u (x ∷ xs) ys = under-append (passed f u x).under xs ys
+  under_append u [] ys = refl
+  under_append u (x ∷ xs) ys = under_append (passed f u x).under xs ys
 
-  pub printed-append : (u : Under) (xs ys : List ℕ)
+  pub printed_append : (u : Under) (xs ys : List ℕ)
       → (passed_all f u (xs ++ ys)).printed ≡ (passed_all f u xs).printed ++ (passed_all f (passed_all f u xs).under ys).printed
   unfolding passed_all
-  printed-append u [] ys = refl
-  printed-append u (x ∷ xs) ys = rw (printed-append (passed f u x).under xs ys, append_assoc)
+  printed_append u [] ys = refl
+  printed_append u (x ∷ xs) ys = rw (printed_append (passed f u x).under xs ys, append_assoc)
 
   -- one byte
   pub under_one : (u : Under) (b : ℕ) → (passed_all f u (b ∷ [])).under ≡ (passed f u b).under
   unfolding passed_all
   under_one u b = refl
 
-  pub printed-one : (u : Under) (b : ℕ) → (passed_all f u (b ∷ [])).printed ≡ (passed f u b).printed
+  pub printed_one : (u : Under) (b : ℕ) → (passed_all f u (b ∷ [])).printed ≡ (passed f u b).printed
   unfolding passed_all
-  printed-one u b = append-nil (passed f u b).printed
+  printed_one u b = append-nil (passed f u b).printed
 
-  pub printed-none : (u : Under) → passed_all f u [] ≡ record { under = u; printed = [] }
+  pub printed_none : (u : Under) → passed_all f u [] ≡ record { under = u; printed = [] }
   unfolding passed_all
-  printed-none u = refl
+  printed_none u = refl
 
   -- all of it, and then the end of the input
-  pub all-by-parts : (u : Under) (bs : List ℕ)
+  pub all_by_parts : (u : Under) (bs : List ℕ)
       → all_printed f u bs ≡ (passed_all f u bs).printed ++ (finished f (passed_all f u bs).under).printed
   unfolding all_printed passed_all
-  all-by-parts u [] = refl
-  all-by-parts u (b ∷ bs) = rw (all-by-parts (passed f u b).under bs, append_assoc)
+  all_by_parts u [] = refl
+  all_by_parts u (b ∷ bs) = rw (all_by_parts (passed f u b).under bs, append_assoc)
 
 -- the law: "then posts and runs each line"
 pub printed_all : (f : Turns) (u : State) (input : List ℕ) → all_printed f (fresh u) input ≡ turns_by f u (input_lines (lines input))
 unfolding lines
-printed_all f u input = ap (λ s. all_printed f s input) (sym (none_fed u)) ∙ printed-from f u [] input
+printed_all f u input = ap (λ s. all_printed f s input) (sym (none_fed u)) ∙ printed_from f u [] input
 
 -- what the program prints after the start, byte by byte, is what the definition says
 pub session_printed : (c : Chart) (t : Turn) (input : List ℕ)

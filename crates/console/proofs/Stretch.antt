@@ -34,16 +34,16 @@ abbrev pub further : Under → List ℕ → Under
 further u bs = record { state = u.state; scan = scan_on u.scan bs }
 
 module _ (f : Turns) where
-  pub passed-inside : (u : Under) (b : ℕ) (bs : List ℕ) → inside (b ∷ bs) ≡ true
+  pub passed_inside : (u : Under) (b : ℕ) (bs : List ℕ) → inside (b ∷ bs) ≡ true
       → passed f u b ≡ record { under = record { state = u.state; scan = fed u.scan b }; printed = [] }
   unfolding passed
-  passed-inside u b bs h = rw (inside_more b bs h).0
+  passed_inside u b bs h = rw (inside_more b bs h).0
 
-  pub inside-passed : (u : Under) (bs : List ℕ) → inside bs ≡ true → passed_all f u bs ≡ record { under = further u bs; printed = [] }
+  pub inside_passed : (u : Under) (bs : List ℕ) → inside bs ≡ true → passed_all f u bs ≡ record { under = further u bs; printed = [] }
   unfolding passed_all scan_on
-  inside-passed u [] h = refl
-  inside-passed u (b ∷ bs) h =
-      rw (passed-inside u b bs h, inside-passed (record { state = u.state; scan = fed u.scan b }) bs (inside_more b bs h).1)
+  inside_passed u [] h = refl
+  inside_passed u (b ∷ bs) h =
+      rw (passed_inside u b bs h, inside_passed (record { state = u.state; scan = fed u.scan b }) bs (inside_more b bs h).1)
 
 -- ---- the bytes between two places
 
@@ -69,15 +69,15 @@ module _ (part : List ℕ) (from : ℕ) (s : Scan) where
     pub none : inside (slice from i part) ≡ true
     pub line : here ≡ scan_on s (slice from i part)
 
-  pub collects-none : from ≤ length part → Collecting from s
+  pub collects_none : from ≤ length part → Collecting from s
   unfolding inside scan_on
-  collects-none h = record { order = omega arith; within = h; none = rw (slice_empty from part); line = rw (slice_empty from part) }
+  collects_none h = record { order = omega arith; within = h; none = rw (slice_empty from part); line = rw (slice_empty from part) }
 
   module _ (i : ℕ) (here : Scan) (w : Collecting i here) where
     -- one byte more
-    pub collects-more : (next : Scan) → i < length part → (get_or part i 0 ≡ LF → ⊥) → next ≡ fed here (get_or part i 0)
+    pub collects_more : (next : Scan) → i < length part → (get_or part i 0 ≡ LF → ⊥) → next ≡ fed here (get_or part i 0)
         → Collecting (i + 1) next
-    collects-more next h k e = record {
+    collects_more next h k e = record {
       order = omega (arith, w.order);
       within = omega arith;
       none = rw (slice_next part from i w.order h) (inside_snoc (slice from i part) (get_or part i 0) w.none k);
@@ -89,9 +89,9 @@ module _ (part : List ℕ) (from : ℕ) (s : Scan) where
     }
 
     -- at the part's end, and at LF
-    pub collects-all : length part ≤ i → Collects part from s (record { upto = i; scan = here })
-    collects-all h =
+    pub collects_all : length part ≤ i → Collects part from s (record { upto = i; scan = here })
+    collects_all h =
         record { order = w.order; within = w.within; none = w.none; line = w.line; stop = λ k. absurd (omega arith) }
 
-    pub collects-line : get_or part i 0 ≡ LF → Collects part from s (record { upto = i; scan = here })
-    collects-line e = record { order = w.order; within = w.within; none = w.none; line = w.line; stop = λ k. e }
+    pub collects_line : get_or part i 0 ≡ LF → Collects part from s (record { upto = i; scan = here })
+    collects_line e = record { order = w.order; within = w.within; none = w.none; line = w.line; stop = λ k. e }

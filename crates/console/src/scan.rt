@@ -5,7 +5,7 @@ ghost use Rattle.std.proofs.Math.Option.{some};
 ghost use Rattle.meaning.specs.declared.Num.TheVariants.{Is};
 ghost use Rattle.meaning.specs.Number.{capped, with_no_sign, minus};
 ghost use Rattle.meaning.specs.Program.{input_by};
-ghost use Rattle.numerals.specs.Small.{grown as grown-by};
+ghost use Rattle.numerals.specs.Small.{grown as grown_by};
 ghost use Rattle.console.specs.declared.scan.Digits.TheVariants.{Plain, Negative};
 ghost use Rattle.console.specs.Scan.{if_digit, digits_fed, digits_number, empty, began, fed, line_at};
 ghost use Rattle.console.specs.Stretch.{Collects};
@@ -46,7 +46,7 @@ pub struct Collected {
 
 // A digit after others, with no sign and behind a minus; any other byte breaks the field.
 fn plain_fed(v: u64, b: u8) -> Digits
-    ensures { result ≡ if_digit b (Plain (grown-by v b)) }
+    ensures { result ≡ if_digit b (Plain (grown_by v b)) }
 {
     if b < 48 {
         return Digits::Broken;
@@ -58,7 +58,7 @@ fn plain_fed(v: u64, b: u8) -> Digits
 }
 
 fn negative_fed(v: u64, b: u8) -> Digits
-    ensures { result ≡ if_digit b (Negative (grown-by v b)) }
+    ensures { result ≡ if_digit b (Negative (grown_by v b)) }
 {
     if b < 48 {
         return Digits::Broken;

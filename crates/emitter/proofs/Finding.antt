@@ -9,12 +9,12 @@ use lib.Seq.{drop-cons}
 use lib.IntN.{ℤ}
 use Rattle.sizes.specs.Sizes.{ACTIONS}
 use Rattle.numbers.specs.Reference.{NOWHERE}
-use Rattle.chart_rows.proofs.Rows.{actions-most}
+use Rattle.chart_rows.proofs.Rows.{actions_most}
 use Rattle.widget.specs.Acts.{Named}
 use Rattle.acts.proofs.Acting.{row_named}
 use Rattle.meaning.specs.Chart.{Chart, no_action}
 use Rattle.meaning.specs.declared.chart.Act.{Act}
-use Rattle.meaning.specs.declared.chart.Act.TheVariants.{SetTo as set_to, AddTo as add_to, TakeTo as take-to, Send as send, Tell as tell}
+use Rattle.meaning.specs.declared.chart.Act.TheVariants.{SetTo as set_to, AddTo as add_to, TakeTo as take_to, Send as send, Tell as tell}
 use Rattle.meaning.specs.declared.chart.Owner.{Owner}
 use Rattle.meaning.specs.declared.chart.ActRow.{ActRow}
 use Rattle.meaning.specs.declared.plan.Instr.TheVariants.{Does as does}
@@ -24,14 +24,14 @@ use Rattle.meaning.specs.Value.{chart_of}
 use Rattle.meaning.specs.Rules.{Ruled}
 use Rattle.emitter.specs.Pen.{Pen, pen, emits, SmallAct, Room}
 use Rattle.acts.specs.Index.{before_first, row_from}
-use Rattle.acts.proofs.Finding.{owner_one, first-own, first_from, acts-here, acts-onward, later-from}
+use Rattle.acts.proofs.Finding.{owner_one, first_own, first_from, acts_here, acts_onward, later_from}
 use Rattle.emitter.proofs.Laws.{emits_none, emits_cons, emits_count}
 
 -- R7: the numbers of an act are 32-bit ones
 act_small : (x : Act) → Named x → SmallAct x
 act_small (set_to v x) n = omega arith
 act_small (add_to v x) n = omega arith
-act_small (take-to v) n = omega arith
+act_small (take_to v) n = omega arith
 act_small (send e x) n = omega arith
 act_small (tell x) n = tt
 
@@ -54,7 +54,7 @@ unfolding code_acts acts_of
 code_few v o =
     let n : length (map does (acts_in (chart_of v).actions o)) ≡ length (acts_in (chart_of v).actions o) =
     length-map (acts_in (chart_of v).actions o) does in
-    omega (arith, acts_few o (chart_of v).actions, actions-most v)
+    omega (arith, acts_few o (chart_of v).actions, actions_most v)
 
 -- ---- going from row to row
 
@@ -67,7 +67,7 @@ pub listing_begin : (c : Chart) (o : Owner) (l : List ℤ) (at i : ℕ) → i �
 unfolding code_acts acts_of
 listing_begin c o l at i e = record {
   own = ap (λ k. before_first o (drop k c.actions)) e ∙ first_from o c 0;
-  owes = ap (λ xs. emits (map does xs) (pen l at)) (ap (λ k. acts_in (drop k c.actions) o) e ∙ acts-onward o c 0);
+  owes = ap (λ xs. emits (map does xs) (pen l at)) (ap (λ k. acts_in (drop k c.actions) o) e ∙ acts_onward o c 0);
 }
 
 pub listing_end : (c : Chart) (o : Owner) (l : List ℤ) (at i : ℕ) (l₁ : List ℤ) (p : ℕ)
@@ -82,15 +82,15 @@ module _ (c : Chart) (o : Owner) (l : List ℤ) (at i : ℕ) (l₁ : List ℤ) (
   here = drop-cons c.actions i no_action n ∙ ap (λ r. r ∷ drop (suc i) c.actions) (sym e)
 
   its : same_owner o row.owner ≡ true
-  its = first-own o row (drop (suc i) c.actions) (ap (before_first o) (sym here) ∙ h.own)
+  its = first_own o row (drop (suc i) c.actions) (ap (before_first o) (sym here) ∙ h.own)
 
   due : emits (does row.act ∷ map does (acts_in (drop (suc i) c.actions) o)) (pen l₁ p) ≡ emits (code_acts c o) (pen l at)
   due = sym (ap (λ xs. emits (map does xs) (pen l₁ p))
-      (ap (λ rows. acts_in rows o) here ∙ acts-here o row (drop (suc i) c.actions) its)) ∙ h.owes
+      (ap (λ rows. acts_in rows o) here ∙ acts_here o row (drop (suc i) c.actions) its)) ∙ h.owes
 
   -- there is room for the row's instruction
-  pub listing-room : Room (code_acts c o) at → p + 4 < NOWHERE
-  listing-room r =
+  pub listing_room : Room (code_acts c o) at → p + 4 < NOWHERE
+  listing_room r =
       let q = ap (λ x. x.at) due in
       omega (
         arith,
@@ -98,17 +98,17 @@ module _ (c : Chart) (o : Owner) (l : List ℤ) (at i : ℕ) (l₁ : List ℤ) (
         emits_count (code_acts c o) (pen l at),
       )
 
-  pub listing-on : (l₂ : List ℤ) (p₂ i₂ : ℕ) → pen l₂ p₂ ≡ emits (does row.act ∷ []) (pen l₁ p)
+  pub listing_on : (l₂ : List ℤ) (p₂ i₂ : ℕ) → pen l₂ p₂ ≡ emits (does row.act ∷ []) (pen l₁ p)
       → i₂ ≡ row_from c (get_or c.actions i no_action).owner (suc i) → Listing c o l at i₂ l₂ p₂
-  listing-on l₂ p₂ i₂ w f =
+  listing_on l₂ p₂ i₂ w f =
       let same : (get_or c.actions i no_action).owner ≡ o = ap (λ r. r.owner) (sym e) ∙ sym (owner_one o row.owner its) in
       let to : i₂ ≡ row_from c o (suc i) = f ∙ ap (λ x. row_from c x (suc i)) same in
       record {
         own = ap (λ k. before_first o (drop k c.actions)) to ∙ first_from o c (suc i);
-        owes = ap (λ xs. emits (map does xs) (pen l₂ p₂)) (ap (λ k. acts_in (drop k c.actions) o) to ∙ acts-onward o c (suc i))
+        owes = ap (λ xs. emits (map does xs) (pen l₂ p₂)) (ap (λ k. acts_in (drop k c.actions) o) to ∙ acts_onward o c (suc i))
             ∙ ap (emits (map does (acts_in (drop (suc i) c.actions) o))) w
             ∙ sym (emits_cons (does row.act) (map does (acts_in (drop (suc i) c.actions) o)) (pen l₁ p)) ∙ due;
       }
 
-  pub listing-later : (i₂ : ℕ) → i₂ ≡ row_from c (get_or c.actions i no_action).owner (suc i) → i < i₂
-  listing-later i₂ f = omega (arith, later-from (get_or c.actions i no_action).owner c (suc i))
+  pub listing_later : (i₂ : ℕ) → i₂ ≡ row_from c (get_or c.actions i no_action).owner (suc i) → i < i₂
+  listing_later i₂ f = omega (arith, later_from (get_or c.actions i no_action).owner c (suc i))

@@ -11,10 +11,10 @@ use Rattle.numbers.specs.declared.Place.{Place}
 use Rattle.numbers.specs.declared.Place.TheVariants.{Empty, At}
 use Rattle.meaning.specs.Lists.{concat_map}
 use Rattle.meaning.specs.declared.chart.Act.{Act}
-use Rattle.meaning.specs.declared.chart.Act.TheVariants.{SetTo as set_to, AddTo as add_to, TakeTo as take-to, Send as send, Tell as tell}
+use Rattle.meaning.specs.declared.chart.Act.TheVariants.{SetTo as set_to, AddTo as add_to, TakeTo as take_to, Send as send, Tell as tell}
 use Rattle.meaning.specs.declared.plan.Instr.{Instr}
-use Rattle.meaning.specs.declared.plan.Instr.TheVariants.{In as go-in, Out as go-out, SkipOut as skip-out, SkipEmpty as skip-empty}
-use Rattle.meaning.specs.declared.plan.Instr.TheVariants.{SkipFull as skip-full, SkipNot as skip-not, Does as does}
+use Rattle.meaning.specs.declared.plan.Instr.TheVariants.{In as go_in, Out as go_out, SkipOut as skip_out, SkipEmpty as skip_empty}
+use Rattle.meaning.specs.declared.plan.Instr.TheVariants.{SkipFull as skip_full, SkipNot as skip_not, Does as does}
 use Rattle.meaning.specs.Plan.{slot_number, act_numbers, instr_numbers}
 use Rattle.emitter.specs.Pen.{Pen, pen, puts, emits, Room}
 
@@ -73,15 +73,15 @@ concat_map_append f (x ∷ xs) ys = ap (λ l. f x ++ l) (concat_map_append f xs 
 -- "instructions of four numbers"
 four_each : (i : Instr) → length (instr_numbers i) ≡ 4
 unfolding instr_numbers act_numbers slot_number
-four_each (go-in s) = refl
-four_each (go-out s p) = refl
-four_each (skip-out s n) = refl
-four_each (skip-empty s n) = refl
-four_each (skip-full s n) = refl
-four_each (skip-not s d n) = refl
+four_each (go_in s) = refl
+four_each (go_out s p) = refl
+four_each (skip_out s n) = refl
+four_each (skip_empty s n) = refl
+four_each (skip_full s n) = refl
+four_each (skip_not s d n) = refl
 four_each (does (set_to v x)) = refl
 four_each (does (add_to v x)) = refl
-four_each (does (take-to v)) = refl
+four_each (does (take_to v)) = refl
 four_each (does (send e x)) = refl
 four_each (does (tell x)) = refl
 

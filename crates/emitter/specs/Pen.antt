@@ -7,10 +7,10 @@ use Rattle.numbers.specs.declared.Place.{Place}
 use Rattle.numbers.specs.declared.Place.TheVariants.{Empty, At}
 use Rattle.meaning.specs.Lists.{concat_map}
 use Rattle.meaning.specs.declared.chart.Act.{Act}
-use Rattle.meaning.specs.declared.chart.Act.TheVariants.{SetTo as set_to, AddTo as add_to, TakeTo as take-to, Send as send, Tell as tell}
+use Rattle.meaning.specs.declared.chart.Act.TheVariants.{SetTo as set_to, AddTo as add_to, TakeTo as take_to, Send as send, Tell as tell}
 use Rattle.meaning.specs.declared.plan.Instr.{Instr}
-use Rattle.meaning.specs.declared.plan.Instr.TheVariants.{In as go-in, Out as go-out, SkipOut as skip-out, SkipEmpty as skip-empty}
-use Rattle.meaning.specs.declared.plan.Instr.TheVariants.{SkipFull as skip-full, SkipNot as skip-not, Does as does}
+use Rattle.meaning.specs.declared.plan.Instr.TheVariants.{In as go_in, Out as go_out, SkipOut as skip_out, SkipEmpty as skip_empty}
+use Rattle.meaning.specs.declared.plan.Instr.TheVariants.{SkipFull as skip_full, SkipNot as skip_not, Does as does}
 use Rattle.meaning.specs.Plan.{instr_numbers}
 
 pub record Pen : Type 0 where
@@ -36,17 +36,17 @@ SmallPlace (At s) = s < NOWHERE
 abbrev pub SmallAct : Act → Type 0
 SmallAct (set_to v x) = v < NOWHERE
 SmallAct (add_to v x) = v < NOWHERE
-SmallAct (take-to v) = v < NOWHERE
+SmallAct (take_to v) = v < NOWHERE
 SmallAct (send e x) = e < NOWHERE
 SmallAct (tell x) = Unit {0}
 
 abbrev pub Small : Instr → Type 0
-Small (go-in s) = s < NOWHERE
-Small (go-out s p) = (s < NOWHERE) × SmallPlace p
-Small (skip-out s n) = (s < NOWHERE) × (n < NOWHERE)
-Small (skip-empty s n) = (s < NOWHERE) × (n < NOWHERE)
-Small (skip-full s n) = (s < NOWHERE) × (n < NOWHERE)
-Small (skip-not s d n) = (s < NOWHERE) × (d < NOWHERE) × (n < NOWHERE)
+Small (go_in s) = s < NOWHERE
+Small (go_out s p) = (s < NOWHERE) × SmallPlace p
+Small (skip_out s n) = (s < NOWHERE) × (n < NOWHERE)
+Small (skip_empty s n) = (s < NOWHERE) × (n < NOWHERE)
+Small (skip_full s n) = (s < NOWHERE) × (n < NOWHERE)
+Small (skip_not s d n) = (s < NOWHERE) × (d < NOWHERE) × (n < NOWHERE)
 Small (does x) = SmallAct x
 
 -- the place after these instructions is a 32-bit number

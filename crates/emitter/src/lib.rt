@@ -7,7 +7,7 @@ pub mod actions;
 
 ghost use Rattle.std.specs.Prelude.{◌≡◌, [], ◌∷◌, ◌<◌, ◌+◌, set, pos};
 ghost use Rattle.numbers.specs.Reference.{NOWHERE};
-ghost use Rattle.meaning.specs.declared.plan.Instr.TheVariants.{Out as go-out, Does as does};
+ghost use Rattle.meaning.specs.declared.plan.Instr.TheVariants.{Out as go_out, Does as does};
 ghost use Rattle.emitter.specs.Pen.{pen, puts, emits, SmallPlace, SmallAct, Small};
 
 use meaning::chart::Act;
@@ -60,7 +60,7 @@ fn put_plain(plan: &mut [i32], at: usize, code: usize, a: usize, b: usize, c: us
 // "2 OUT s p (p the o parent, or -1)"
 fn put_out(plan: &mut [i32], at: usize, s: usize, p: Place) -> usize
     requires { (s < NOWHERE) × SmallPlace p × (at + 4 < NOWHERE) }
-    ensures { pen plan.new result ≡ emits (go-out s p ∷ []) (pen plan.old at) }
+    ensures { pen plan.new result ≡ emits (go_out s p ∷ []) (pen plan.old at) }
 {
     match p {
         Place::Empty => put_four(plan, at, 2, number(s), -1, 0),

@@ -45,9 +45,9 @@ outcome_on zero k u z = refl
 outcome_on (suc n) k u z = absurd (omega arith)
 
 module _ (u : State) (w : Went) (k : Lent) (r : Called) (t₁ : List ℤ) where
-  pub ends-no : (w.number ≡ 0 → ⊥) → Ends (as_found w.number 0 u) k.trace r t₁ → Ends (outcome u (went w k)) k.trace r t₁
+  pub ends_no : (w.number ≡ 0 → ⊥) → Ends (as_found w.number 0 u) k.trace r t₁ → Ends (outcome u (went w k)) k.trace r t₁
   unfolding went
-  ends-no z h = subst (λ o. Ends o k.trace r t₁) (sym (outcome_no w.number _ u z)) h
+  ends_no z h = subst (λ o. Ends o k.trace r t₁) (sym (outcome_no w.number _ u z)) h
 
   pub ends_on : w.number ≡ 0 → w.at ≤ length k.trace → (q : Queue) → q ≡ queue_by k.queue
       → r ≡ record {

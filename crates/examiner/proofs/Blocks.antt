@@ -12,7 +12,7 @@ use Rattle.meaning.specs.declared.plan.Counts.{Counts}
 use Rattle.meaning.specs.Value.{num}
 use Rattle.meaning.specs.WellFormed.{HEAD_ROW, INSTR_ROW, heads_at, code_at, head_rows, head_by, blocks_fill, left_after_each}
 use Rattle.meaning.specs.WellFormed.{left_in_blocks, code_fits}
-use Rattle.plan_rows.proofs.Blocks.{rows_cons, rows_none, fills-rest, fills_within, left_length, code-joined, code-block}
+use Rattle.plan_rows.proofs.Blocks.{rows_cons, rows_none, fills_rest, fills_within, left_length, code_joined, code_block}
 
 -- how many of its block follow each instruction, in the blocks of so many heads from a place on
 abbrev pub lefts_of : ℕ → ℕ → List ℤ → List ℕ
@@ -28,7 +28,7 @@ pub blocks_start : (k : Counts) (ns : List ℤ)
     ≡ code_fits k (left_after_each k.start) (drop (code_at k) ns) && rest_fits k (code_at k) k.start k.heads (heads_at k) ns
 unfolding left_in_blocks concat_map head_rows
 blocks_start k ns =
-    code-joined k (left_after_each k.start) (lefts_of k.heads (heads_at k) ns) (drop (code_at k) ns)
+    code_joined k (left_after_each k.start) (lefts_of k.heads (heads_at k) ns) (drop (code_at k) ns)
     ∙ ap (λ m. code_fits k (left_after_each k.start) (drop (code_at k) ns) && code_fits k (lefts_of k.heads (heads_at k) ns) m)
     (ap (λ m. drop (m * INSTR_ROW) (drop (code_at k) ns)) (left_length k.start) ∙ drop-drop (k.start * INSTR_ROW) (code_at k) ns)
 
@@ -47,15 +47,15 @@ module _ (k : Counts) (base done left head : ℕ) (ns : List ℤ) (n : ℕ) (e :
       ≡ code_fits k (left_after_each n) (drop (base + done * INSTR_ROW) ns) && rest_fits k base (done + n) (left - 1) (head + HEAD_ROW) ns
   step =
       ap (λ m. code_fits k m (drop (base + done * INSTR_ROW) ns)) (lefts_cons left head ns n e h)
-      ∙ code-block k base done n (lefts_of (left - 1) (head + HEAD_ROW) ns) ns
+      ∙ code_block k base done n (lefts_of (left - 1) (head + HEAD_ROW) ns) ns
 
-  pub blocks-stop : {b : Bool} → code_fits k (left_after_each n) (drop (base + done * INSTR_ROW) ns) ≡ false
+  pub blocks_stop : {b : Bool} → code_fits k (left_after_each n) (drop (base + done * INSTR_ROW) ns) ≡ false
       → rest_fits k base done left head ns ≡ b → false ≡ b
-  blocks-stop f g = rw (step, f) at g
+  blocks_stop f g = rw (step, f) at g
 
-  pub blocks-next : {b : Bool} → code_fits k (left_after_each n) (drop (base + done * INSTR_ROW) ns) ≡ true
+  pub blocks_next : {b : Bool} → code_fits k (left_after_each n) (drop (base + done * INSTR_ROW) ns) ≡ true
       → rest_fits k base done left head ns ≡ b → rest_fits k base (done + n) (left - 1) (head + HEAD_ROW) ns ≡ b
-  blocks-next f g = rw (step, f) at g
+  blocks_next f g = rw (step, f) at g
 
   -- where the blocks fill m instructions, this one lies within them, and the rest fill what is left
   pub filled_on : (m : ℕ) → blocks_fill m done (chunks left HEAD_ROW (drop head ns)) ≡ true
@@ -63,7 +63,7 @@ module _ (k : Counts) (base done left head : ℕ) (ns : List ℤ) (n : ℕ) (e :
   unfolding head_by
   filled_on m g =
       ap (λ q. blocks_fill m (done + q) (chunks (left - 1) HEAD_ROW (drop (head + HEAD_ROW) ns))) e
-      ∙ fills-rest m done (take HEAD_ROW (drop head ns)) (chunks (left - 1) HEAD_ROW (drop (head + HEAD_ROW) ns))
+      ∙ fills_rest m done (take HEAD_ROW (drop head ns)) (chunks (left - 1) HEAD_ROW (drop (head + HEAD_ROW) ns))
       (rw (rows_cons left HEAD_ROW head ns h) at g)
 
   pub filled_within : (m : ℕ) → blocks_fill m done (chunks left HEAD_ROW (drop head ns)) ≡ true → done + n ≤ m

@@ -52,19 +52,19 @@ module _ (k : Counts) (ns : List ℤ) (b : ℕ) where
       )
 
   -- a code that is none
-  pub instr-wrong : (left : ℕ) → no_shape ≡ get_or SHAPES (ref (get_or ns (b + 0) (pos 0))) no_shape → instr_fits k left (drop b ns) ≡ false
+  pub instr_wrong : (left : ℕ) → no_shape ≡ get_or SHAPES (ref (get_or ns (b + 0) (pos 0))) no_shape → instr_fits k left (drop b ns) ≡ false
   unfolding instr_fits shape_fits
-  instr-wrong left e = rw (get_or-drop b ns 0 (pos 0), ← e)
+  instr_wrong left e = rw (get_or-drop b ns 0 (pos 0), ← e)
 
   -- the code n, whose three numbers were tested
-  pub instr-read : (left n : ℕ) (f g h : Operand) {p q s r : Bool} → get_or SHAPES n no_shape ≡ shape f g h
+  pub instr_read : (left n : ℕ) (f g h : Operand) {p q s r : Bool} → get_or SHAPES n no_shape ≡ shape f g h
       → ref (get_or ns (b + 0) (pos 0)) ≡ n
       → p ≡ operand_fits k left f (get_or ns (b + 1) (pos 0))
       → q ≡ operand_fits k left g (get_or ns (b + 2) (pos 0))
       → s ≡ operand_fits k left h (get_or ns (b + 3) (pos 0))
       → r ≡ p && (q && s) → r ≡ instr_fits k left (drop b ns)
   unfolding instr_fits shape_fits
-  instr-read left n f g h t e u v w o =
+  instr_read left n f g h t e u v w o =
       o ∙ rw (u, v, w, get_or-drop b ns 0 (pos 0), e, t, get_or-drop b ns 1 (pos 0), get_or-drop b ns 2 (pos 0), get_or-drop b ns 3 (pos 0))
 
 -- a number that is no code has no form

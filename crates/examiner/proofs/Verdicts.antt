@@ -12,13 +12,13 @@ use Rattle.examiner.specs.Examined.{examined}
 
 -- the two answers
 module _ (ns : List ℤ) where
-  pub answer-done : well_formed ns ≡ true → record { number = 0; place = 0 } ≡ examined ns
+  pub answer_done : well_formed ns ≡ true → record { number = 0; place = 0 } ≡ examined ns
   unfolding examined
-  answer-done e = rw e
+  answer_done e = rw e
 
-  pub answer-malformed : well_formed ns ≡ false → record { number = 5; place = 0 } ≡ examined ns
+  pub answer_malformed : well_formed ns ≡ false → record { number = 5; place = 0 } ≡ examined ns
   unfolding examined
-  answer-malformed e = rw e
+  answer_malformed e = rw e
 
 -- what each says
 module _ (ns : List ℤ) (a : Answer) (e : a ≡ examined ns) where

@@ -14,20 +14,20 @@ use Rattle.plan_rows.proofs.Rows.{sized}
 use Rattle.examiner.specs.Examined.{Whole}
 
 module _ (ns : List ℤ) (k : Counts) (w : Whole ns k) where
-  pub whole-sized : Sized k
-  whole-sized = rw w.counted (sized ns)
+  pub whole_sized : Sized k
+  whole_sized = rw w.counted (sized ns)
 
-  pub whole-start : k.start ≡ ref (num ns 5)
+  pub whole_start : k.start ≡ ref (num ns 5)
   unfolding counts_of
-  whole-start = rw w.counted
+  whole_start = rw w.counted
 
-  pub whole-few : k.instructions < NOWHERE
-  whole-few = let s = whole-sized in omega arith
+  pub whole_few : k.instructions < NOWHERE
+  whole_few = let s = whole_sized in omega arith
 
-  pub heads-there : heads_at k + k.heads * HEAD_ROW ≤ length ns
+  pub heads_there : heads_at k + k.heads * HEAD_ROW ≤ length ns
   unfolding plan_end code_at
-  heads-there = omega arith
+  heads_there = omega arith
 
-  pub code-there : code_at k + k.instructions * INSTR_ROW ≤ length ns
+  pub code_there : code_at k + k.instructions * INSTR_ROW ≤ length ns
   unfolding plan_end
-  code-there = w.whole
+  code_there = w.whole

@@ -10,14 +10,14 @@ use Rattle.meaning.specs.Line.{letter_of, field}
 use Rattle.fields.specs.Parts.{Stop, Field}
 
 module _ (s : List ℕ) (from to e : ℕ) (q : Stop 9 s from to e) where
-  pub field-first : (k : ℕ) → k ≡ 0 → Field s from to k from e
+  pub field_first : (k : ℕ) → k ≡ 0 → Field s from to k from e
   unfolding fields
-  field-first k z = record { low = q.low; high = q.high; is = rw z (sym q.head) }
+  field_first k z = record { low = q.low; high = q.high; is = rw z (sym q.head) }
 
-  pub field-none : (k : ℕ) → (k ≡ 0 → ⊥) → e ≡ to → Field s from to k to to
+  pub field_none : (k : ℕ) → (k ≡ 0 → ⊥) → e ≡ to → Field s from to k to to
   unfolding fields
-  field-none zero n z = absurd (n refl)
-  field-none (suc k) n z = record { low = omega arith; high = omega arith; is = rw (slice_empty, q.last z) }
+  field_none zero n z = absurd (n refl)
+  field_none (suc k) n z = record { low = omega arith; high = omega arith; is = rw (slice_empty, q.last z) }
 
   pub field_next : (k a b : ℕ) → (k ≡ 0 → ⊥) → (e ≡ to → ⊥) → Field s (e + 1) to (k - 1) a b → Field s from to k a b
   unfolding fields
@@ -28,14 +28,14 @@ module _ (s : List ℕ) (from to e : ℕ) (q : Stop 9 s from to e) where
 
 -- ---- a letter
 module _ (s : List ℕ) (a e : ℕ) (t : e ≤ length s) where
-  pub whole-one : e - a ≡ 1 → get_or s a 0 ≡ letter_of (slice a e s)
-  whole-one h =
+  pub whole_one : e - a ≡ 1 → get_or s a 0 ≡ letter_of (slice a e s)
+  whole_one h =
       let l : a < e = omega arith in
       let m : suc a ≡ e = omega arith in
       rw (slice-cons a e s 0 l t, m, slice_empty)
 
-  pub whole-none : (e - a ≡ 1 → ⊥) → 0 ≡ letter_of (slice a e s)
-  whole-none h = long (slice a e s) (λ z. h (sym (length-slice a e s t) ∙ z))
+  pub whole_none : (e - a ≡ 1 → ⊥) → 0 ≡ letter_of (slice a e s)
+  whole_none h = long (slice a e s) (λ z. h (sym (length-slice a e s t) ∙ z))
     where
       long : (l : List ℕ) → (length l ≡ 1 → ⊥) → 0 ≡ letter_of l
       long [] n = refl

@@ -25,9 +25,9 @@ module _ (sep : ℕ) (s : List ℕ) (from to i : ℕ) where
     pub so_far : split sep (slice from to s) ≡ onto (slice from i s) (split sep (slice i to s))
 
   module _ (q : Sought) (t : to ≤ length s) where
-    pub stop-found : i < to → get_or s i 0 ≡ sep → Stop sep s from to i
+    pub stop_found : i < to → get_or s i 0 ≡ sep → Stop sep s from to i
     unfolding split
-    stop-found h e = record {
+    stop_found h e = record {
       low = q.low;
       high = q.high;
       head = rw (q.so_far, here, append-nil);
@@ -38,9 +38,9 @@ module _ (sep : ℕ) (s : List ℕ) (from to i : ℕ) where
         here : split sep (slice i to s) ≡ parts [] (all (split sep (slice (suc i) to s)))
         here = rw (slice-cons i to s 0 h t, e, eq-eqb sep sep refl)
 
-    pub stop-none : to ≤ i → Stop sep s from to i
+    pub stop_none : to ≤ i → Stop sep s from to i
     unfolding split
-    stop-none h =
+    stop_none h =
         let z : i ≡ to = omega arith in
         let e : split sep (slice i to s) ≡ parts [] [] = rw (z, slice_empty) in
         record {

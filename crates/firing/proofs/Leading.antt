@@ -12,18 +12,18 @@ use lib.IntN.{ℤ, pos, negsuc}
 use Rattle.sizes.specs.Sizes.{STATES}
 use Rattle.numbers.specs.Place.{place_of}
 use Rattle.numbers.specs.declared.Place.TheVariants.{Empty as empty, At as holds}
-use Rattle.laws.proofs.Lists.{each-reversed, same_or}
+use Rattle.laws.proofs.Lists.{each_reversed, same_or}
 use Rattle.laws.proofs.Sound.{SoundChart, parent_child}
 use Rattle.laws.proofs.Steps.{Holds}
-use Rattle.invariants.proofs.GoodReaction.{descendants-inside}
-use Rattle.laws.proofs.Stays.{Stays, each-stays, look-stays, then-stays, when-stays}
-use Rattle.invariants.proofs.Keeps.{Outside, acts-keep, change_leads, emit_keeps, holds_of, then_leads}
+use Rattle.invariants.proofs.GoodReaction.{descendants_inside}
+use Rattle.laws.proofs.Stays.{Stays, each_stays, look_stays, then_stays, when_stays}
+use Rattle.invariants.proofs.Keeps.{Outside, acts_keep, change_leads, emit_keeps, holds_of, then_leads}
 use Rattle.invariants.proofs.Slots.{slot_child}
 use Rattle.invariants.specs.Good.{SlotsOk}
 use Rattle.meaning.specs.Chart.{Chart}
 use Rattle.meaning.specs.declared.State.{State}
 use Rattle.meaning.specs.declared.chart.Owner.{Owner}
-use Rattle.meaning.specs.declared.chart.Owner.TheVariants.{ExitOf as exit-of}
+use Rattle.meaning.specs.declared.chart.Owner.TheVariants.{ExitOf as exit_of}
 use Rattle.meaning.specs.Effects.{leave, mark_left, o_parent, perform_all, store_in}
 use Rattle.meaning.specs.Reaction.{leave_active, leave_all}
 use Rattle.meaning.specs.Steps.{Step}
@@ -68,36 +68,36 @@ module _ (c : Chart) (h : SoundChart c) (small : length c.states ≤ STATES) (a 
   unfolding set_value set_queue
   outside = record { values = λ u v x l. l; queue = λ u q l. l }
 
-  acts-led : (o : Owner) → Stays (LeadsOn c) (perform_all c a o)
-  acts-led o k l = holds_of (LeadsOn c) (perform_all c a o k) (acts-keep (LedState c) outside c a o k l)
+  acts_led : (o : Owner) → Stays (LeadsOn c) (perform_all c a o)
+  acts_led o k l = holds_of (LeadsOn c) (perform_all c a o k) (acts_keep (LedState c) outside c a o k l)
 
-  stored-led : (s : ℕ) → s < length c.states → (u : State) → LedState c u
+  stored_led : (s : ℕ) → s < length c.states → (u : State) → LedState c u
       → LedState c (store_in (o_parent c s) s (set_active s false u))
   unfolding o_parent store_in set_active set_slot
-  stored-led zero l u f = f
-  stored-led (suc n) l u f = go (is_o (kind_of c (parent_of c (suc n))))
+  stored_led zero l u f = f
+  stored_led (suc n) l u f = go (is_o (kind_of c (parent_of c (suc n))))
     where
       go : (b : Bool) → LedState c (store_in (cond b (holds (parent_of c (suc n))) empty) (suc n) (set_active (suc n) false u))
       go true = led_set c u.slots (parent_of c (suc n)) (suc n) f (omega (arith, h.ordered.falls n)) (parent_child c (parent_of c
           (suc n)) n refl) l
       go false = f
 
-  leave-led : (s : ℕ) → s < length c.states → Stays (LeadsOn c) (leave c a s)
+  leave_led : (s : ℕ) → s < length c.states → Stays (LeadsOn c) (leave c a s)
   unfolding leave mark_left
-  leave-led s l = then-stays (LeadsOn c) (mark_left (o_parent c s) s) (perform_all c a (exit-of s))
+  leave_led s l = then_stays (LeadsOn c) (mark_left (o_parent c s) s) (perform_all c a (exit_of s))
       (λ k f. holds_of (LeadsOn c) (mark_left (o_parent c s) s k) (then_leads (LedState c) (LedState c) (LedState c) _ _
-      (emit_keeps (LedState c) _) (change_leads (LedState c) (LedState c) _ (stored-led s l)) k f))
-      (acts-led (exit-of s))
+      (emit_keeps (LedState c) _) (change_leads (LedState c) (LedState c) _ (stored_led s l)) k f))
+      (acts_led (exit_of s))
 
-  leave-active-led : (s : ℕ) → s < length c.states → Stays (LeadsOn c) (leave_active c a s)
+  leave_active_led : (s : ℕ) → s < length c.states → Stays (LeadsOn c) (leave_active c a s)
   unfolding leave_active
-  leave-active-led s l = look-stays (LeadsOn c) _ (λ k g. when-stays (LeadsOn c) (is_active k.state s) (leave c a s)
-      (λ e. leave-led s l))
+  leave_active_led s l = look_stays (LeadsOn c) _ (λ k g. when_stays (LeadsOn c) (is_active k.state s) (leave c a s)
+      (λ e. leave_led s l))
 
-  pub leave-all-led : (s : ℕ) → Stays (LeadsOn c) (leave_all c a (descendants c s))
+  pub leave_all_led : (s : ℕ) → Stays (LeadsOn c) (leave_all c a (descendants c s))
   unfolding leave_all
-  leave-all-led s = each-stays (LeadsOn c) (leave_active c a) (λ x. x < length c.states) leave-active-led (reverse (descendants c s))
-      (each-reversed (λ x. x < length c.states) (descendants c s) (descendants-inside c h s))
+  leave_all_led s = each_stays (LeadsOn c) (leave_active c a) (λ x. x < length c.states) leave_active_led (reverse (descendants c s))
+      (each_reversed (λ x. x < length c.states) (descendants c s) (descendants_inside c h s))
 
 -- ---- after a function that did such a step
 

@@ -33,21 +33,21 @@ module _ (i : ℕ) (h : i < ENTRIES) where
   unfolding steps fields skips
   here = entry steps fields skips i h h h
 
-  pub form-or : get_or steps i 0 ≡ 124 → form_at i ≡ form_at (i + 1) or form_at (i + 1 + (get_or skips i 0 - 48))
+  pub form_or : get_or steps i 0 ≡ 124 → form_at i ≡ form_at (i + 1) or form_at (i + 1 + (get_or skips i 0 - 48))
   unfolding form_at
-  form-or e =
+  form_or e =
       let w = here in
       let a : suc i + 0 ≡ i + 1 = omega arith in
       let b : suc i + (get_or skips i 0 - 48) ≡ i + 1 + (get_or skips i 0 - 48) = omega arith in
       w.is ∙ rw (e, w.later 0, w.later (get_or skips i 0 - 48), a, b)
 
-  pub form-tab : get_or steps i 0 ≡ 62 → form_at i ≡ field_of (get_or fields i 0) tab form_at (i + 1)
+  pub form_tab : get_or steps i 0 ≡ 62 → form_at i ≡ field_of (get_or fields i 0) tab form_at (i + 1)
   unfolding form_at
-  form-tab e = let w = here in let a : suc i + 0 ≡ i + 1 = omega arith in w.is ∙ rw (e, w.later 0, a)
+  form_tab e = let w = here in let a : suc i + 0 ≡ i + 1 = omega arith in w.is ∙ rw (e, w.later 0, a)
 
-  pub form-last : (get_or steps i 0 ≡ 124 → ⊥) → (get_or steps i 0 ≡ 62 → ⊥) → form_at i ≡ last (field_of (get_or fields i 0))
+  pub form_last : (get_or steps i 0 ≡ 124 → ⊥) → (get_or steps i 0 ≡ 62 → ⊥) → form_at i ≡ last (field_of (get_or fields i 0))
   unfolding form_at
-  form-last a b = let w = here in w.is ∙ rw (ne_eqb (get_or steps i 0) 124 a, ne_eqb (get_or steps i 0) 62 b)
+  form_last a b = let w = here in w.is ∙ rw (ne_eqb (get_or steps i 0) 124 a, ne_eqb (get_or steps i 0) 62 b)
 
 pub form_past : (i : ℕ) → ENTRIES ≤ i → form_at i ≡ no_form
 unfolding form_at forms steps fields skips
@@ -165,34 +165,34 @@ one_of : (ls : List ℕ) → all_bytes ls ≡ true → Letters (letter ls)
 one_of ls e = record { letters = ls; is = refl; small = e }
 
 module _ (k : ℕ) where
-  pub width-none : k ≡ 110 → 0 ≡ width (field_of k)
+  pub width_none : k ≡ 110 → 0 ≡ width (field_of k)
   unfolding field_of
-  width-none e = rw e
+  width_none e = rw e
 
-  pub width-state : k ≡ 115 → 2 ≡ width (field_of k)
+  pub width_state : k ≡ 115 → 2 ≡ width (field_of k)
   unfolding field_of
-  width-state e = rw e
+  width_state e = rw e
 
-  pub width-history : k ≡ 104 → 2 ≡ width (field_of k)
+  pub width_history : k ≡ 104 → 2 ≡ width (field_of k)
   unfolding field_of
-  width-history e = rw e
+  width_history e = rw e
 
-  pub width-place : k ≡ 95 → 2 ≡ width (field_of k)
+  pub width_place : k ≡ 95 → 2 ≡ width (field_of k)
   unfolding field_of
-  width-place e = rw e
+  width_place e = rw e
 
-module _ (k : ℕ) (turn-not : k ≡ 110 → ⊥) (state-not : k ≡ 115 → ⊥) (history-not : k ≡ 104 → ⊥) (place-not : k ≡ 95 → ⊥) where
+module _ (k : ℕ) (turn-not : k ≡ 110 → ⊥) (state-not : k ≡ 115 → ⊥) (history_not : k ≡ 104 → ⊥) (place-not : k ≡ 95 → ⊥) where
   pub width_one : 1 ≡ width (field_of k)
   width_one = each_code (λ x. 1 ≡ width x) k
       ((λ e. absurd (turn-not e)) also (λ _. refl) also (λ _. refl) also (λ e. absurd (state-not e))
-      also (λ e. absurd (history-not e)) also (λ e. absurd (place-not e)) also (λ _. refl) also (λ _. refl) also (λ _. refl)
+      also (λ e. absurd (history_not e)) also (λ e. absurd (place-not e)) also (λ _. refl) also (λ _. refl) also (λ _. refl)
       also (λ _. refl) also (λ _. refl) also (λ _. refl) also (λ _. refl) also refl)
 
-  pub letters-else : (k ≡ 35 → ⊥) → (k ≡ 99 → ⊥) → (k ≡ 45 → ⊥) → Letters (field_of k)
-  letters-else number-not count-not dash-not = each_code Letters k
-      ((λ e. absurd (turn-not e)) also (λ e. absurd (number-not e)) also (λ e. absurd (dash-not e))
-      also (λ e. absurd (state-not e)) also (λ e. absurd (history-not e)) also (λ e. absurd (place-not e))
-      also (λ e. absurd (count-not e)) also (λ _. one_of (bytes "o") refl) also (λ _. one_of (bytes "ab") refl)
+  pub letters_else : (k ≡ 35 → ⊥) → (k ≡ 99 → ⊥) → (k ≡ 45 → ⊥) → Letters (field_of k)
+  letters_else number_not count_not dash-not = each_code Letters k
+      ((λ e. absurd (turn-not e)) also (λ e. absurd (number_not e)) also (λ e. absurd (dash-not e))
+      also (λ e. absurd (state-not e)) also (λ e. absurd (history_not e)) also (λ e. absurd (place-not e))
+      also (λ e. absurd (count_not e)) also (λ _. one_of (bytes "o") refl) also (λ _. one_of (bytes "ab") refl)
       also (λ _. one_of (bytes "=<>") refl) also (λ _. one_of (bytes "exdt") refl) also (λ _. one_of (bytes "saq") refl)
       also (λ _. one_of (bytes "ko") refl) also one_of [] refl)
 
@@ -233,34 +233,34 @@ action_form n = refl
 
 -- by the letter that names the record
 module _ (k n : ℕ) where
-  pub entry-root : k ≡ 83 → n ≡ 0 → form_at 0 ≡ form (record_by k) n
+  pub entry_root : k ≡ 83 → n ≡ 0 → form_at 0 ≡ form (record_by k) n
   unfolding record_by
-  entry-root e f = rw (e, f) root_form
+  entry_root e f = rw (e, f) root_form
 
-  pub entry-state : k ≡ 83 → (n ≡ 0 → ⊥) → form_at 7 ≡ form (record_by k) n
+  pub entry_state : k ≡ 83 → (n ≡ 0 → ⊥) → form_at 7 ≡ form (record_by k) n
   unfolding record_by
-  entry-state e f = rw e (go n f)
+  entry_state e f = rw e (go n f)
     where
       go : (n : ℕ) → (n ≡ 0 → ⊥) → form_at 7 ≡ form s_record n
       go zero f = absurd (f refl)
       go (suc n) f = state_form n
 
-  pub entry-variable : k ≡ 86 → form_at 14 ≡ form (record_by k) n
+  pub entry_variable : k ≡ 86 → form_at 14 ≡ form (record_by k) n
   unfolding record_by
-  entry-variable e = rw e (variable_form n)
+  entry_variable e = rw e (variable_form n)
 
-  pub entry-events : k ≡ 69 → form_at 18 ≡ form (record_by k) n
+  pub entry_events : k ≡ 69 → form_at 18 ≡ form (record_by k) n
   unfolding record_by
-  entry-events e = rw e (events_form n)
+  entry_events e = rw e (events_form n)
 
-  pub entry-transition : k ≡ 84 → form_at 19 ≡ form (record_by k) n
+  pub entry_transition : k ≡ 84 → form_at 19 ≡ form (record_by k) n
   unfolding record_by
-  entry-transition e = rw e (transition_form n)
+  entry_transition e = rw e (transition_form n)
 
-  pub entry-action : k ≡ 65 → form_at 39 ≡ form (record_by k) n
+  pub entry_action : k ≡ 65 → form_at 39 ≡ form (record_by k) n
   unfolding record_by
-  entry-action e = rw e (action_form n)
+  entry_action e = rw e (action_form n)
 
-  pub entry-none : (k ≡ 83 → ⊥) → (k ≡ 86 → ⊥) → (k ≡ 69 → ⊥) → (k ≡ 84 → ⊥) → (k ≡ 65 → ⊥) → form_at 48 ≡ form (record_by k) n
+  pub entry_none : (k ≡ 83 → ⊥) → (k ≡ 86 → ⊥) → (k ≡ 69 → ⊥) → (k ≡ 84 → ⊥) → (k ≡ 65 → ⊥) → form_at 48 ≡ form (record_by k) n
   unfolding record_by
-  entry-none s v e t a = rw (ne_eqb k 83 s, ne_eqb k 86 v, ne_eqb k 69 e, ne_eqb k 84 t, ne_eqb k 65 a) (form_past 48 (omega arith))
+  entry_none s v e t a = rw (ne_eqb k 83 s, ne_eqb k 86 v, ne_eqb k 69 e, ne_eqb k 84 t, ne_eqb k 65 a) (form_past 48 (omega arith))

@@ -10,12 +10,12 @@ use mathlib.Core.Option.{none, some}
 use lib.ListN.{length}
 use lib.IntN.{ℤ}
 use Rattle.invariants.proofs.Firing.{Standing, standing_outside}
-use Rattle.invariants.proofs.Good.{enqueue-good, set-queue-good}
+use Rattle.invariants.proofs.Good.{enqueue_good, set_queue_good}
 use Rattle.invariants.specs.Good.{Good, Traced}
-use Rattle.invariants.proofs.Keeps.{Gives, enqueue-keeps, gives_bind, gives_holds}
-use Rattle.invariants.proofs.Own.{OwnState, nothing_traced, own-whole, start-stands, whole-own}
-use Rattle.invariants.proofs.Stepping.{Whole, settle-stands, step-stands}
-use Rattle.invariants.proofs.Values.{fits-len, removed-fits}
+use Rattle.invariants.proofs.Keeps.{Gives, enqueue_keeps, gives_bind, gives_holds}
+use Rattle.invariants.proofs.Own.{OwnState, nothing_traced, own_whole, start_stands, whole_own}
+use Rattle.invariants.proofs.Stepping.{Whole, settle_stands, step_stands}
+use Rattle.invariants.proofs.Values.{fits_len, removed_fits}
 use Rattle.laws.proofs.Lists.{and_right, same_or}
 use Rattle.laws.proofs.Sound.{SoundChart}
 use Rattle.laws.proofs.Value.{SizedChart}
@@ -28,8 +28,8 @@ use Rattle.meaning.specs.Steps.{Res, Step, ◌then◌, bind, ok, refuse, require
 use Rattle.meaning.specs.Widget.{Ctx, begin, change, set_queue}
 use Rattle.meaning.specs.declared.State.{State}
 use Rattle.numbers.specs.Reference.{ref}
-use Rattle.queue.proofs.Tidy.{removed-long}
-use Rattle.queue.proofs.Waiting.{removed-front, removed-none}
+use Rattle.queue.proofs.Tidy.{removed_long}
+use Rattle.queue.proofs.Waiting.{removed_front, removed_none}
 use Rattle.queue.specs.Queue.{removed}
 use Rattle.queue.specs.declared.Queue.{Queue}
 use Rattle.sizes.specs.Sizes.{QUEUE}
@@ -61,9 +61,9 @@ post_stands : (c : Chart) → SoundChart c
     → Gives ((require 10 b then enqueue e a) (begin u 0)) (Whole c)
 unfolding ◌then◌ require bind
 post_stands c r z u h e a true f =
-    let w = own-whole c r z u 0 h in
+    let w = own_whole c r z u 0 h in
     gives_holds (λ j. Standing c j.state) (Good c) (enqueue e a (begin u 0))
-    (enqueue-keeps (Standing c) (standing_outside c) e a (begin u 0) w.0) (enqueue-good c r z e a f (begin u 0) w.1)
+    (enqueue_keeps (Standing c) (standing_outside c) e a (begin u 0) w.0) (enqueue_good c r z e a f (begin u 0) w.1)
 post_stands c r z u h e a false f = (λ x. omega arith, λ x. omega arith, λ x. omega arith)
 
 module _ (c : Chart) (r : SoundChart c) (z : SizedChart c) where
@@ -72,7 +72,7 @@ module _ (c : Chart) (r : SoundChart c) (z : SizedChart c) where
   outcome_facts u (ok k) w = record {
     never_6 = λ e. omega arith;
     never_14 = λ e. omega arith;
-    done = λ e. whole-own c r z k w;
+    done = λ e. whole_own c r z k w;
     rolled_back = λ n. absurd (n refl);
     traced = w.1.trace;
   }
@@ -85,31 +85,31 @@ module _ (c : Chart) (r : SoundChart c) (z : SizedChart c) where
   }
 
   -- start, whatever the state held
-  pub start-facts : (u : State) (n : ℕ) → CallFacts c u (start c u n)
+  pub start_facts : (u : State) (n : ℕ) → CallFacts c u (start c u n)
   unfolding start
-  start-facts u n = outcome_facts u (start_steps c (begin (fresh c) n)) (start-stands c r z n)
+  start_facts u n = outcome_facts u (start_steps c (begin (fresh c) n)) (start_stands c r z n)
 
   -- ---- from a started state that is the chart's own the tests pass
 
   module _ (u : State) (h : OwnState c u) where
-    tests-pass : (F : Step Ctx) (k : Ctx) → Gives (F k) (Whole c) → Gives ((tests c u then F) k) (Whole c)
+    tests_pass : (F : Step Ctx) (k : Ctx) → Gives (F k) (Whole c) → Gives ((tests c u then F) k) (Whole c)
     unfolding tests ◌then◌ require bind
-    tests-pass F k w = subst (λ b. Gives (bind (bind (require 7 b k) (require 6 (own c u))) F) (Whole c)) (sym h.started)
+    tests_pass F k w = subst (λ b. Gives (bind (bind (require 7 b k) (require 6 (own c u))) F) (Whole c)) (sym h.started)
         (subst (λ b. Gives (bind (require 6 b k) F) (Whole c)) (sym h.is_own) w)
 
-    whole-queue : (q : Queue) → queue_fits c.events q ≡ true
+    whole_queue : (q : Queue) → queue_fits c.events q ≡ true
         → length q.items ≡ QUEUE → (n : ℕ) → Gives (change (set_queue q) (begin u n)) (Whole c)
     unfolding change set_queue
-    whole-queue q f l n =
-        let w = own-whole c r z u n h in
-        ((standing_outside c).queue (begin u n).state q w.0, set-queue-good c q f l (begin u n) w.1)
+    whole_queue q f l n =
+        let w = own_whole c r z u n h in
+        ((standing_outside c).queue (begin u n).state q w.0, set_queue_good c q f l (begin u n) w.1)
 
-    pub front-stands : (n : ℕ) → Gives (take_front (removed u.queue) (begin u n)) (Whole c)
+    pub front_stands : (n : ℕ) → Gives (take_front (removed u.queue) (begin u n)) (Whole c)
     unfolding take_front ◌then◌ require bind
-    front-stands n = ⊎_elim none some (same_or u.queue.len 0)
+    front_stands n = ⊎_elim none some (same_or u.queue.len 0)
       where
         w : Whole c (begin u n)
-        w = own-whole c r z u n h
+        w = own_whole c r z u n h
 
         fits : queue_fits c.events u.queue ≡ true
         fits = own_queue c u h
@@ -117,34 +117,34 @@ module _ (c : Chart) (r : SoundChart c) (z : SizedChart c) where
         none : u.queue.len ≡ 0 → Gives
             (bind (require 8 (removed u.queue).done (begin u n)) (change (set_queue (removed u.queue).queue))) (Whole c)
         none e = subst (λ x. Gives (bind (require 8 x.done (begin u n)) (change (set_queue x.queue))) (Whole c))
-            (sym (removed-none u.queue e)) (λ x. omega arith, λ x. omega arith, λ x. omega arith)
+            (sym (removed_none u.queue e)) (λ x. omega arith, λ x. omega arith, λ x. omega arith)
 
         some : (u.queue.len ≡ 0 → ⊥) → Gives
             (bind (require 8 (removed u.queue).done (begin u n)) (change (set_queue (removed u.queue).queue))) (Whole c)
         some e = subst (λ b. Gives (bind (require 8 b (begin u n)) (change (set_queue (removed u.queue).queue))) (Whole c))
-            (sym (ap (λ x. x.done) (removed-front u.queue (omega arith) (fits-len c.events u.queue fits))))
-            (whole-queue (removed u.queue).queue (removed-fits c.events u.queue fits h.sized.items (omega arith))
-            (removed-long u.queue (omega (arith, h.sized.items)) ∙ h.sized.items) n)
+            (sym (ap (λ x. x.done) (removed_front u.queue (omega arith) (fits_len c.events u.queue fits))))
+            (whole_queue (removed u.queue).queue (removed_fits c.events u.queue fits h.sized.items (omega arith))
+            (removed_long u.queue (omega (arith, h.sized.items)) ∙ h.sized.items) n)
 
-    pub run-facts : (n : ℕ) → CallFacts c u (run c u n)
+    pub run_facts : (n : ℕ) → CallFacts c u (run c u n)
     unfolding run react ◌then◌
-    run-facts n = outcome_facts u ((tests c u then react c (removed u.queue)) (begin u n))
-        (tests-pass (react c (removed u.queue)) (begin u n)
+    run_facts n = outcome_facts u ((tests c u then react c (removed u.queue)) (begin u n))
+        (tests_pass (react c (removed u.queue)) (begin u n)
         (gives_bind (Whole c) (Whole c) (take_front (removed u.queue) (begin u n))
-        (step c (ref (removed u.queue).front.event) (removed u.queue).front.arg then settle c) (front-stands n)
+        (step c (ref (removed u.queue).front.event) (removed u.queue).front.arg then settle c) (front_stands n)
         (λ k w. gives_bind (Whole c) (Whole c)
         (step c (ref (removed u.queue).front.event) (removed u.queue).front.arg k) (settle c)
-        (step-stands c r z (ref (removed u.queue).front.event) (removed u.queue).front.arg k w) (settle-stands c r z))))
+        (step_stands c r z (ref (removed u.queue).front.event) (removed u.queue).front.arg k w) (settle_stands c r z))))
 
-    pub discard-facts : CallFacts c u (discard c u)
+    pub discard_facts : CallFacts c u (discard c u)
     unfolding discard
-    discard-facts = outcome_facts u ((tests c u then take_front (removed u.queue)) (begin u 0))
-        (tests-pass (take_front (removed u.queue)) (begin u 0) (front-stands 0))
+    discard_facts = outcome_facts u ((tests c u then take_front (removed u.queue)) (begin u 0))
+        (tests_pass (take_front (removed u.queue)) (begin u 0) (front_stands 0))
 
-    pub post-facts : (e a : ℤ) → CallFacts c u (post c u e a)
+    pub post_facts : (e a : ℤ) → CallFacts c u (post c u e a)
     unfolding post
-    post-facts e a = outcome_facts u ((tests c u then require 10 (event_fits c.events e a) then enqueue e a) (begin u 0))
-        (tests-pass (require 10 (event_fits c.events e a) then enqueue e a) (begin u 0) (posted (event_fits c.events e a) refl))
+    post_facts e a = outcome_facts u ((tests c u then require 10 (event_fits c.events e a) then enqueue e a) (begin u 0))
+        (tests_pass (require 10 (event_fits c.events e a) then enqueue e a) (begin u 0) (posted (event_fits c.events e a) refl))
       where
         posted : (b : Bool) → event_fits c.events e a ≡ b → Gives ((require 10 b then enqueue e a) (begin u 0)) (Whole c)
         posted b f = post_stands c r z u h e a b f

@@ -9,7 +9,7 @@ use mathlib.Core.List.{List, [], ◌++◌, ◌∷◌, reverse}
 use lib.ListN.{length}
 use lib.Dec.{eqb}
 use borrow.Author.Tests.{eqb-true}
-use Rattle.laws.proofs.Lists.{each_both, each-joined, each-kept, each_range, each-weaker, or_cases, or_off, or_off_left, or_off_right}
+use Rattle.laws.proofs.Lists.{each_both, each_joined, each_kept, each_range, each_weaker, or_cases, or_off, or_off_left, or_off_right}
 use Rattle.laws.proofs.Ranges.{has_joined}
 use Rattle.laws.specs.Facts.{Each, none_left, one_more}
 use Rattle.meaning.specs.Chart.{Chart}
@@ -21,7 +21,7 @@ use Rattle.meaning.specs.declared.State.{State}
 each_concat : {A B : Type 0} (P : B → Type 0) (f : A → List B) (xs : List A) → ((x : A) → Each P (f x)) → Each P (concat_map f xs)
 unfolding concat_map
 each_concat P f [] h = none_left
-each_concat P f (x ∷ xs) h = each-joined P (f x) (concat_map f xs) (h x) (each_concat P f xs h)
+each_concat P f (x ∷ xs) h = each_joined P (f x) (concat_map f xs) (h x) (each_concat P f xs h)
 
 kept_pass : {A : Type 0} (q : A → Bool) (xs : List A) → Each (λ x. q x ≡ true) (keep q xs)
 unfolding keep
@@ -35,7 +35,7 @@ kept_pass q (x ∷ xs) = go (q x) refl (kept_pass q xs)
 pub ordered_each : (P : ℕ → Type 0) (c : Chart) (ts : List ℕ) → Each P ts → Each P (choosing_order c ts)
 unfolding choosing_order
 ordered_each P c ts h = each_concat P (λ s. keep (λ t. eqb (trans_row c t).source s) ts)
-    (reverse (all_states c)) (λ s. each-kept P (λ t. eqb (trans_row c t).source s) ts h)
+    (reverse (all_states c)) (λ s. each_kept P (λ t. eqb (trans_row c t).source s) ts h)
 
 thin_each : (P : ℕ → Type 0) (c : Chart) (gone ts : List ℕ) → Each P ts → Each P (thin c gone ts)
 unfolding thin
@@ -52,7 +52,7 @@ pub chosen_enabled : (c : Chart) (e : ℕ) (u : State) → Each (λ t. (t < leng
 unfolding chosen all_transitions
 chosen_enabled c e u = thin_each _ c [] _ (ordered_each _ c _
     (each_both (λ t. t < length c.transitions) (λ t. enabled c e u t ≡ true) (keep (enabled c e u) (from 0 (length c.transitions)))
-    (each-kept (λ t. t < length c.transitions) (enabled c e u)
+    (each_kept (λ t. t < length c.transitions) (enabled c e u)
     (from 0 (length c.transitions)) (each_range 0 (length c.transitions) (length c.transitions) (omega arith)))
     (kept_pass (enabled c e u) (from 0 (length c.transitions)))))
 
@@ -95,7 +95,7 @@ thin_clear c gone (t ∷ ts) = go (meets (span c t) gone) refl (thin_clear c gon
         → Each (λ x. meets (span c x) (span c t ++ gone) ≡ false) (thin c (span c t ++ gone) ts)
         → Each (λ x. meets (span c x) gone ≡ false) (elim b [ true ↦ thin c gone ts | false ↦ t ∷ thin c (span c t ++ gone) ts ])
     go true e x y = x
-    go false e x y = one_more e (each-weaker _ _ _ (λ i q. meets_right (span c i) (span c t) gone q) y)
+    go false e x y = one_more e (each_weaker _ _ _ (λ i q. meets_right (span c i) (span c t) gone q) y)
 
 thin_apart : (c : Chart) (gone ts : List ℕ) → Apart c (thin c gone ts)
 unfolding thin
@@ -105,7 +105,7 @@ thin_apart c gone (t ∷ ts) = go (meets (span c t) gone) (thin_apart c gone ts)
     go : (b : Bool) → Apart c (thin c gone ts) → Apart c (thin c (span c t ++ gone) ts)
         → Apart c (elim b [ true ↦ thin c gone ts | false ↦ t ∷ thin c (span c t ++ gone) ts ])
     go true x y = x
-    go false x y = one_apart (each-weaker _ _ _ (λ i q. meets_left (span c i) (span c t) gone q) (thin_clear c (span c t ++ gone) ts)) y
+    go false x y = one_apart (each_weaker _ _ _ (λ i q. meets_left (span c i) (span c t) gone q) (thin_clear c (span c t ++ gone) ts)) y
 
 pub chosen_apart : (c : Chart) (e : ℕ) (u : State) → Apart c (chosen c e u)
 unfolding chosen

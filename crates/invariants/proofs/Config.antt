@@ -9,8 +9,8 @@ use mathlib.Core.Option.{some}
 use lib.ListN.{get_or-eq_default, drop, get_or, length, length-drop}
 use lib.Seq.{get_or-drop}
 use borrow.Author.Tests.{eq-eqb, eqb-true, not-true}
-use Rattle.invariants.proofs.Counting.{Kept, keep_keep, kept-exactly, kept-exists, kept-only}
-use Rattle.laws.proofs.Lists.{and_both, and_left, and_right, at_every, every-at, every-range, is_false, le_or_lt, range-every}
+use Rattle.invariants.proofs.Counting.{Kept, keep_keep, kept_exactly, kept_exists, kept_only}
+use Rattle.laws.proofs.Lists.{and_both, and_left, and_right, at_every, every_at, every_range, is_false, le_or_lt, range_every}
 use Rattle.laws.proofs.Rules.{a_inside, o_inside}
 use Rattle.laws.proofs.Sound.{SoundChart, a_not_root, child_every, child_inside, child_parent, every_child, no_root_child, parent_child}
 use Rattle.meaning.specs.Chart.{Chart}
@@ -20,15 +20,15 @@ use Rattle.meaning.specs.Tree.{all_states, children, is_child, kind_of, parent_o
 use Rattle.meaning.specs.Widget.{is_active}
 use Rattle.meaning.specs.declared.State.{State}
 use Rattle.meaning.specs.declared.chart.Kind.{Kind}
-use Rattle.meaning.specs.declared.chart.Kind.TheVariants.{A as kind-a, B as kind-b, O as kind-o}
+use Rattle.meaning.specs.declared.chart.Kind.TheVariants.{A as kind_a, B as kind_b, O as kind_o}
 
 pub record Config (c : Chart) (on : ℕ → Bool) (hole : ℕ → Type 0) : Type 0 where
   pub root : on 0 ≡ true
   pub inside : (s : ℕ) → on s ≡ true → s < length c.states
   pub up : (n : ℕ) → on (suc n) ≡ true → on (parent_of c (suc n)) ≡ true
-  pub one : (s : ℕ) → kind_of c s ≡ kind-o → on s ≡ true → (hole s → ⊥) → (y : ℕ) × (is_child c s y ≡ true) × (on y ≡ true)
-  pub only : (s y z : ℕ) → kind_of c s ≡ kind-o → is_child c s y ≡ true → is_child c s z ≡ true → on y ≡ true → on z ≡ true → y ≡ z
-  pub all : (s y : ℕ) → kind_of c s ≡ kind-a → on s ≡ true → is_child c s y ≡ true → on y ≡ true
+  pub one : (s : ℕ) → kind_of c s ≡ kind_o → on s ≡ true → (hole s → ⊥) → (y : ℕ) × (is_child c s y ≡ true) × (on y ≡ true)
+  pub only : (s y z : ℕ) → kind_of c s ≡ kind_o → is_child c s y ≡ true → is_child c s z ≡ true → on y ≡ true → on z ≡ true → y ≡ z
+  pub all : (s y : ℕ) → kind_of c s ≡ kind_a → on s ≡ true → is_child c s y ≡ true → on y ≡ true
 
 abbrev pub no_hole : ℕ → Type 0
 no_hole s = ⊥
@@ -57,7 +57,7 @@ inside_of n u h s e = ⊎_elim (λ l. absurd (true≢false (sym e ∙ off l))) (
         let i : s ≡ n + (s - n) = omega arith in
         let k : s - n < length (drop n u.active) = subst (λ x. s - n < x) (sym (length-drop n u.active)) (omega arith) in
         ap (λ x. get_or u.active x false) i ∙ sym (get_or-drop n u.active (s - n) false)
-        ∙ not-true _ (every-at not (drop n u.active) h (s - n) k false))
+        ∙ not-true _ (every_at not (drop n u.active) h (s - n) k false))
         (le_or_lt (length u.active) s)
 
 marks_of : (n : ℕ) (u : State) → ((s : ℕ) → is_active u s ≡ true → s < n) → marks_fit n u ≡ true
@@ -68,10 +68,10 @@ marks_of n u h = at_every not (drop n u.active)
 -- ---- the test, state by state
 
 module _ (c : Chart) (u : State) where
-  abbrev Legal-at : ℕ → Type 0
-  Legal-at s = legal_at c u s ≡ true
+  abbrev LegalAt : ℕ → Type 0
+  LegalAt s = legal_at c u s ≡ true
 
-  at_on : (s : ℕ) → is_active u s ≡ true → Legal-at s → (k : Kind) → kind_of c s ≡ k → children_legal c u k (children c s) ≡ true
+  at_on : (s : ℕ) → is_active u s ≡ true → LegalAt s → (k : Kind) → kind_of c s ≡ k → children_legal c u k (children c s) ≡ true
   unfolding legal_at
   at_on s e h k q = subst (λ x. children_legal c u x (children c s) ≡ true) q (go (is_active u s) e h)
     where
@@ -83,7 +83,7 @@ module _ (c : Chart) (u : State) where
       go true p x = x
       go false p x = absurd (false≢true p)
 
-  at_off : (s : ℕ) → is_active u s ≡ false → Legal-at s → every (λ d. not (is_active u d)) (children c s) ≡ true
+  at_off : (s : ℕ) → is_active u s ≡ false → LegalAt s → every (λ d. not (is_active u d)) (children c s) ≡ true
   unfolding legal_at
   at_off s e h = go (is_active u s) e h
     where
@@ -95,10 +95,10 @@ module _ (c : Chart) (u : State) where
       go true p x = absurd (true≢false p)
       go false p x = x
 
-  on-at : (s : ℕ) → (is_active u s ≡ true → children_legal c u (kind_of c s) (children c s) ≡ true)
-      → (is_active u s ≡ false → every (λ d. not (is_active u d)) (children c s) ≡ true) → Legal-at s
+  on_at : (s : ℕ) → (is_active u s ≡ true → children_legal c u (kind_of c s) (children c s) ≡ true)
+      → (is_active u s ≡ false → every (λ d. not (is_active u d)) (children c s) ≡ true) → LegalAt s
   unfolding legal_at
-  on-at s h g = go (is_active u s) h g
+  on_at s h g = go (is_active u s) h g
     where
       go : (b : Bool) → (b ≡ true → children_legal c u (kind_of c s) (children c s) ≡ true)
           → (b ≡ false → every (λ d. not (is_active u d)) (children c s) ≡ true)
@@ -112,41 +112,41 @@ module _ (c : Chart) (u : State) where
 -- ---- from the test to the facts
 
 module _ (c : Chart) (h : SoundChart c) (u : State) (l : legal c u ≡ true) (m : marks_fit (length c.states) u ≡ true) where
-  each-legal : (s : ℕ) → s < length c.states → legal_at c u s ≡ true
+  each_legal : (s : ℕ) → s < length c.states → legal_at c u s ≡ true
   unfolding legal all_states
-  each-legal s q = every-range (legal_at c u) 0 (length c.states)
+  each_legal s q = every_range (legal_at c u) 0 (length c.states)
       (and_right (is_active u 0) (every (legal_at c u) (from 0 (length c.states))) l) s (omega arith) (omega arith)
 
-  root-on : is_active u 0 ≡ true
+  root_on : is_active u 0 ≡ true
   unfolding legal
-  root-on = and_left (is_active u 0) (every (legal_at c u) (all_states c)) l
+  root_on = and_left (is_active u 0) (every (legal_at c u) (all_states c)) l
 
-  one-child : (s : ℕ) → kind_of c s ≡ kind-o
+  one_child : (s : ℕ) → kind_of c s ≡ kind_o
       → is_active u s ≡ true → length (keep (λ x. is_child c s x && is_active u x) (from 0 (length c.states))) ≡ 1
   unfolding children_legal children all_states
-  one-child s k e = sym (ap length (keep_keep (is_active u) (is_child c s) (from 0 (length c.states))))
-      ∙ eqb-true _ _ (at_on c u s e (each-legal s (o_inside c s k)) kind-o k)
+  one_child s k e = sym (ap length (keep_keep (is_active u) (is_child c s) (from 0 (length c.states))))
+      ∙ eqb-true _ _ (at_on c u s e (each_legal s (o_inside c s k)) kind_o k)
 
-  pub config-of : Config c (is_active u) no_hole
+  pub config_of : Config c (is_active u) no_hole
   unfolding children_legal
-  config-of = record {
-    root = root-on;
+  config_of = record {
+    root = root_on;
     inside = inside_of (length c.states) u m;
-    up = λ n e. is-on n e (is_active u (parent_of c (suc n))) refl;
-    one = λ s k e q. some s (kept-exists (λ x. is_child c s x && is_active u x) 0 (length c.states) (omega (arith, one-child s k e)));
-    only = λ s y z k ty tz ey ez. kept-only (λ x. is_child c s x && is_active u x)
-        (length c.states) y z (one-child s k (parent-on s y ty ey))
+    up = λ n e. is_on n e (is_active u (parent_of c (suc n))) refl;
+    one = λ s k e q. some s (kept_exists (λ x. is_child c s x && is_active u x) 0 (length c.states) (omega (arith, one_child s k e)));
+    only = λ s y z k ty tz ey ez. kept_only (λ x. is_child c s x && is_active u x)
+        (length c.states) y z (one_child s k (parent_on s y ty ey))
         (inside_of (length c.states) u m y ey) (inside_of (length c.states) u m z ez)
         (and_both (is_child c s y) (is_active u y) ty ey) (and_both (is_child c s z) (is_active u z) tz ez);
-    all = λ s y k e t. every_child c (is_active u) s (all-on s k e) y (child_inside c s y (a_not_root c h s k) t) t;
+    all = λ s y k e t. every_child c (is_active u) s (all_on s k e) y (child_inside c s y (a_not_root c h s k) t) t;
   }
     where
-      is-on : (n : ℕ) → is_active u (suc n) ≡ true → (b : Bool) → is_active u (parent_of c (suc n)) ≡ b → b ≡ true
-      is-on n e true q = refl
-      is-on n e false q =
+      is_on : (n : ℕ) → is_active u (suc n) ≡ true → (b : Bool) → is_active u (parent_of c (suc n)) ≡ b → b ≡ true
+      is_on n e true q = refl
+      is_on n e false q =
           let i = inside_of (length c.states) u m (suc n) e in
           absurd (true≢false (sym e ∙ not-true _ (every_child c (λ d. not (is_active u d)) (parent_of c (suc n))
-          (at_off c u (parent_of c (suc n)) q (each-legal (parent_of c (suc n)) (omega (arith, h.ordered.falls n))))
+          (at_off c u (parent_of c (suc n)) q (each_legal (parent_of c (suc n)) (omega (arith, h.ordered.falls n))))
           (suc n) i (parent_child c (parent_of c (suc n)) n refl))))
 
       some : (s : ℕ) → Kept (λ x. is_child c s x && is_active u x) 0 (length c.states)
@@ -157,39 +157,39 @@ module _ (c : Chart) (h : SoundChart c) (u : State) (l : legal c u ≡ true) (m 
         and_right (is_child c s f.0) (is_active u f.0) f.3,
       )
 
-      parent-on : (s y : ℕ) → is_child c s y ≡ true → is_active u y ≡ true → is_active u s ≡ true
-      parent-on s zero t e = absurd (no_root_child c s t)
-      parent-on s (suc n) t e =
-          subst (λ p. is_active u p ≡ true) (child_parent c s n t) (is-on n e (is_active u (parent_of c (suc n))) refl)
+      parent_on : (s y : ℕ) → is_child c s y ≡ true → is_active u y ≡ true → is_active u s ≡ true
+      parent_on s zero t e = absurd (no_root_child c s t)
+      parent_on s (suc n) t e =
+          subst (λ p. is_active u p ≡ true) (child_parent c s n t) (is_on n e (is_active u (parent_of c (suc n))) refl)
 
-      all-on : (s : ℕ) → kind_of c s ≡ kind-a → is_active u s ≡ true → every (is_active u) (children c s) ≡ true
-      all-on s k e = at_on c u s e (each-legal s (a_inside c s k)) kind-a k
+      all_on : (s : ℕ) → kind_of c s ≡ kind_a → is_active u s ≡ true → every (is_active u) (children c s) ≡ true
+      all_on s k e = at_on c u s e (each_legal s (a_inside c s k)) kind_a k
 
 -- ---- and back
 
 module _ (c : Chart) (h : SoundChart c) (u : State) (g : Config c (is_active u) no_hole) where
-  child-on : (s y : ℕ) → is_child c s y ≡ true → is_active u y ≡ true → is_active u s ≡ true
-  child-on s zero t e = absurd (no_root_child c s t)
-  child-on s (suc n) t e = subst (λ p. is_active u p ≡ true) (child_parent c s n t) (g.up n e)
+  child_on : (s y : ℕ) → is_child c s y ≡ true → is_active u y ≡ true → is_active u s ≡ true
+  child_on s zero t e = absurd (no_root_child c s t)
+  child_on s (suc n) t e = subst (λ p. is_active u p ≡ true) (child_parent c s n t) (g.up n e)
 
-  legal-children : (s : ℕ) → is_active u s ≡ true → (k : Kind) → kind_of c s ≡ k → children_legal c u k (children c s) ≡ true
+  legal_children : (s : ℕ) → is_active u s ≡ true → (k : Kind) → kind_of c s ≡ k → children_legal c u k (children c s) ≡ true
   unfolding children_legal children all_states
-  legal-children s e kind-o k =
+  legal_children s e kind_o k =
       let y = g.one s k e (λ z. z) in
       eq-eqb _ _ (ap length (keep_keep (is_active u) (is_child c s) (from 0 (length c.states)))
-      ∙ kept-exactly (λ x. is_child c s x && is_active u x) 0 (length c.states) y.0
+      ∙ kept_exactly (λ x. is_child c s x && is_active u x) 0 (length c.states) y.0
       (omega arith) (omega (arith, g.inside y.0 y.2)) (and_both (is_child c s y.0) (is_active u y.0) y.1 y.2)
       (λ z a b t. g.only s z y.0 k (and_left (is_child c s z) (is_active u z) t)
       y.1 (and_right (is_child c s z) (is_active u z) t) y.2))
-  legal-children s e kind-a k = child_every c (is_active u) s (λ y l t. g.all s y k e t)
-  legal-children s e kind-b k = refl
+  legal_children s e kind_a k = child_every c (is_active u) s (λ y l t. g.all s y k e t)
+  legal_children s e kind_b k = refl
 
-  pub legal-of : legal c u ≡ true
+  pub legal_of : legal c u ≡ true
   unfolding legal all_states
-  legal-of = and_both (is_active u 0) (every (legal_at c u) (from 0 (length c.states))) g.root
-      (range-every (legal_at c u) 0 (length c.states) (λ s a b. on-at c u s (λ e. legal-children s e (kind_of c s) refl)
+  legal_of = and_both (is_active u 0) (every (legal_at c u) (from 0 (length c.states))) g.root
+      (range_every (legal_at c u) 0 (length c.states) (λ s a b. on_at c u s (λ e. legal_children s e (kind_of c s) refl)
       (λ e. child_every c (λ d. not (is_active u d)) s
-      (λ y l t. ap not (is_false (is_active u y) (λ q. true≢false (sym (child-on s y t q) ∙ e)))))))
+      (λ y l t. ap not (is_false (is_active u y) (λ q. true≢false (sym (child_on s y t q) ∙ e)))))))
 
-  pub marks-legal : marks_fit (length c.states) u ≡ true
-  marks-legal = marks_of (length c.states) u g.inside
+  pub marks_legal : marks_fit (length c.states) u ≡ true
+  marks_legal = marks_of (length c.states) u g.inside

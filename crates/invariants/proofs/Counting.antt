@@ -27,10 +27,10 @@ abbrev pub Kept : (ℕ → Bool) → ℕ → ℕ → Type 0
 Kept p a n = (x : ℕ) × (a ≤ x) × (x < a + n) × (p x ≡ true)
 
 module _ (p : ℕ → Bool) where
-  pub kept-exists : (a n : ℕ) → 1 ≤ length (keep p (from a n)) → Kept p a n
+  pub kept_exists : (a n : ℕ) → 1 ≤ length (keep p (from a n)) → Kept p a n
   unfolding keep from
-  kept-exists a zero l = absurd (omega arith)
-  kept-exists a (suc n) l = go (p a) refl l (kept-exists (suc a) n)
+  kept_exists a zero l = absurd (omega arith)
+  kept_exists a (suc n) l = go (p a) refl l (kept_exists (suc a) n)
     where
       go : (b : Bool) → p a ≡ b → 1 ≤ length (cond b (a ∷ keep p (from (suc a) n)) (keep p (from (suc a) n)))
           → (1 ≤ length (keep p (from (suc a) n)) → Kept p (suc a) n) → Kept p a (suc n)
@@ -45,34 +45,34 @@ module _ (p : ℕ → Bool) where
       → m ≤ length (cond (p a) (a ∷ keep p (from (suc a) n)) (keep p (from (suc a) n)))
   first_kept m a n e h = subst (λ b. m ≤ length (cond b (a ∷ keep p (from (suc a) n)) (keep p (from (suc a) n)))) (sym e) h
 
-  pub kept-one : (a n x : ℕ) → a ≤ x → x < a + n → p x ≡ true → 1 ≤ length (keep p (from a n))
+  pub kept_one : (a n x : ℕ) → a ≤ x → x < a + n → p x ≡ true → 1 ≤ length (keep p (from a n))
   unfolding keep from
-  kept-one a zero x l u e = absurd (omega arith)
-  kept-one a (suc n) x l u e = ⊎_elim
+  kept_one a zero x l u e = absurd (omega arith)
+  kept_one a (suc n) x l u e = ⊎_elim
       (λ q. first_kept 1 a n (subst (λ y. p y ≡ true) (sym q) e) (omega arith))
-      (λ q. omega (arith, kept-one (suc a) n x q (omega arith) e, longer (p a) a (keep p (from (suc a) n))))
+      (λ q. omega (arith, kept_one (suc a) n x q (omega arith) e, longer (p a) a (keep p (from (suc a) n))))
       (eq-or-lt_of_le l)
 
-  kept-two : (a n x y : ℕ) → a ≤ x → x < y → y < a + n → p x ≡ true → p y ≡ true → 2 ≤ length (keep p (from a n))
+  kept_two : (a n x y : ℕ) → a ≤ x → x < y → y < a + n → p x ≡ true → p y ≡ true → 2 ≤ length (keep p (from a n))
   unfolding keep from
-  kept-two a zero x y l m u e f = absurd (omega arith)
-  kept-two a (suc n) x y l m u e f = ⊎_elim
-      (λ q. first_kept 2 a n (subst (λ z. p z ≡ true) (sym q) e) (omega (arith, kept-one (suc a) n y (omega arith) (omega arith) f)))
-      (λ q. omega (arith, kept-two (suc a) n x y q m (omega arith) e f, longer (p a) a (keep p (from (suc a) n))))
+  kept_two a zero x y l m u e f = absurd (omega arith)
+  kept_two a (suc n) x y l m u e f = ⊎_elim
+      (λ q. first_kept 2 a n (subst (λ z. p z ≡ true) (sym q) e) (omega (arith, kept_one (suc a) n y (omega arith) (omega arith) f)))
+      (λ q. omega (arith, kept_two (suc a) n x y q m (omega arith) e f, longer (p a) a (keep p (from (suc a) n))))
       (eq-or-lt_of_le l)
 
-  pub kept-only : (n x y : ℕ) → length (keep p (from 0 n)) ≡ 1 → x < n → y < n → p x ≡ true → p y ≡ true → x ≡ y
-  kept-only n x y h l m e f = ⊎_elim
-      (λ q. ⊎_elim (λ r. r) (λ r. absurd (omega (arith, kept-two 0 n x y (omega arith) r (omega arith) e f))) (eq-or-lt_of_le q))
-      (λ q. absurd (omega (arith, kept-two 0 n y x (omega arith) q (omega arith) f e)))
+  pub kept_only : (n x y : ℕ) → length (keep p (from 0 n)) ≡ 1 → x < n → y < n → p x ≡ true → p y ≡ true → x ≡ y
+  kept_only n x y h l m e f = ⊎_elim
+      (λ q. ⊎_elim (λ r. r) (λ r. absurd (omega (arith, kept_two 0 n x y (omega arith) r (omega arith) e f))) (eq-or-lt_of_le q))
+      (λ q. absurd (omega (arith, kept_two 0 n y x (omega arith) q (omega arith) f e)))
       (le_or_lt x y)
 
-  pub kept-exactly : (a n x : ℕ) → a ≤ x → x < a + n
+  pub kept_exactly : (a n x : ℕ) → a ≤ x → x < a + n
       → p x ≡ true → ((y : ℕ) → a ≤ y → y < a + n → p y ≡ true → y ≡ x) → length (keep p (from a n)) ≡ 1
   unfolding keep from
-  kept-exactly a zero x l u e h = absurd (omega arith)
-  kept-exactly a (suc n) x l u e h = ⊎_elim
+  kept_exactly a zero x l u e h = absurd (omega arith)
+  kept_exactly a (suc n) x l u e h = ⊎_elim
       (λ q. rw (q, e, keep_none p (suc x) n (λ y m v. is_false (p y) (λ t. omega (arith, h y (omega arith) (omega arith) t)))))
       (λ q. rw (is_false (p a) (λ t. omega (arith, h a (omega arith) (omega arith) t)))
-      (kept-exactly (suc a) n x q (omega arith) e (λ y m v t. h y (omega arith) (omega arith) t)))
+      (kept_exactly (suc a) n x q (omega arith) e (λ y m v t. h y (omega arith) (omega arith) t)))
       (eq-or-lt_of_le l)

@@ -12,14 +12,14 @@ use Rattle.invariants.proofs.Config.{Config}
 use Rattle.laws.proofs.Descent.{Reached, picks}
 use Rattle.laws.specs.Facts.{Sound, Under, child, deeper}
 use Rattle.laws.proofs.Lists.{and_both, and_left, and_right, is_false, le_or_lt}
-use Rattle.laws.proofs.Rules.{outside-parent}
+use Rattle.laws.proofs.Rules.{outside_parent}
 use Rattle.laws.proofs.Sound.{SoundChart, child_parent, no_root_child}
-use Rattle.laws.proofs.Tree.{has_under, under_has, under-lt}
+use Rattle.laws.proofs.Tree.{has_under, under_has, under_lt}
 use Rattle.meaning.specs.Chart.{Chart}
 use Rattle.meaning.specs.Entry.{Way, defaults, on_to, stops}
 use Rattle.meaning.specs.Lists.{has}
 use Rattle.meaning.specs.Tree.{ancestors, default_child, is_child, kind_of, parent_of}
-use Rattle.meaning.specs.declared.chart.Kind.TheVariants.{A as kind-a, O as kind-o}
+use Rattle.meaning.specs.declared.chart.Kind.TheVariants.{A as kind_a, O as kind_o}
 
 -- what a firing makes of it: under the scope s what r names, elsewhere what was
 unfoldable pub fired : Chart → (ℕ → Bool) → (ℕ → Bool) → ℕ → ℕ → Bool
@@ -37,12 +37,12 @@ pick_outside c r way g n q stops f t = false≢true (rw (r.root_o, f) at t)
 -- what is reached is one of the chart's states
 pub reached_inside : (c : Chart) → SoundChart c → (way : ℕ → Way) (r : ℕ → Bool) (s : ℕ)
     → Sound c way → Reached c way s r → (x : ℕ) → Under c s x → r x ≡ true → x < length c.states
-reached_inside c sound way r s g h zero u e = absurd (omega (arith, under-lt c g.ordered u))
-reached_inside c sound way r s g h (suc n) u e = ⊎_elim (λ q. absurd (outside-picks q)) (λ q. q) (le_or_lt (length c.states) (suc n))
+reached_inside c sound way r s g h zero u e = absurd (omega (arith, under_lt c g.ordered u))
+reached_inside c sound way r s g h (suc n) u e = ⊎_elim (λ q. absurd (outside_picks q)) (λ q. q) (le_or_lt (length c.states) (suc n))
   where
-    outside-picks : length c.states ≤ suc n → ⊥
-    outside-picks q =
-        let p = outside-parent c (suc n) q in
+    outside_picks : length c.states ≤ suc n → ⊥
+    outside_picks q =
+        let p = outside_parent c (suc n) q in
         pick_outside c sound way g n q (way 0) refl
         (subst (λ i. picks c (kind_of c i) (way i) i (suc n) ≡ true) p (and_left (picks c (kind_of c (parent_of c (suc n)))
         (way (parent_of c (suc n))) (parent_of c (suc n)) (suc n)) (r (parent_of c (suc n))) (sym (h.step n u) ∙ e)))
@@ -60,8 +60,8 @@ module _ (c : Chart) (sound : SoundChart c) (way : ℕ → Way) (r on : ℕ → 
   unfolding fired
   outside x n = rw (is_false (has s (ancestors c x)) (λ e. n (has_under c s x e)))
 
-  not-self : Under c s s → ⊥
-  not-self u = omega (arith, under-lt c g.ordered u)
+  not_self : Under c s s → ⊥
+  not_self u = omega (arith, under_lt c g.ordered u)
 
   -- of a state at or under the scope that is in, the children that are in are those that are picked
   picked : (x n : ℕ) → (x ≡ s) ⊎ Under c s x → parent_of c (suc n) ≡ x → now (suc n) ≡ (picks c (kind_of c x) (way x) x (suc n) && now x)
@@ -73,14 +73,14 @@ module _ (c : Chart) (sound : SoundChart c) (way : ℕ → Way) (r on : ℕ → 
       u = ⊎_elim (λ q. child (e ∙ q)) (λ v. deeper (subst (Under c s) (sym e) v)) i
 
       same : r x ≡ now x
-      same = ⊎_elim (λ q. ap r q ∙ h.top ∙ sym (outside s not-self ∙ top) ∙ ap now (sym q)) (λ v. sym (inside x v)) i
+      same = ⊎_elim (λ q. ap r q ∙ h.top ∙ sym (outside s not_self ∙ top) ∙ ap now (sym q)) (λ v. sym (inside x v)) i
 
   elsewhere : (x n : ℕ) → (Under c s x → ⊥) → (x ≡ s → ⊥) → parent_of c (suc n) ≡ x → now (suc n) ≡ on (suc n)
-  elsewhere x n u v e = outside (suc n) no-under
+  elsewhere x n u v e = outside (suc n) no_under
     where
-      no-under : Under c s (suc n) → ⊥
-      no-under (child q) = v (sym e ∙ q)
-      no-under (deeper w) = u (subst (Under c s) e w)
+      no_under : Under c s (suc n) → ⊥
+      no_under (child q) = v (sym e ∙ q)
+      no_under (deeper w) = u (subst (Under c s) e w)
 
   place : (x : ℕ) → ((x ≡ s) ⊎ Under c s x) ⊎ ((Under c s x → ⊥) × (x ≡ s → ⊥))
   place x = go (has s (ancestors c x)) refl (eqb x s) refl
@@ -91,39 +91,39 @@ module _ (c : Chart) (sound : SoundChart c) (way : ℕ → Way) (r on : ℕ → 
       go false p false q = inr ((λ u. true≢false (sym (under_has c g.ordered s x u) ∙ p)), (λ e. true≢false (sym (eq-eqb _ _ e) ∙ q)))
 
   -- the child that an o state at or under the scope goes on with, unless the way stops there
-  way-child : (x : ℕ) → kind_of c x ≡ kind-o → (w : Way)
+  way_child : (x : ℕ) → kind_of c x ≡ kind_o → (w : Way)
       → way x ≡ w → (w ≡ stops → ⊥) → (d : ℕ) × (is_child c x d ≡ true) × ((y : ℕ) → picks c (kind_of c x) (way x) x y ≡ eqb y d)
   unfolding picks
-  way-child x k (on_to d) e n = (d, (g.on x d k e).0, λ y. rw (k, e))
-  way-child x k defaults e n = (default_child c x, (g.by x k e).0, λ y. rw (k, e))
-  way-child x k stops e n = absurd (n refl)
+  way_child x k (on_to d) e n = (d, (g.on x d k e).0, λ y. rw (k, e))
+  way_child x k defaults e n = (default_child c x, (g.by x k e).0, λ y. rw (k, e))
+  way_child x k stops e n = absurd (n refl)
 
-  picks-two : (x y z : ℕ) → kind_of c x ≡ kind-o
+  picks_two : (x y z : ℕ) → kind_of c x ≡ kind_o
       → (w : Way) → way x ≡ w → picks c (kind_of c x) (way x) x y ≡ true → picks c (kind_of c x) (way x) x z ≡ true → y ≡ z
   unfolding picks
-  picks-two x y z k (on_to d) e p q = eqb-true y d (rw (k, e) at p) ∙ sym (eqb-true z d (rw (k, e) at q))
-  picks-two x y z k defaults e p q = eqb-true y (default_child c x) (rw (k, e) at p) ∙ sym (eqb-true z (default_child c x) (rw (k, e) at q))
-  picks-two x y z k stops e p q = absurd (false≢true (rw (k, e) at p))
+  picks_two x y z k (on_to d) e p q = eqb-true y d (rw (k, e) at p) ∙ sym (eqb-true z d (rw (k, e) at q))
+  picks_two x y z k defaults e p q = eqb-true y (default_child c x) (rw (k, e) at p) ∙ sym (eqb-true z (default_child c x) (rw (k, e) at q))
+  picks_two x y z k stops e p q = absurd (false≢true (rw (k, e) at p))
 
-  in-child : (x y : ℕ) → (x ≡ s) ⊎ Under c s x → is_child c x y ≡ true → now y ≡ (picks c (kind_of c x) (way x) x y && now x)
-  in-child x zero i t = absurd (no_root_child c x t)
-  in-child x (suc n) i t = picked x n i (child_parent c x n t)
+  in_child : (x y : ℕ) → (x ≡ s) ⊎ Under c s x → is_child c x y ≡ true → now y ≡ (picks c (kind_of c x) (way x) x y && now x)
+  in_child x zero i t = absurd (no_root_child c x t)
+  in_child x (suc n) i t = picked x n i (child_parent c x n t)
 
-  out-child : (x y : ℕ) → (Under c s x → ⊥) × (x ≡ s → ⊥) → is_child c x y ≡ true → now y ≡ on y
-  out-child x zero i t = absurd (no_root_child c x t)
-  out-child x (suc n) i t = elsewhere x n i.0 i.1 (child_parent c x n t)
+  out_child : (x y : ℕ) → (Under c s x → ⊥) × (x ≡ s → ⊥) → is_child c x y ≡ true → now y ≡ on y
+  out_child x zero i t = absurd (no_root_child c x t)
+  out_child x (suc n) i t = elsewhere x n i.0 i.1 (child_parent c x n t)
 
-  pub legal-stays : (newhole : ℕ → Type 0)
-      → ((x : ℕ) → (x ≡ s) ⊎ Under c s x → fired c on r s x ≡ true → kind_of c x ≡ kind-o → way x ≡ stops → newhole x)
+  pub legal_stays : (newhole : ℕ → Type 0)
+      → ((x : ℕ) → (x ≡ s) ⊎ Under c s x → fired c on r s x ≡ true → kind_of c x ≡ kind_o → way x ≡ stops → newhole x)
       → ((x : ℕ) → (Under c s x → ⊥) × (x ≡ s → ⊥) → hole x → newhole x) → Config c (fired c on r s) newhole
   unfolding picks
-  legal-stays newhole goes holes = record { root = root; inside = in-chart; up = up; one = one; only = only; all = all }
+  legal_stays newhole goes holes = record { root = root; inside = in_chart; up = up; one = one; only = only; all = all }
     where
       root : now 0 ≡ true
-      root = outside 0 (λ u. omega (arith, under-lt c g.ordered u)) ∙ l.root
+      root = outside 0 (λ u. omega (arith, under_lt c g.ordered u)) ∙ l.root
 
-      in-chart : (x : ℕ) → now x ≡ true → x < length c.states
-      in-chart x e = go (has s (ancestors c x)) refl
+      in_chart : (x : ℕ) → now x ≡ true → x < length c.states
+      in_chart x e = go (has s (ancestors c x)) refl
         where
           go : (b : Bool) → has s (ancestors c x) ≡ b → x < length c.states
           go true q = let u = has_under c s x q in reached_inside c sound way r s g h x u (sym (inside x u) ∙ e)
@@ -135,26 +135,26 @@ module _ (c : Chart) (sound : SoundChart c) (way : ℕ → Way) (r on : ℕ → 
           (λ i. outside (parent_of c (suc n)) i.0
           ∙ l.up n (sym (elsewhere (parent_of c (suc n)) n i.0 i.1 refl) ∙ e)) (place (parent_of c (suc n)))
 
-      one : (x : ℕ) → kind_of c x ≡ kind-o → now x ≡ true → (newhole x → ⊥) → (y : ℕ) × (is_child c x y ≡ true) × (now y ≡ true)
+      one : (x : ℕ) → kind_of c x ≡ kind_o → now x ≡ true → (newhole x → ⊥) → (y : ℕ) × (is_child c x y ≡ true) × (now y ≡ true)
       one x k e q = ⊎_elim
           (λ i. let d : (d : ℕ) × (is_child c x d ≡ true)
-          × ((y : ℕ) → picks c (kind_of c x) (way x) x y ≡ eqb y d) = way-child x k (way x) refl (λ w. q (goes x i e k w)) in (
+          × ((y : ℕ) → picks c (kind_of c x) (way x) x y ≡ eqb y d) = way_child x k (way x) refl (λ w. q (goes x i e k w)) in (
             d.0,
             d.1,
-            in-child x d.0 i d.1
+            in_child x d.0 i d.1
                 ∙ and_both (picks c (kind_of c x) (way x) x d.0) (now x) (d.2 d.0 ∙ eq-eqb d.0 d.0 refl) e,
           ))
           (λ i. let y : (y : ℕ) × (is_child c x y ≡ true) × (on y ≡ true) =
-          l.one x k (sym (outside x i.0) ∙ e) (λ w. q (holes x i w)) in (y.0, y.1, out-child x y.0 i y.1 ∙ y.2))
+          l.one x k (sym (outside x i.0) ∙ e) (λ w. q (holes x i w)) in (y.0, y.1, out_child x y.0 i y.1 ∙ y.2))
           (place x)
 
-      only : (x y z : ℕ) → kind_of c x ≡ kind-o → is_child c x y ≡ true → is_child c x z ≡ true → now y ≡ true → now z ≡ true → y ≡ z
+      only : (x y z : ℕ) → kind_of c x ≡ kind_o → is_child c x y ≡ true → is_child c x z ≡ true → now y ≡ true → now z ≡ true → y ≡ z
       only x y z k ty tz ey ez = ⊎_elim
-          (λ i. picks-two x y z k (way x) refl (and_left (picks c (kind_of c x) (way x) x y) (now x)
-          (sym (in-child x y i ty) ∙ ey)) (and_left (picks c (kind_of c x) (way x) x z) (now x) (sym (in-child x z i tz) ∙ ez)))
-          (λ i. l.only x y z k ty tz (sym (out-child x y i ty) ∙ ey) (sym (out-child x z i tz) ∙ ez))
+          (λ i. picks_two x y z k (way x) refl (and_left (picks c (kind_of c x) (way x) x y) (now x)
+          (sym (in_child x y i ty) ∙ ey)) (and_left (picks c (kind_of c x) (way x) x z) (now x) (sym (in_child x z i tz) ∙ ez)))
+          (λ i. l.only x y z k ty tz (sym (out_child x y i ty) ∙ ey) (sym (out_child x z i tz) ∙ ez))
           (place x)
 
-      all : (x y : ℕ) → kind_of c x ≡ kind-a → now x ≡ true → is_child c x y ≡ true → now y ≡ true
-      all x y k e t = ⊎_elim (λ i. in-child x y i t ∙ and_both (picks c (kind_of c x) (way x) x y) (now x) (rw k) e)
-          (λ i. out-child x y i t ∙ l.all x y k (sym (outside x i.0) ∙ e) t) (place x)
+      all : (x y : ℕ) → kind_of c x ≡ kind_a → now x ≡ true → is_child c x y ≡ true → now y ≡ true
+      all x y k e t = ⊎_elim (λ i. in_child x y i t ∙ and_both (picks c (kind_of c x) (way x) x y) (now x) (rw k) e)
+          (λ i. out_child x y i t ∙ l.all x y k (sym (outside x i.0) ∙ e) t) (place x)

@@ -14,12 +14,12 @@ use lib.IntN.{◌+ℤ◌, negsuc, pos, ℤ}
 use lib.Signed.{le_z}
 use borrow.Author.Tests.{le-leb}
 use Rattle.invariants.specs.Good.{EntryOk, Good, SlotOk, SlotsOk, Traced}
-use Rattle.invariants.proofs.Values.{appended-fits, held_in_row, values_set}
-use Rattle.laws.proofs.Lists.{and_both, each_both, each-joined, le_or_lt, same_or}
+use Rattle.invariants.proofs.Values.{appended_fits, held_in_row, values_set}
+use Rattle.laws.proofs.Lists.{and_both, each_both, each_joined, le_or_lt, same_or}
 use Rattle.laws.specs.Facts.{none_left, one_more}
 use Rattle.laws.proofs.Rules.{ActFacts, o_of}
 use Rattle.laws.proofs.Sound.{SoundChart, acts_each, acts_sound, parent_child}
-use Rattle.laws.proofs.Stays.{Stays, each-stays, look-stays, then-stays}
+use Rattle.laws.proofs.Stays.{Stays, each_stays, look_stays, then_stays}
 use Rattle.laws.proofs.Steps.{Holds}
 use Rattle.laws.proofs.Trace.{numbers_more}
 use Rattle.laws.proofs.Value.{ActInRange, SizedChart}
@@ -36,13 +36,13 @@ use Rattle.meaning.specs.Widget.{Ctx, ENTRY, Entry, change, changed, emit, enter
 use Rattle.meaning.specs.Widget.{set_slot, set_value}
 use Rattle.meaning.specs.Widget.{told, value_at, add_numbers}
 use Rattle.meaning.specs.declared.chart.Act.{Act}
-use Rattle.meaning.specs.declared.chart.Act.TheVariants.{AddTo as add_to, Send as send, SetTo as set_to, TakeTo as take-to, Tell as tell}
+use Rattle.meaning.specs.declared.chart.Act.TheVariants.{AddTo as add_to, Send as send, SetTo as set_to, TakeTo as take_to, Tell as tell}
 use Rattle.meaning.specs.declared.chart.Owner.{Owner}
-use Rattle.meaning.specs.declared.chart.Owner.TheVariants.{DefaultOf as default-of, EntryOf as entry_of, ExitOf as exit-of}
+use Rattle.meaning.specs.declared.chart.Owner.TheVariants.{DefaultOf as default_of, EntryOf as entry_of, ExitOf as exit_of}
 use Rattle.numbers.specs.Range.{in_range}
 use Rattle.numbers.specs.declared.Place.TheVariants.{At as holds, Empty as empty}
-use Rattle.queue.proofs.Tidy.{appended-long}
-use Rattle.queue.proofs.Waiting.{appended-full}
+use Rattle.queue.proofs.Tidy.{appended_long}
+use Rattle.queue.proofs.Waiting.{appended_full}
 use Rattle.queue.specs.Queue.{appended}
 use Rattle.queue.specs.declared.Queue.{Queue}
 use Rattle.queue.specs.declared.Queued.{Queued}
@@ -50,14 +50,14 @@ use Rattle.sizes.specs.Sizes.{QUEUE}
 
 traced_more : (c : Chart) (out : List ℤ) (e : Entry) → EntryOk c e → Traced c out → Traced c (out ++ numbers e)
 traced_more c out e h t =
-    (t.0 ++ (e ∷ []), numbers_more t.0 out e t.1, each-joined (EntryOk c) t.0 (e ∷ []) t.2 (one_more h none_left))
+    (t.0 ++ (e ∷ []), numbers_more t.0 out e t.1, each_joined (EntryOk c) t.0 (e ∷ []) t.2 (one_more h none_left))
 
 -- ---- the few changes
 
 module _ (c : Chart) where
-  pub emit-good : (e : Entry) → EntryOk c e → Stays (Good c) (emit e)
+  pub emit_good : (e : Entry) → EntryOk c e → Stays (Good c) (emit e)
   unfolding emit add_numbers ◌then◌ require bind
-  emit-good e h k g = go (leb ENTRY k.room)
+  emit_good e h k g = go (leb ENTRY k.room)
     where
       go : (b : Bool) → Holds (bind (require 11 b k) (add_numbers (numbers e))) (Good c)
       go true = record {
@@ -70,9 +70,9 @@ module _ (c : Chart) where
       }
       go false = tt
 
-  pub set-active-good : (s : ℕ) (b : Bool) → Stays (Good c) (change (set_active s b))
+  pub set_active_good : (s : ℕ) (b : Bool) → Stays (Good c) (change (set_active s b))
   unfolding change set_active
-  set-active-good s b k g = record {
+  set_active_good s b k g = record {
     started = g.started;
     sized = record {
       active = length-set k.state.active s b ∙ g.sized.active;
@@ -97,9 +97,9 @@ module _ (c : Chart) where
       (λ q. subst (SlotOk c s) (sym (get_or-set_other sl p s (pos d) (negsuc 0) q)) (g s))
       (same_or s p)
 
-  pub set-slot-good : (p d : ℕ) → SlotOk c p (pos d) → Stays (Good c) (change (set_slot p d))
+  pub set_slot_good : (p d : ℕ) → SlotOk c p (pos d) → Stays (Good c) (change (set_slot p d))
   unfolding change set_slot
-  set-slot-good p d h k g = record {
+  set_slot_good p d h k g = record {
     started = g.started;
     sized = record {
       active = g.sized.active;
@@ -113,9 +113,9 @@ module _ (c : Chart) where
     trace = g.trace;
   }
 
-  pub set-queue-good : (q : Queue) → queue_fits c.events q ≡ true → length q.items ≡ QUEUE → Stays (Good c) (change (set_queue q))
+  pub set_queue_good : (q : Queue) → queue_fits c.events q ≡ true → length q.items ≡ QUEUE → Stays (Good c) (change (set_queue q))
   unfolding change set_queue
-  set-queue-good q h l k g = record {
+  set_queue_good q h l k g = record {
     started = g.started;
     sized = record { active = g.sized.active; slots = g.sized.slots; vars = g.sized.vars; items = l };
     values = g.values;
@@ -127,10 +127,10 @@ module _ (c : Chart) where
 -- ---- the acts
 
 module _ (c : Chart) (h : SoundChart c) (z : SizedChart c) where
-  set-value-good : (v : ℕ) (x : ℤ) → v < length c.vars
+  set_value_good : (v : ℕ) (x : ℤ) → v < length c.vars
       → within_row (var_row c.vars v) x ≡ true → Stays (Good c) (change (set_value v x))
   unfolding change set_value
-  set-value-good v x l e k g = record {
+  set_value_good v x l e k g = record {
     started = g.started;
     sized = record {
       active = g.sized.active;
@@ -144,67 +144,67 @@ module _ (c : Chart) (h : SoundChart c) (z : SizedChart c) where
     trace = g.trace;
   }
 
-  pub assign-good : (v : ℕ) (x : ℤ) → v < length c.vars → Stays (Good c) (assign (var_row c.vars v) v x)
+  pub assign_good : (v : ℕ) (x : ℤ) → v < length c.vars → Stays (Good c) (assign (var_row c.vars v) v x)
   unfolding assign
-  assign-good v x l =
+  assign_good v x l =
       let e = held_in_row (var_row c.vars v) x (h.rows v l).0 (h.rows v l).1 in
-      then-stays (Good c) _ _ (emit-good c (changed v (held (var_row c.vars v) x)) (l, e))
-      (set-value-good v (held (var_row c.vars v) x) l e)
+      then_stays (Good c) _ _ (emit_good c (changed v (held (var_row c.vars v) x)) (l, e))
+      (set_value_good v (held (var_row c.vars v) x) l e)
 
-  pub enqueue-good : (e x : ℤ) → event_fits c.events e x ≡ true → Stays (Good c) (enqueue e x)
+  pub enqueue_good : (e x : ℤ) → event_fits c.events e x ≡ true → Stays (Good c) (enqueue e x)
   unfolding enqueue look take_queue ◌then◌ require bind
-  enqueue-good e x f k g = ⊎_elim full room (le_or_lt QUEUE k.state.queue.len)
+  enqueue_good e x f k g = ⊎_elim full room (le_or_lt QUEUE k.state.queue.len)
     where
       Done : Queued → Type 0
       Done q = Holds (bind (require 9 q.done k) (change (set_queue q.queue))) (Good c)
 
       full : QUEUE ≤ k.state.queue.len → Done (appended k.state.queue e x)
-      full l = subst Done (sym (appended-full k.state.queue e x l)) tt
+      full l = subst Done (sym (appended_full k.state.queue e x l)) tt
 
       room : k.state.queue.len < QUEUE → Done (appended k.state.queue e x)
       room l = on (appended k.state.queue e x).done
         where
           on : (b : Bool) → Holds (bind (require 9 b k) (change (set_queue (appended k.state.queue e x).queue))) (Good c)
-          on true = set-queue-good c (appended k.state.queue e x).queue
-              (appended-fits c.events k.state.queue g.queue g.sized.items e x f l)
-              (appended-long k.state.queue e x ∙ g.sized.items) k g
+          on true = set_queue_good c (appended k.state.queue e x).queue
+              (appended_fits c.events k.state.queue g.queue g.sized.items e x f l)
+              (appended_long k.state.queue e x ∙ g.sized.items) k g
           on false = tt
 
-  sent-fits : (e : ℕ) (x : ℤ) → 1 ≤ e → e ≤ c.events → in_range x ≡ true → event_fits c.events (pos e) x ≡ true
+  sent_fits : (e : ℕ) (x : ℤ) → 1 ≤ e → e ≤ c.events → in_range x ≡ true → event_fits c.events (pos e) x ≡ true
   unfolding event_fits
-  sent-fits e x l m r =
+  sent_fits e x l m r =
       and_both (le_z (pos 1) (pos e)) _ (le-leb 1 e l) (and_both (le_z (pos e) (pos c.events)) _ (le-leb e c.events m) r)
 
-  pub act-good : (a : ℤ) (x : Act) → ActFacts c x × ActInRange x → Stays (Good c) (perform c.vars a x)
+  pub act_good : (a : ℤ) (x : Act) → ActFacts c x × ActInRange x → Stays (Good c) (perform c.vars a x)
   unfolding perform act_on act_var
-  act-good a (set_to v x) f = assign-good v x f.0.0
-  act-good a (add_to v x) f = look-stays (Good c) _ (λ k g. assign-good v (value_at k.state v +ℤ x) f.0)
-  act-good a (take-to v) f = assign-good v a f.0
-  act-good a (send e x) f = then-stays (Good c) _ _ (emit-good c (sent e x) (f.0.0, f.0.1, f.1))
-      (enqueue-good (pos e) x (sent-fits e x f.0.0 f.0.1 f.1))
-  act-good a (tell x) f = emit-good c (told x) f.1
+  act_good a (set_to v x) f = assign_good v x f.0.0
+  act_good a (add_to v x) f = look_stays (Good c) _ (λ k g. assign_good v (value_at k.state v +ℤ x) f.0)
+  act_good a (take_to v) f = assign_good v a f.0
+  act_good a (send e x) f = then_stays (Good c) _ _ (emit_good c (sent e x) (f.0.0, f.0.1, f.1))
+      (enqueue_good (pos e) x (sent_fits e x f.0.0 f.0.1 f.1))
+  act_good a (tell x) f = emit_good c (told x) f.1
 
-  pub acts-good : (a : ℤ) (o : Owner) → Stays (Good c) (perform_all c a o)
+  pub acts_good : (a : ℤ) (o : Owner) → Stays (Good c) (perform_all c a o)
   unfolding perform_all
-  acts-good a o = each-stays (Good c) (perform c.vars a) (λ x. ActFacts c x × ActInRange x) (act-good a) (acts_of c o)
+  acts_good a o = each_stays (Good c) (perform c.vars a) (λ x. ActFacts c x × ActInRange x) (act_good a) (acts_of c o)
       (each_both (ActFacts c) ActInRange (acts_of c o) (acts_sound c h o) (acts_each ActInRange c z.acts_range o))
 
   -- ---- leaving and entering one state
 
-  pub enter-good : (a : ℤ) (s : ℕ) → s < length c.states → Stays (Good c) (enter c a s)
+  pub enter_good : (a : ℤ) (s : ℕ) → s < length c.states → Stays (Good c) (enter c a s)
   unfolding enter mark_entered
-  enter-good a s l = then-stays (Good c) _ _ (then-stays (Good c) _ _ (emit-good c (entered s) l) (set-active-good c s true))
-      (acts-good a (entry_of s))
+  enter_good a s l = then_stays (Good c) _ _ (then_stays (Good c) _ _ (emit_good c (entered s) l) (set_active_good c s true))
+      (acts_good a (entry_of s))
 
-  pub visit-good : (a : ℤ) (v : Visit) → state_of v < length c.states → Stays (Good c) (visit c a v)
+  pub visit_good : (a : ℤ) (v : Visit) → state_of v < length c.states → Stays (Good c) (visit c a v)
   unfolding visit state_of
-  visit-good a (plain s) l = enter-good a s l
-  visit-good a (by_default p s) l = then-stays (Good c) _ _ (acts-good a (default-of p)) (enter-good a s l)
+  visit_good a (plain s) l = enter_good a s l
+  visit_good a (by_default p s) l = then_stays (Good c) _ _ (acts_good a (default_of p)) (enter_good a s l)
 
-  stored-good : (s : ℕ) → s < length c.states → Stays (Good c) (change (λ u. store_in (o_parent c s) s (set_active s false u)))
+  stored_good : (s : ℕ) → s < length c.states → Stays (Good c) (change (λ u. store_in (o_parent c s) s (set_active s false u)))
   unfolding o_parent store_in change
-  stored-good zero l k g = set-active-good c zero false k g
-  stored-good (suc n) l k g = go (is_o (kind_of c (parent_of c (suc n)))) refl
+  stored_good zero l k g = set_active_good c zero false k g
+  stored_good (suc n) l k g = go (is_o (kind_of c (parent_of c (suc n)))) refl
     where
       next : Ctx
       next = record { state = set_active (suc n) false k.state; out = k.out; room = k.room }
@@ -216,10 +216,10 @@ module _ (c : Chart) (h : SoundChart c) (z : SizedChart c) where
             out = k.out;
             room = k.room;
           })
-      go true e = set-slot-good c (parent_of c (suc n))
-          (suc n) (o_of _ e, parent_child c (parent_of c (suc n)) n refl, l) next (set-active-good c (suc n) false k g)
-      go false e = set-active-good c (suc n) false k g
+      go true e = set_slot_good c (parent_of c (suc n))
+          (suc n) (o_of _ e, parent_child c (parent_of c (suc n)) n refl, l) next (set_active_good c (suc n) false k g)
+      go false e = set_active_good c (suc n) false k g
 
-  pub leave-good : (a : ℤ) (s : ℕ) → s < length c.states → Stays (Good c) (leave c a s)
+  pub leave_good : (a : ℤ) (s : ℕ) → s < length c.states → Stays (Good c) (leave c a s)
   unfolding leave mark_left
-  leave-good a s l = then-stays (Good c) _ _ (then-stays (Good c) _ _ (emit-good c (left s) l) (stored-good s l)) (acts-good a (exit-of s))
+  leave_good a s l = then_stays (Good c) _ _ (then_stays (Good c) _ _ (emit_good c (left s) l) (stored_good s l)) (acts_good a (exit_of s))

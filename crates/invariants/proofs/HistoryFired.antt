@@ -10,11 +10,11 @@ use lib.ListN.{length}
 use lib.IntN.{ℤ}
 use borrow.Author.Tests.{eq-eqb, eqb-true, ne_eqb}
 use Rattle.invariants.proofs.Config.{Config, no_hole}
-use Rattle.invariants.proofs.Entering.{filled-not-empty, goes-component}
-use Rattle.invariants.proofs.Enters.{entered-fired, entered-not-under, entered-under, owner-reached}
-use Rattle.invariants.proofs.Fired.{fired, legal-stays}
+use Rattle.invariants.proofs.Entering.{filled_not_empty, goes_component}
+use Rattle.invariants.proofs.Enters.{entered_fired, entered_not_under, entered_under, owner_reached}
+use Rattle.invariants.proofs.Fired.{fired, legal_stays}
 use Rattle.invariants.proofs.Left.{left_on}
-use Rattle.invariants.proofs.Restoring.{no_child_of_b, owner-goes, restore-sound, restore_way}
+use Rattle.invariants.proofs.Restoring.{no_child_of_b, owner_goes, restore_sound, restore_way}
 use Rattle.invariants.proofs.Slots.{Goes, Lead, slot_at}
 use Rattle.invariants.specs.Good.{SlotsOk}
 use Rattle.laws.proofs.Descent.{Reached, picks}
@@ -23,39 +23,39 @@ use Rattle.laws.proofs.Reach.{reach, reached}
 use Rattle.laws.proofs.Sound.{SoundChart, parent_child}
 use Rattle.laws.proofs.Tree.{has_under, under_has, under_trans}
 use Rattle.laws.specs.Facts.{Ordered, Under, child, deeper}
-use Rattle.laws.proofs.Ways.{owner-sound}
+use Rattle.laws.proofs.Ways.{owner_sound}
 use Rattle.meaning.specs.Chart.{Chart}
 use Rattle.meaning.specs.Entry.{Way, all_below, defaults, on_to, slot_way, state_of, stops, towards, towards_owner}
 use Rattle.meaning.specs.Lists.{first_that, has}
 use Rattle.meaning.specs.Steps.{ok}
 use Rattle.meaning.specs.Tree.{ancestors, is_child, kind_of, parent_of}
 use Rattle.meaning.specs.declared.chart.Kind.{Kind}
-use Rattle.meaning.specs.declared.chart.Kind.TheVariants.{A as kind-a, B as kind-b, O as kind-o}
+use Rattle.meaning.specs.declared.chart.Kind.TheVariants.{A as kind_a, B as kind_b, O as kind_o}
 use Rattle.numbers.specs.declared.Place.{Place as Slot}
 use Rattle.numbers.specs.declared.Place.TheVariants.{At as holds, Empty as empty}
 
 -- ---- what the slots reach below an owner that leads on
 
 module _ (c : Chart) (r : SoundChart c) (sl : List ℤ) (lead : Lead c sl) where
-  next-goes : (p n : ℕ) → parent_of c (suc n) ≡ p → Goes c sl p
+  next_goes : (p n : ℕ) → parent_of c (suc n) ≡ p → Goes c sl p
       → (k : Kind) → kind_of c p ≡ k → (x : Slot) → slot_at sl p ≡ x → picks c k (slot_way x) p (suc n) ≡ true → Goes c sl (suc n)
   unfolding picks slot_way
-  next-goes p n e g kind-o kx empty sx t = absurd (false≢true t)
-  next-goes p n e g kind-o kx (holds d) sx t = subst (Goes c sl) (sym (eqb-true (suc n) d t)) (lead p d sx)
-  next-goes p n e g kind-a kx x sx t = goes-component c r sl lead p (suc n) kx (parent_child c p n e) g
-  next-goes p n e g kind-b kx x sx t = absurd (no_child_of_b c r p (suc n) kx (parent_child c p n e))
+  next_goes p n e g kind_o kx empty sx t = absurd (false≢true t)
+  next_goes p n e g kind_o kx (holds d) sx t = subst (Goes c sl) (sym (eqb-true (suc n) d t)) (lead p d sx)
+  next_goes p n e g kind_a kx x sx t = goes_component c r sl lead p (suc n) kx (parent_child c p n e) g
+  next_goes p n e g kind_b kx x sx t = absurd (no_child_of_b c r p (suc n) kx (parent_child c p n e))
 
-  reached-goes : (b : ℕ) (f : ℕ → Bool) → Reached c (λ x. slot_way (slot_at sl x)) b f
+  reached_goes : (b : ℕ) (f : ℕ → Bool) → Reached c (λ x. slot_way (slot_at sl x)) b f
       → Goes c sl b → (x : ℕ) → Under c b x → f x ≡ true → Goes c sl x
-  reached-goes b f h g x (child {n} e) t =
-      next-goes (parent_of c (suc n)) n refl (subst (Goes c sl) (sym e) g)
+  reached_goes b f h g x (child {n} e) t =
+      next_goes (parent_of c (suc n)) n refl (subst (Goes c sl) (sym e) g)
       (kind_of c (parent_of c (suc n))) refl (slot_at sl (parent_of c (suc n))) refl
       (and_left (picks c (kind_of c (parent_of c (suc n))) (slot_way (slot_at sl (parent_of c (suc n))))
       (parent_of c (suc n)) (suc n)) (f (parent_of c (suc n))) (sym (h.step n (child e)) ∙ t))
-  reached-goes b f h g x (deeper {n} u) t =
+  reached_goes b f h g x (deeper {n} u) t =
       let q = sym (h.step n (deeper u)) ∙ t in
-      next-goes (parent_of c (suc n)) n refl
-      (reached-goes b f h g (parent_of c (suc n)) u (and_right (picks c (kind_of c (parent_of c (suc n)))
+      next_goes (parent_of c (suc n)) n refl
+      (reached_goes b f h g (parent_of c (suc n)) u (and_right (picks c (kind_of c (parent_of c (suc n)))
       (slot_way (slot_at sl (parent_of c (suc n)))) (parent_of c (suc n)) (suc n)) (f (parent_of c (suc n))) q))
       (kind_of c (parent_of c (suc n))) refl (slot_at sl (parent_of c (suc n))) refl
       (and_left (picks c (kind_of c (parent_of c (suc n)))
@@ -98,47 +98,47 @@ unfolding restore_way
 held_reached c sl d b f h = h
 
 module _ (c : Chart) (r : SoundChart c)
-    (sl : List ℤ) (ok : SlotsOk c sl) (lead : Lead c sl) (b : ℕ) (l : b < length c.states) (kb : kind_of c b ≡ kind-o)
+    (sl : List ℤ) (ok : SlotsOk c sl) (lead : Lead c sl) (b : ℕ) (l : b < length c.states) (kb : kind_of c b ≡ kind_o)
     (on : ℕ → Bool) (g : Config c on no_hole) (s : ℕ) (ls : s < length c.states) (us : Under c s b) (top : on s ≡ true) where
-  abbrev way-1 : ℕ → Way
-  way-1 = towards_owner c b
+  abbrev way_1 : ℕ → Way
+  way_1 = towards_owner c b
 
-  abbrev way-2 : ℕ → Way
-  way-2 = restore_way (slot_at sl b) sl
+  abbrev way_2 : ℕ → Way
+  way_2 = restore_way (slot_at sl b) sl
 
-  abbrev reach-1 : ℕ → Bool
-  reach-1 x = reach c way-1 s x x
+  abbrev reach_1 : ℕ → Bool
+  reach_1 x = reach c way_1 s x x
 
-  abbrev reach-2 : ℕ → Bool
-  reach-2 x = reach c way-2 b x x
+  abbrev reach_2 : ℕ → Bool
+  reach_2 x = reach c way_2 b x x
 
-  abbrev on-1 : ℕ → Bool
-  on-1 = fired c on reach-1 s
+  abbrev on_1 : ℕ → Bool
+  on_1 = fired c on reach_1 s
 
-  abbrev pub on-2 : ℕ → Bool
-  on-2 = fired c on-1 reach-2 b
+  abbrev pub on_2 : ℕ → Bool
+  on_2 = fired c on_1 reach_2 b
 
-  h1 : Reached c way-1 s reach-1
-  h1 = reached c way-1 r.ordered s
+  h1 : Reached c way_1 s reach_1
+  h1 = reached c way_1 r.ordered s
 
-  h2 : Reached c way-2 b reach-2
-  h2 = reached c way-2 r.ordered b
+  h2 : Reached c way_2 b reach_2
+  h2 = reached c way_2 r.ordered b
 
-  config-1 : Config c on-1 (λ x. x ≡ b)
-  config-1 = legal-stays c r way-1 reach-1
-      on s no_hole (owner-sound c r b l) h1 g top (λ x. x ≡ b) (λ x i e k w. owner_stops c b x w) (λ x i w. absurd w)
+  config_1 : Config c on_1 (λ x. x ≡ b)
+  config_1 = legal_stays c r way_1 reach_1
+      on s no_hole (owner_sound c r b l) h1 g top (λ x. x ≡ b) (λ x i e k w. owner_stops c b x w) (λ x i w. absurd w)
 
-  owner-in : on-1 b ≡ true
-  owner-in = fired_under c r.ordered on reach-1 s b us ∙ owner-reached c r b l s us
+  owner_in : on_1 b ≡ true
+  owner_in = fired_under c r.ordered on reach_1 s b us ∙ owner_reached c r b l s us
 
   -- below the owner the first way enters nothing
-  dead : (x : ℕ) → Under c b x → reach-1 x ≡ false
+  dead : (x : ℕ) → Under c b x → reach_1 x ≡ false
   unfolding picks towards_owner
   dead x (child {n} e) = h1.step n (under_trans us (child e)) ∙ off
     where
       off : (picks c (kind_of c (parent_of c (suc n))) (towards_owner c b (parent_of c (suc n))) (parent_of c (suc n)) (suc n)
-          && reach-1 (parent_of c (suc n))) ≡ false
-      off = subst (λ p. (picks c (kind_of c p) (towards_owner c b p) p (suc n) && reach-1 p) ≡ false) (sym e) (rw (kb, eq-eqb b b refl))
+          && reach_1 (parent_of c (suc n))) ≡ false
+      off = subst (λ p. (picks c (kind_of c p) (towards_owner c b p) p (suc n) && reach_1 p) ≡ false) (sym e) (rw (kb, eq-eqb b b refl))
   dead x (deeper {n} u) = h1.step n (under_trans us (deeper u)) ∙ ap (λ t. picks c (kind_of c (parent_of c (suc n)))
       (towards_owner c b (parent_of c (suc n))) (parent_of c (suc n)) (suc n) && t) (dead (parent_of c (suc n)) u)
       ∙ go (picks c (kind_of c (parent_of c (suc n))) (towards_owner c b (parent_of c (suc n))) (parent_of c (suc n)) (suc n))
@@ -147,69 +147,69 @@ module _ (c : Chart) (r : SoundChart c)
       go true = refl
       go false = refl
 
-  stops-empty : (x : Slot) → slot_way x ≡ stops → x ≡ empty
+  stops_empty : (x : Slot) → slot_way x ≡ stops → x ≡ empty
   unfolding slot_way
-  stops-empty empty e = refl
-  stops-empty (holds d) e = let z : ◌≡◌ {A = ℕ} 0 1 = cc in absurd (omega arith)
+  stops_empty empty e = refl
+  stops_empty (holds d) e = let z : ◌≡◌ {A = ℕ} 0 1 = cc in absurd (omega arith)
 
   -- what the second way reaches goes on
-  goes-2 : (x : ℕ) → (x ≡ b) ⊎ Under c b x → on-2 x ≡ true → kind_of c x ≡ kind-o → way-2 x ≡ stops → ⊥
-  goes-2 x i e k w = by-slot (slot_at sl b) refl
+  goes_2 : (x : ℕ) → (x ≡ b) ⊎ Under c b x → on_2 x ≡ true → kind_of c x ≡ kind_o → way_2 x ≡ stops → ⊥
+  goes_2 x i e k w = by_slot (slot_at sl b) refl
     where
-      by-slot : (z : Slot) → slot_at sl b ≡ z → ⊥
-      by-slot empty q = never (subst (λ z. restore_way z sl x ≡ stops) q w)
+      by_slot : (z : Slot) → slot_at sl b ≡ z → ⊥
+      by_slot empty q = never (subst (λ z. restore_way z sl x ≡ stops) q w)
         where
           never : restore_way empty sl x ≡ stops → ⊥
           never p = default_way sl x p
-      by-slot (holds d) q = filled-not-empty c r sl lead (slot_at sl x)
-          (goes-x.child k) (stops-empty (slot_at sl x) (held_way sl d x (subst (λ z. restore_way z sl x ≡ stops) q w)))
+      by_slot (holds d) q = filled_not_empty c r sl lead (slot_at sl x)
+          (goes_x.child k) (stops_empty (slot_at sl x) (held_way sl d x (subst (λ z. restore_way z sl x ≡ stops) q w)))
         where
-          goes-x : Goes c sl x
-          goes-x = ⊎_elim
-              (λ p. subst (Goes c sl) (sym p) (owner-goes c r sl ok lead b l kb d q))
-              (λ u. reached-goes c r sl lead b reach-2
-              (held_reached c sl d b reach-2 (subst (λ z. Reached c (restore_way z sl) b reach-2) q h2))
-              (owner-goes c r sl ok lead b l kb d q) x u (sym (fired_under c r.ordered on-1 reach-2 b x u) ∙ e))
+          goes_x : Goes c sl x
+          goes_x = ⊎_elim
+              (λ p. subst (Goes c sl) (sym p) (owner_goes c r sl ok lead b l kb d q))
+              (λ u. reached_goes c r sl lead b reach_2
+              (held_reached c sl d b reach_2 (subst (λ z. Reached c (restore_way z sl) b reach_2) q h2))
+              (owner_goes c r sl ok lead b l kb d q) x u (sym (fired_under c r.ordered on_1 reach_2 b x u) ∙ e))
               i
 
-  pub history-legal : Config c on-2 no_hole
-  history-legal = legal-stays c r way-2 reach-2
-      on-1 b (λ x. x ≡ b) (restore-sound c r sl ok lead (slot_at sl b)) h2 config-1 owner-in no_hole goes-2 (λ x i w. i.1 w)
+  pub history_legal : Config c on_2 no_hole
+  history_legal = legal_stays c r way_2 reach_2
+      on_1 b (λ x. x ≡ b) (restore_sound c r sl ok lead (slot_at sl b)) h2 config_1 owner_in no_hole goes_2 (λ x i w. i.1 w)
 
   -- ---- the marks
 
-  or-move : (p q o : Bool) → (p || (q || o)) ≡ (q || (p || o))
-  or-move true true o = refl
-  or-move true false o = refl
-  or-move false true o = refl
-  or-move false false o = refl
+  or_move : (p q o : Bool) → (p || (q || o)) ≡ (q || (p || o))
+  or_move true true o = refl
+  or_move true false o = refl
+  or_move false true o = refl
+  or_move false false o = refl
 
-  or-none : (p : Bool) → (p || false) ≡ p
-  or-none true = refl
-  or-none false = refl
+  or_none : (p : Bool) → (p || false) ≡ p
+  or_none true = refl
+  or_none false = refl
 
-  abbrev entered-1 : List ℕ
-  entered-1 = map state_of (all_below c way-1 s)
+  abbrev entered_1 : List ℕ
+  entered_1 = map state_of (all_below c way_1 s)
 
-  abbrev entered-2 : List ℕ
-  entered-2 = map state_of (all_below c way-2 b)
+  abbrev entered_2 : List ℕ
+  entered_2 = map state_of (all_below c way_2 b)
 
   -- after the exits, the visits towards the owner and the restore, what is in is the legal configuration
-  pub history-marks : (y : ℕ) → (has y entered-1 || ((has b entered-1 && has y entered-2) || left_on c on s y)) ≡ on-2 y
-  history-marks y =
-      ap (λ t. has y entered-1 || ((t && has y entered-2) || left_on c on s y))
-      (entered-under c r way-1 (owner-sound c r b l) s ls b us ∙ owner-reached c r b l s us)
-      ∙ or-move (has y entered-1) (has y entered-2) (left_on c on s y)
-      ∙ ap (λ t. has y entered-2 || t) (entered-fired c r way-1 (owner-sound c r b l) s ls on y)
+  pub history_marks : (y : ℕ) → (has y entered_1 || ((has b entered_1 && has y entered_2) || left_on c on s y)) ≡ on_2 y
+  history_marks y =
+      ap (λ t. has y entered_1 || ((t && has y entered_2) || left_on c on s y))
+      (entered_under c r way_1 (owner_sound c r b l) s ls b us ∙ owner_reached c r b l s us)
+      ∙ or_move (has y entered_1) (has y entered_2) (left_on c on s y)
+      ∙ ap (λ t. has y entered_2 || t) (entered_fired c r way_1 (owner_sound c r b l) s ls on y)
       ∙ go (has b (ancestors c y)) refl
     where
-      go : (t : Bool) → has b (ancestors c y) ≡ t → (has y entered-2 || on-1 y) ≡ on-2 y
+      go : (t : Bool) → has b (ancestors c y) ≡ t → (has y entered_2 || on_1 y) ≡ on_2 y
       go true e =
           let u = has_under c b y e in
-          ap (λ t. has y entered-2 || t) (fired_under c r.ordered on reach-1 s y (under_trans us u) ∙ dead y u)
-          ∙ or-none (has y entered-2)
-          ∙ entered-under c r way-2 (restore-sound c r sl ok lead (slot_at sl b)) b l y u
-          ∙ sym (fired_under c r.ordered on-1 reach-2 b y u)
+          ap (λ t. has y entered_2 || t) (fired_under c r.ordered on reach_1 s y (under_trans us u) ∙ dead y u)
+          ∙ or_none (has y entered_2)
+          ∙ entered_under c r way_2 (restore_sound c r sl ok lead (slot_at sl b)) b l y u
+          ∙ sym (fired_under c r.ordered on_1 reach_2 b y u)
       go false e =
-          ap (λ t. t || on-1 y) (entered-not-under c r way-2 (restore-sound c r sl ok lead (slot_at sl b)) b l y e)
-          ∙ sym (fired_elsewhere c on-1 reach-2 b y e)
+          ap (λ t. t || on_1 y) (entered_not_under c r way_2 (restore_sound c r sl ok lead (slot_at sl b)) b l y e)
+          ∙ sym (fired_elsewhere c on_1 reach_2 b y e)

@@ -9,7 +9,7 @@ use mathlib.Core.Option.{none}
 use lib.ListN.{get_or}
 use lib.IntN.{negsuc, pos}
 use Rattle.invariants.specs.Named.{all_named, entry_named, of_chart, one_of}
-use Rattle.invariants.proofs.Calls.{start-facts}
+use Rattle.invariants.proofs.Calls.{start_facts}
 use Rattle.invariants.proofs.Own.{OwnState}
 use Rattle.laws.proofs.Sound.{sound_chart}
 use Rattle.laws.proofs.Value.{ActInRange, GuardInRange, RowInRange, SizedChart}
@@ -59,7 +59,7 @@ unfolding all_open
 done_K = refl
 
 pub own_K : OwnState chart_K (start chart_K unstarted 3000).after
-own_K = (start-facts chart_K (sound_chart chart_K rules_K) sized_K unstarted 3000).done done_K
+own_K = (start_facts chart_K (sound_chart chart_K rules_K) sized_K unstarted 3000).done done_K
 
 -- in the order: the fourth starred trace; a fourth transition; a sixth state left, and -1 entered; a second variable, and a value of 101;
 -- event 0, and a third; a number told past the range; a third number that is not used; a kind 7; numbers left over

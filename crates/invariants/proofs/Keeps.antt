@@ -16,9 +16,9 @@ use Rattle.meaning.specs.Tree.{var_row}
 use Rattle.meaning.specs.Widget.{Ctx, ENTRY, Entry, change, emit, numbers, set_active, set_queue, set_value, value_at, add_numbers}
 use Rattle.meaning.specs.declared.State.{State}
 use Rattle.meaning.specs.declared.chart.Act.{Act}
-use Rattle.meaning.specs.declared.chart.Act.TheVariants.{AddTo as add_to, Send as send, SetTo as set_to, TakeTo as take-to, Tell as tell}
+use Rattle.meaning.specs.declared.chart.Act.TheVariants.{AddTo as add_to, Send as send, SetTo as set_to, TakeTo as take_to, Tell as tell}
 use Rattle.meaning.specs.declared.chart.Owner.{Owner}
-use Rattle.meaning.specs.declared.chart.Owner.TheVariants.{DefaultOf as default-of, EntryOf as entry_of}
+use Rattle.meaning.specs.declared.chart.Owner.TheVariants.{DefaultOf as default_of, EntryOf as entry_of}
 use Rattle.meaning.specs.declared.chart.VarRow.{VarRow}
 use Rattle.queue.specs.Queue.{appended}
 use Rattle.queue.specs.declared.Queue.{Queue}
@@ -91,13 +91,13 @@ pub record Outside (Q : State → Type 0) : Type 0 where
   pub queue : (u : State) (q : Queue) → Q u → Q (set_queue q u)
 
 module _ (Q : State → Type 0) (o : Outside Q) where
-  pub assign-keeps : (r : VarRow) (v : ℕ) (x : ℤ) → Keeps Q (assign r v x)
+  pub assign_keeps : (r : VarRow) (v : ℕ) (x : ℤ) → Keeps Q (assign r v x)
   unfolding assign
-  assign-keeps r v x = then_leads Q Q Q _ _ (emit_keeps Q _) (change_leads Q Q _ (λ u. o.values u v (held r x)))
+  assign_keeps r v x = then_leads Q Q Q _ _ (emit_keeps Q _) (change_leads Q Q _ (λ u. o.values u v (held r x)))
 
-  pub enqueue-keeps : (e x : ℤ) → Keeps Q (enqueue e x)
+  pub enqueue_keeps : (e x : ℤ) → Keeps Q (enqueue e x)
   unfolding enqueue look take_queue ◌then◌ require bind
-  enqueue-keeps e x k h = go (appended k.state.queue e x)
+  enqueue_keeps e x k h = go (appended k.state.queue e x)
     where
       go : (q : Queued) → Gives (bind (require 9 q.done k) (change (set_queue q.queue))) (λ j. Q j.state)
       go q = on q.done
@@ -106,26 +106,26 @@ module _ (Q : State → Type 0) (o : Outside Q) where
           on true = change_leads Q Q _ (λ u. o.queue u q.queue) k h
           on false = (λ z. omega arith, λ z. omega arith, λ z. omega arith)
 
-  pub act-keeps : (r : VarRow) (a : ℤ) (x : Act) → Keeps Q (act_on r a x)
+  pub act_keeps : (r : VarRow) (a : ℤ) (x : Act) → Keeps Q (act_on r a x)
   unfolding act_on look
-  act-keeps r a (set_to v x) = assign-keeps r v x
-  act-keeps r a (add_to v x) = λ k h. assign-keeps r v (value_at k.state v +ℤ x) k h
-  act-keeps r a (take-to v) = assign-keeps r v a
-  act-keeps r a (send e x) = then_leads Q Q Q _ _ (emit_keeps Q _) (enqueue-keeps (pos e) x)
-  act-keeps r a (tell x) = emit_keeps Q _
+  act_keeps r a (set_to v x) = assign_keeps r v x
+  act_keeps r a (add_to v x) = λ k h. assign_keeps r v (value_at k.state v +ℤ x) k h
+  act_keeps r a (take_to v) = assign_keeps r v a
+  act_keeps r a (send e x) = then_leads Q Q Q _ _ (emit_keeps Q _) (enqueue_keeps (pos e) x)
+  act_keeps r a (tell x) = emit_keeps Q _
 
-  pub acts-keep : (c : Chart) (a : ℤ) (w : Owner) → Keeps Q (perform_all c a w)
+  pub acts_keep : (c : Chart) (a : ℤ) (w : Owner) → Keeps Q (perform_all c a w)
   unfolding perform_all perform
-  acts-keep c a w = each_keeps Q (perform c.vars a) (λ x. act-keeps (var_row c.vars (act_var x)) a x) (acts_of c w)
+  acts_keep c a w = each_keeps Q (perform c.vars a) (λ x. act_keeps (var_row c.vars (act_var x)) a x) (acts_of c w)
 
 pub enter_leads : (Q R : State → Type 0)
     → Outside R → (c : Chart) (a : ℤ) (s : ℕ) → ((u : State) → Q u → R (set_active s true u)) → Leads Q R (enter c a s)
 unfolding enter mark_entered
 enter_leads Q R o c a s h =
-    then_leads Q R R _ _ (then_leads Q Q R _ _ (emit_keeps Q _) (change_leads Q R _ h)) (acts-keep R o c a (entry_of s))
+    then_leads Q R R _ _ (then_leads Q Q R _ _ (emit_keeps Q _) (change_leads Q R _ h)) (acts_keep R o c a (entry_of s))
 
 pub visit_leads : (Q R : State → Type 0) → Outside Q → Outside R
     → (c : Chart) (a : ℤ) (v : Visit) → ((u : State) → Q u → R (set_active (state_of v) true u)) → Leads Q R (visit c a v)
 unfolding visit state_of
 visit_leads Q R p o c a (plain s) h = enter_leads Q R o c a s h
-visit_leads Q R p o c a (by_default d s) h = then_leads Q Q R _ _ (acts-keep Q p c a (default-of d)) (enter_leads Q R o c a s h)
+visit_leads Q R p o c a (by_default d s) h = then_leads Q Q R _ _ (acts_keep Q p c a (default_of d)) (enter_leads Q R o c a s h)

@@ -14,8 +14,8 @@ use lib.Dec.{leb}
 use borrow.Author.Tests.{le-leb, lt-ltb}
 use Rattle.invariants.specs.Named.{Names, all_named, entry_named, of_chart, one_of}
 use Rattle.invariants.specs.CallLists.{Call, make, make_of, to_discard, to_post, to_run, to_start}
-use Rattle.invariants.proofs.CallLists.{unstarted_7, value-sized, value-sound}
-use Rattle.invariants.proofs.Calls.{CallFacts, discard-facts, post-facts, run-facts, start-facts}
+use Rattle.invariants.proofs.CallLists.{unstarted_7, value_sized, value_sound}
+use Rattle.invariants.proofs.Calls.{CallFacts, discard_facts, post_facts, run_facts, start_facts}
 use Rattle.invariants.specs.Good.{EntryOk, Sized, Traced}
 use Rattle.invariants.proofs.Own.{OwnState}
 use Rattle.laws.proofs.Lists.{and_both, and_left, and_right, or_left, same_or}
@@ -49,18 +49,18 @@ EntryNamed w (sent e x) = event_fits w.events (pos e) x ≡ true
 EntryNamed w (told x) = in_range x ≡ true
 
 module _ (w : Names) where
-  one-of-below : (n k : ℕ) → k < n → one_of n (pos k) ≡ true
+  one_of_below : (n k : ℕ) → k < n → one_of n (pos k) ≡ true
   unfolding one_of
-  one-of-below n k l = and_both (leb 0 k) _ (le-leb 0 k (omega arith)) (lt-ltb k n l)
+  one_of_below n k l = and_both (leb 0 k) _ (le-leb 0 k (omega arith)) (lt-ltb k n l)
 
-  pub numbers-named : (e : Entry) → EntryNamed w e → all_named w (numbers e) ≡ true
+  pub numbers_named : (e : Entry) → EntryNamed w e → all_named w (numbers e) ≡ true
   unfolding all_named entry_named numbers
-  numbers-named (taken t) h = and_both _ true (or_left _ _ (and_both _ true (and_both _ _ (le-leb 0 t (omega arith)) h) refl)) refl
-  numbers-named (left s) h = and_both _ true (or_left _ _ (and_both _ true (one-of-below w.states s h) refl)) refl
-  numbers-named (entered s) h = and_both _ true (or_left _ _ (and_both _ true (one-of-below w.states s h) refl)) refl
-  numbers-named (changed v x) h = and_both _ true (or_left _ _ (and_both _ _ (one-of-below (length w.vars) v h.0) h.1)) refl
-  numbers-named (sent e x) h = and_both _ true (or_left _ _ h) refl
-  numbers-named (told x) h = and_both _ true (and_both _ true h refl) refl
+  numbers_named (taken t) h = and_both _ true (or_left _ _ (and_both _ true (and_both _ _ (le-leb 0 t (omega arith)) h) refl)) refl
+  numbers_named (left s) h = and_both _ true (or_left _ _ (and_both _ true (one_of_below w.states s h) refl)) refl
+  numbers_named (entered s) h = and_both _ true (or_left _ _ (and_both _ true (one_of_below w.states s h) refl)) refl
+  numbers_named (changed v x) h = and_both _ true (or_left _ _ (and_both _ _ (one_of_below (length w.vars) v h.0) h.1)) refl
+  numbers_named (sent e x) h = and_both _ true (or_left _ _ h) refl
+  numbers_named (told x) h = and_both _ true (and_both _ true h refl) refl
 
   pub named_more : (out more : List ℤ) → all_named w out ≡ true → all_named w more ≡ true → all_named w (out ++ more) ≡ true
   unfolding all_named
@@ -87,7 +87,7 @@ entries_chart : (c : Chart) (es : List Entry) → Each (EntryOk c) es → all_na
 unfolding all_named concat_map
 entries_chart c [] none_left = refl
 entries_chart c (e ∷ es) (one_more h hs) =
-    named_more (of_chart c) (numbers e) (concat_map numbers es) (numbers-named (of_chart c) e (entry_chart c e h)) (entries_chart c es hs)
+    named_more (of_chart c) (numbers e) (concat_map numbers es) (numbers_named (of_chart c) e (entry_chart c e h)) (entries_chart c es hs)
 
 pub traced_named : (c : Chart) (out : List ℤ) → Traced c out → all_named (of_chart c) out ≡ true
 traced_named c out t = subst (λ l. all_named (of_chart c) l ≡ true) (sym t.1) (entries_chart c t.0 t.2)
@@ -129,13 +129,13 @@ module _ (c : Chart) (r : SoundChart c) (z : SizedChart c) (u : State) (l : Size
       go true false e f = subst (Answered c) (sym (foreign_6 c u F k e f)) (refused_answered c 6 0 u l (λ q. omega arith))
       go true true e f = facts_answered c u _ l (h (record { sized = l; started = e; is_own = f }))
 
-  pub make-answered : (x : Call) → Answered c (make c x u)
+  pub make_answered : (x : Call) → Answered c (make c x u)
   unfolding make run post discard
-  make-answered (to_start n) = facts_answered c u (start c u n) l (start-facts c r z u n)
-  make-answered (to_run n) = tested (react c (removed u.queue)) (begin u n) (λ h. run-facts c r z u h n)
-  make-answered (to_post e a) =
-      tested (require 10 (event_fits c.events e a) then enqueue e a) (begin u 0) (λ h. post-facts c r z u h e a)
-  make-answered to_discard = tested (take_front (removed u.queue)) (begin u 0) (λ h. discard-facts c r z u h)
+  make_answered (to_start n) = facts_answered c u (start c u n) l (start_facts c r z u n)
+  make_answered (to_run n) = tested (react c (removed u.queue)) (begin u n) (λ h. run_facts c r z u h n)
+  make_answered (to_post e a) =
+      tested (require 10 (event_fits c.events e a) then enqueue e a) (begin u 0) (λ h. post_facts c r z u h e a)
+  make_answered to_discard = tested (take_front (removed u.queue)) (begin u 0) (λ h. discard_facts c r z u h)
 
 -- ---- over a chart handed over as a value: 3 first
 
@@ -145,12 +145,12 @@ module _ (v : List ℤ) (u : State) (l : Sized u) where
   by_rule o h none e = h e
   by_rule o h (some n) e = refused_answered (chart_of v) 3 n u l (λ q. omega arith)
 
-  sound-answered : (x : Call) → failing_rule_of v ≡ none → Answered (chart_of v) (make (chart_of v) x u)
-  sound-answered x e = make-answered (chart_of v) (value-sound v e) (value-sized v e) u l x
+  sound_answered : (x : Call) → failing_rule_of v ≡ none → Answered (chart_of v) (make (chart_of v) x u)
+  sound_answered x e = make_answered (chart_of v) (value_sound v e) (value_sized v e) u l x
 
-  pub make-of-answered : (x : Call) → Answered (chart_of v) (make_of v x u)
+  pub make_of_answered : (x : Call) → Answered (chart_of v) (make_of v x u)
   unfolding make_of make start_of run_of post_of discard_of
-  make-of-answered (to_start n) = by_rule (start (chart_of v) u n) (sound-answered (to_start n)) (failing_rule_of v) refl
-  make-of-answered (to_run n) = by_rule (run (chart_of v) u n) (sound-answered (to_run n)) (failing_rule_of v) refl
-  make-of-answered (to_post e a) = by_rule (post (chart_of v) u e a) (sound-answered (to_post e a)) (failing_rule_of v) refl
-  make-of-answered to_discard = by_rule (discard (chart_of v) u) (sound-answered to_discard) (failing_rule_of v) refl
+  make_of_answered (to_start n) = by_rule (start (chart_of v) u n) (sound_answered (to_start n)) (failing_rule_of v) refl
+  make_of_answered (to_run n) = by_rule (run (chart_of v) u n) (sound_answered (to_run n)) (failing_rule_of v) refl
+  make_of_answered (to_post e a) = by_rule (post (chart_of v) u e a) (sound_answered (to_post e a)) (failing_rule_of v) refl
+  make_of_answered to_discard = by_rule (discard (chart_of v) u) (sound_answered to_discard) (failing_rule_of v) refl

@@ -11,7 +11,7 @@ use lib.Dec.{ltb}
 use lib.IntN.{negsuc, pos, ℤ}
 use borrow.Author.Tests.{eq-eqb, eqb-true, lt-ltb, ltb-true}
 use Rattle.invariants.specs.Good.{SlotOk, SlotsOk}
-use Rattle.laws.proofs.Lists.{and_both, and_left, and_right, every-range, le_or_lt, range-every}
+use Rattle.laws.proofs.Lists.{and_both, and_left, and_right, every_range, le_or_lt, range_every}
 use Rattle.laws.proofs.Rules.{o_of, of_o}
 use Rattle.laws.proofs.Sound.{SoundChart, a_not_root, child_every, child_inside, every_child}
 use Rattle.meaning.specs.Chart.{Chart}
@@ -20,20 +20,20 @@ use Rattle.meaning.specs.Tree.{is_child, is_o, kind_of}
 use Rattle.meaning.specs.Widget.{is_filled, slot}
 use Rattle.meaning.specs.declared.State.{State}
 use Rattle.meaning.specs.declared.chart.Kind.{Kind}
-use Rattle.meaning.specs.declared.chart.Kind.TheVariants.{A as kind-a, B as kind-b, O as kind-o}
-use Rattle.numbers.specs.Place.{place_of as as-slot}
+use Rattle.meaning.specs.declared.chart.Kind.TheVariants.{A as kind_a, B as kind_b, O as kind_o}
+use Rattle.numbers.specs.Place.{place_of as as_slot}
 use Rattle.numbers.specs.declared.Place.{Place as Slot}
 use Rattle.numbers.specs.declared.Place.TheVariants.{At as holds, Empty as empty}
 use Rattle.sizes.specs.Sizes.{STATES}
 
 -- what a slot of a list holds
 abbrev pub slot_at : List ℤ → ℕ → Slot
-slot_at sl s = as-slot (get_or sl s (negsuc 0))
+slot_at sl s = as_slot (get_or sl s (negsuc 0))
 
 -- what a stored state needs to go on: its own slot filled, or that of each component
 pub record Goes (c : Chart) (sl : List ℤ) (d : ℕ) : Type 0 where
-  pub child : kind_of c d ≡ kind-o → is_filled (slot_at sl d) ≡ true
-  pub components : kind_of c d ≡ kind-a → (y : ℕ) → is_child c d y ≡ true → is_filled (slot_at sl y) ≡ true
+  pub child : kind_of c d ≡ kind_o → is_filled (slot_at sl d) ≡ true
+  pub components : kind_of c d ≡ kind_a → (y : ℕ) → is_child c d y ≡ true → is_filled (slot_at sl y) ≡ true
 
 -- a filled slot never leads to an empty one
 abbrev pub Lead : Chart → List ℤ → Type 0
@@ -44,11 +44,11 @@ same_held x y e = cc
 
 -- what a slot holds is a child of its o state
 pub slot_child : (c : Chart) (sl : List ℤ) → SlotsOk c sl
-    → (s d : ℕ) → slot_at sl s ≡ holds d → (kind_of c s ≡ kind-o) × (is_child c s d ≡ true) × (d < length c.states)
+    → (s d : ℕ) → slot_at sl s ≡ holds d → (kind_of c s ≡ kind_o) × (is_child c s d ≡ true) × (d < length c.states)
 slot_child c sl h s d e = go (get_or sl s (negsuc 0)) (h s) e
   where
-    go : (z : ℤ) → SlotOk c s z → as-slot z ≡ holds d → (kind_of c s ≡ kind-o) × (is_child c s d ≡ true) × (d < length c.states)
-    go (pos x) k q = let r = same_held x d q in subst (λ y. (kind_of c s ≡ kind-o) × (is_child c s y ≡ true) × (y < length c.states)) r k
+    go : (z : ℤ) → SlotOk c s z → as_slot z ≡ holds d → (kind_of c s ≡ kind_o) × (is_child c s d ≡ true) × (d < length c.states)
+    go (pos x) k q = let r = same_held x d q in subst (λ y. (kind_of c s ≡ kind_o) × (is_child c s y ≡ true) × (y < length c.states)) r k
     go (negsuc n) k q = let z : ◌≡◌ {A = ℕ} 0 1 = cc in absurd (omega arith)
 
 -- ---- from the test
@@ -57,16 +57,16 @@ module _ (c : Chart) (h : SoundChart c) (u : State) where
   goes_of : (d : ℕ) → leads_on c u (kind_of c d) d ≡ true → Goes c u.slots d
   unfolding leads_on slot
   goes_of d e = record {
-    child = λ k. by_kind kind-o k e;
-    components = λ k y t. every_child c (λ x. is_filled (slot u x)) d (by_kind kind-a k e) y (child_inside c d y (a_not_root c h d k) t) t;
+    child = λ k. by_kind kind_o k e;
+    components = λ k y t. every_child c (λ x. is_filled (slot u x)) d (by_kind kind_a k e) y (child_inside c d y (a_not_root c h d k) t) t;
   }
     where
       by_kind : (k : Kind) → kind_of c d ≡ k → leads_on c u (kind_of c d) d ≡ true → leads_on c u k d ≡ true
       by_kind k q p = subst (λ x. leads_on c u x d ≡ true) q p
 
-  fits-ok : (s : ℕ) (z : ℤ) → slot_fits c u s z ≡ true → SlotOk c s z
+  fits_ok : (s : ℕ) (z : ℤ) → slot_fits c u s z ≡ true → SlotOk c s z
   unfolding slot_fits
-  fits-ok s (pos d) e =
+  fits_ok s (pos d) e =
       let r2 = is_child c s d && leads_on c u (kind_of c d) d in
       let r1 = is_o (kind_of c s) && r2 in
       let f = and_right (ltb d (length c.states)) r1 e in (
@@ -75,51 +75,51 @@ module _ (c : Chart) (h : SoundChart c) (u : State) where
             (and_right (is_o (kind_of c s)) r2 f),
         ltb-true _ _ (and_left (ltb d (length c.states)) r1 e),
       )
-  fits-ok s (negsuc n) e = eqb-true n 0 e
+  fits_ok s (negsuc n) e = eqb-true n 0 e
 
-  fits-leads : (s d : ℕ) (z : ℤ) → slot_fits c u s z ≡ true → as-slot z ≡ holds d → leads_on c u (kind_of c d) d ≡ true
+  fits_leads : (s d : ℕ) (z : ℤ) → slot_fits c u s z ≡ true → as_slot z ≡ holds d → leads_on c u (kind_of c d) d ≡ true
   unfolding slot_fits
-  fits-leads s d (pos x) e q =
+  fits_leads s d (pos x) e q =
       let r2 = is_child c s x && leads_on c u (kind_of c x) x in
       let r1 = is_o (kind_of c s) && r2 in
       let p = and_right (is_child c s x) (leads_on c u (kind_of c x) x)
       (and_right (is_o (kind_of c s)) r2 (and_right (ltb x (length c.states)) r1 e)) in
       subst (λ y. leads_on c u (kind_of c y) y ≡ true) (same_held x d q) p
-  fits-leads s d (negsuc n) e q = let z : ◌≡◌ {A = ℕ} 0 1 = cc in absurd (omega arith)
+  fits_leads s d (negsuc n) e q = let z : ◌≡◌ {A = ℕ} 0 1 = cc in absurd (omega arith)
 
   module _ (l : length u.slots ≡ STATES) (e : slots_fit c u ≡ true) where
     each_fits : (s : ℕ) → s < STATES → slot_fits c u s (get_or u.slots s (negsuc 0)) ≡ true
     unfolding slots_fit
-    each_fits s m = every-range (λ x. slot_fits c u x (get_or u.slots x (negsuc 0))) 0 STATES e s (omega arith) (omega arith)
+    each_fits s m = every_range (λ x. slot_fits c u x (get_or u.slots x (negsuc 0))) 0 STATES e s (omega arith) (omega arith)
 
     past : (s : ℕ) → STATES ≤ s → get_or u.slots s (negsuc 0) ≡ negsuc 0
     past s m = get_or-eq_default u.slots (negsuc 0) (omega arith)
 
-    pub slots-of : SlotsOk c u.slots
-    slots-of s = ⊎_elim (λ m. subst (SlotOk c s) (sym (past s m)) refl) (λ m. fits-ok s _ (each_fits s m)) (le_or_lt STATES s)
+    pub slots_of : SlotsOk c u.slots
+    slots_of s = ⊎_elim (λ m. subst (SlotOk c s) (sym (past s m)) refl) (λ m. fits_ok s _ (each_fits s m)) (le_or_lt STATES s)
 
-    pub lead-of : Lead c u.slots
-    lead-of s d q = ⊎_elim
-        (λ m. let z : empty ≡ holds d = ap as-slot (sym (past s m)) ∙ q in let y : ◌≡◌ {A = ℕ} 0 1 = cc in absurd (omega arith))
-        (λ m. goes_of d (fits-leads s d _ (each_fits s m) q))
+    pub lead_of : Lead c u.slots
+    lead_of s d q = ⊎_elim
+        (λ m. let z : empty ≡ holds d = ap as_slot (sym (past s m)) ∙ q in let y : ◌≡◌ {A = ℕ} 0 1 = cc in absurd (omega arith))
+        (λ m. goes_of d (fits_leads s d _ (each_fits s m) q))
         (le_or_lt STATES s)
 
 -- ---- and back
 
 module _ (c : Chart) (u : State) (k : SlotsOk c u.slots) (g : Lead c u.slots) where
-  leads-by : (d : ℕ) → Goes c u.slots d → (x : Kind) → kind_of c d ≡ x → leads_on c u x d ≡ true
+  leads_by : (d : ℕ) → Goes c u.slots d → (x : Kind) → kind_of c d ≡ x → leads_on c u x d ≡ true
   unfolding leads_on slot
-  leads-by d f kind-o e = f.child e
-  leads-by d f kind-a e = child_every c (λ x. is_filled (slot u x)) d (λ y l t. f.components e y t)
-  leads-by d f kind-b e = refl
+  leads_by d f kind_o e = f.child e
+  leads_by d f kind_a e = child_every c (λ x. is_filled (slot u x)) d (λ y l t. f.components e y t)
+  leads_by d f kind_b e = refl
 
-  ok-fits : (s : ℕ) (z : ℤ) → SlotOk c s z → ((d : ℕ) → as-slot z ≡ holds d → Goes c u.slots d) → slot_fits c u s z ≡ true
+  ok_fits : (s : ℕ) (z : ℤ) → SlotOk c s z → ((d : ℕ) → as_slot z ≡ holds d → Goes c u.slots d) → slot_fits c u s z ≡ true
   unfolding slot_fits
-  ok-fits s (pos d) f h = and_both (ltb d (length c.states)) _ (lt-ltb _ _ f.2)
-      (and_both (is_o (kind_of c s)) _ (of_o _ f.0) (and_both (is_child c s d) _ f.1 (leads-by d (h d refl) (kind_of c d) refl)))
-  ok-fits s (negsuc n) f h = eq-eqb n 0 f
+  ok_fits s (pos d) f h = and_both (ltb d (length c.states)) _ (lt-ltb _ _ f.2)
+      (and_both (is_o (kind_of c s)) _ (of_o _ f.0) (and_both (is_child c s d) _ f.1 (leads_by d (h d refl) (kind_of c d) refl)))
+  ok_fits s (negsuc n) f h = eq-eqb n 0 f
 
-  pub slots-fit-of : slots_fit c u ≡ true
+  pub slots_fit_of : slots_fit c u ≡ true
   unfolding slots_fit
-  slots-fit-of = range-every (λ s. slot_fits c u s (get_or u.slots s (negsuc 0))) 0
-      STATES (λ s a b. ok-fits s (get_or u.slots s (negsuc 0)) (k s) (g s))
+  slots_fit_of = range_every (λ s. slot_fits c u s (get_or u.slots s (negsuc 0))) 0
+      STATES (λ s a b. ok_fits s (get_or u.slots s (negsuc 0)) (k s) (g s))

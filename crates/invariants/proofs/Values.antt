@@ -14,7 +14,7 @@ use lib.IntN.{pos, ℤ}
 use lib.Signed.{le_z}
 use borrow.Author.Tests.{le-leb, leb-true}
 use Rattle.invariants.specs.Good.{Values}
-use Rattle.laws.proofs.Lists.{and_both, and_left, and_right, at_every, every_append, every-at, every-replicate, le_or_lt, same_or}
+use Rattle.laws.proofs.Lists.{and_both, and_left, and_right, at_every, every_append, every_at, every_replicate, le_or_lt, same_or}
 use Rattle.meaning.specs.Chart.{no_var}
 use Rattle.meaning.specs.Effects.{held}
 use Rattle.meaning.specs.Foreign.{event_fits, is_none, item_fits, queue_fits, values_fit}
@@ -23,18 +23,18 @@ use Rattle.meaning.specs.Rules.{within_row}
 use Rattle.meaning.specs.Tree.{var_row}
 use Rattle.meaning.specs.declared.chart.VarRow.{VarRow}
 use Rattle.numbers.proofs.Laws.{eq_z_refl, eq_z_true}
-use Rattle.numbers.proofs.Ranges.{hold-within, le_z_trans}
+use Rattle.numbers.proofs.Ranges.{hold_within, le_z_trans}
 use Rattle.numbers.specs.Equal.{eq_z}
 use Rattle.numbers.specs.Range.{within}
-use Rattle.queue.proofs.Waiting.{appended-room, appended-waits, empty_waits, removed-front, removed-waits}
-use Rattle.queue.specs.Queue.{appended, empty_queue, item, no_item as none-item, removed, shifted, waiting}
+use Rattle.queue.proofs.Waiting.{appended_room, appended_waits, empty_waits, removed_front, removed_waits}
+use Rattle.queue.specs.Queue.{appended, empty_queue, item, no_item as none_item, removed, shifted, waiting}
 use Rattle.queue.specs.declared.Item.{Item}
 use Rattle.queue.specs.declared.Queue.{Queue}
 use Rattle.sizes.specs.Sizes.{QUEUE}
 
 zeros : (xs : List ℤ) → every (eq_z (pos 0)) xs ≡ true → (v : ℕ) → get_or xs v (pos 0) ≡ pos 0
 zeros xs e v = ⊎_elim (λ l. get_or-eq_default xs (pos 0) l)
-    (λ l. sym (eq_z_true _ _ (every-at (eq_z (pos 0)) xs e v l (pos 0)))) (le_or_lt (length xs) v)
+    (λ l. sym (eq_z_true _ _ (every_at (eq_z (pos 0)) xs e v l (pos 0)))) (le_or_lt (length xs) v)
 
 pub values_of : (vs : List VarRow) (xs : List ℤ) → values_fit vs xs ≡ true → Values vs xs
 unfolding values_fit var_row
@@ -77,90 +77,90 @@ values_set vs xs v x l m e h = record {
 -- what is held lies in the row, where the row's ends are in order
 pub held_in_row : (r : VarRow) (x : ℤ) → le_z r.low r.first ≡ true → le_z r.first r.high ≡ true → within_row r (held r x) ≡ true
 unfolding within_row held within
-held_in_row r x p q = hold-within x r.low r.high (le_z_trans r.low r.first r.high p q)
+held_in_row r x p q = hold_within x r.low r.high (le_z_trans r.low r.first r.high p q)
 
 -- ---- the queue
 
 module _ (n : ℕ) (q : Queue) (h : queue_fits n q ≡ true) where
-  pub fits-len : q.len ≤ QUEUE
+  pub fits_len : q.len ≤ QUEUE
   unfolding queue_fits
-  fits-len = leb-true _ _ (and_left (leb q.len QUEUE) (every (item_fits n) (waiting q) && every is_none (drop q.len q.items)) h)
+  fits_len = leb-true _ _ (and_left (leb q.len QUEUE) (every (item_fits n) (waiting q) && every is_none (drop q.len q.items)) h)
 
-  fits-rest : (every (item_fits n) (waiting q) && every is_none (drop q.len q.items)) ≡ true
+  fits_rest : (every (item_fits n) (waiting q) && every is_none (drop q.len q.items)) ≡ true
   unfolding queue_fits
-  fits-rest = and_right (leb q.len QUEUE) (every (item_fits n) (waiting q) && every is_none (drop q.len q.items)) h
+  fits_rest = and_right (leb q.len QUEUE) (every (item_fits n) (waiting q) && every is_none (drop q.len q.items)) h
 
-  pub fits-waiting : every (item_fits n) (waiting q) ≡ true
-  fits-waiting = and_left (every (item_fits n) (waiting q)) (every is_none (drop q.len q.items)) fits-rest
+  pub fits_waiting : every (item_fits n) (waiting q) ≡ true
+  fits_waiting = and_left (every (item_fits n) (waiting q)) (every is_none (drop q.len q.items)) fits_rest
 
-  pub fits-free : every is_none (drop q.len q.items) ≡ true
-  fits-free = and_right (every (item_fits n) (waiting q)) (every is_none (drop q.len q.items)) fits-rest
+  pub fits_free : every is_none (drop q.len q.items) ≡ true
+  fits_free = and_right (every (item_fits n) (waiting q)) (every is_none (drop q.len q.items)) fits_rest
 
 pub fits_queue : (n : ℕ) (q : Queue) → q.len ≤ QUEUE
     → every (item_fits n) (waiting q) ≡ true → every is_none (drop q.len q.items) ≡ true → queue_fits n q ≡ true
 unfolding queue_fits
 fits_queue n q l w f = and_both (leb q.len QUEUE) _ (le-leb _ _ l) (and_both (every (item_fits n) (waiting q)) _ w f)
 
-none_is : is_none none-item ≡ true
+none_is : is_none none_item ≡ true
 unfolding is_none
 none_is = refl
 
 pub empty_fits : (n : ℕ) → queue_fits n empty_queue ≡ true
 unfolding empty_queue every
 empty_fits n = fits_queue n empty_queue (omega arith)
-    (subst (λ w. every (item_fits n) w ≡ true) (sym empty_waits) refl) (every-replicate is_none QUEUE none-item none_is)
+    (subst (λ w. every (item_fits n) w ≡ true) (sym empty_waits) refl) (every_replicate is_none QUEUE none_item none_is)
 
 module _ (n : ℕ) (q : Queue) (h : queue_fits n q ≡ true) (l : length q.items ≡ QUEUE) where
   -- an append to a queue with room
-  pub appended-fits : (e a : ℤ) → event_fits n e a ≡ true → q.len < QUEUE → queue_fits n (appended q e a).queue ≡ true
+  pub appended_fits : (e a : ℤ) → event_fits n e a ≡ true → q.len < QUEUE → queue_fits n (appended q e a).queue ≡ true
   unfolding item_fits every
-  appended-fits e a f m = fits_queue n (appended q e a).queue len waits free
+  appended_fits e a f m = fits_queue n (appended q e a).queue len waits free
     where
       len : (appended q e a).queue.len ≤ QUEUE
-      len = subst (λ x. x.queue.len ≤ QUEUE) (sym (appended-room q e a m)) (omega arith)
+      len = subst (λ x. x.queue.len ≤ QUEUE) (sym (appended_room q e a m)) (omega arith)
 
       waits : every (item_fits n) (waiting (appended q e a).queue) ≡ true
-      waits = subst (λ w. every (item_fits n) w ≡ true) (sym (appended-waits q e a m l))
-          (every_append (item_fits n) (waiting q) (item e a ∷ []) (fits-waiting n q h) (and_both (item_fits n (item e a)) true f refl))
+      waits = subst (λ w. every (item_fits n) w ≡ true) (sym (appended_waits q e a m l))
+          (every_append (item_fits n) (waiting q) (item e a ∷ []) (fits_waiting n q h) (and_both (item_fits n (item e a)) true f refl))
 
       after : every is_none (drop (suc q.len) q.items) ≡ true
-      after = and_right (is_none (get_or q.items q.len none-item)) (every is_none (drop (suc q.len) q.items))
-          (subst (λ w. every is_none w ≡ true) (drop-cons q.items q.len none-item (omega arith)) (fits-free n q h))
+      after = and_right (is_none (get_or q.items q.len none_item)) (every is_none (drop (suc q.len) q.items))
+          (subst (λ w. every is_none w ≡ true) (drop-cons q.items q.len none_item (omega arith)) (fits_free n q h))
 
       free : every is_none (drop (appended q e a).queue.len (appended q e a).queue.items) ≡ true
-      free = subst (λ x. every is_none (drop x.queue.len x.queue.items) ≡ true) (sym (appended-room q e a m))
+      free = subst (λ x. every is_none (drop x.queue.len x.queue.items) ≡ true) (sym (appended_room q e a m))
           (subst (λ x. every is_none (drop x (set q.items q.len (item e a))) ≡ true) (sym (add-one q.len))
           (subst (λ w. every is_none w ≡ true) (sym (drop-set-lt (suc q.len) q.items q.len (item e a) (omega arith))) after))
 
-  every-drop-1 : (p : Item → Bool) (xs : List Item) → every p xs ≡ true → every p (drop 1 xs) ≡ true
+  every_drop_1 : (p : Item → Bool) (xs : List Item) → every p xs ≡ true → every p (drop 1 xs) ≡ true
   unfolding every
-  every-drop-1 p [] e = refl
-  every-drop-1 p (x ∷ xs) e = and_right (p x) (every p xs) e
+  every_drop_1 p [] e = refl
+  every_drop_1 p (x ∷ xs) e = and_right (p x) (every p xs) e
 
   -- a removal from a queue in which something waits
-  pub removed-fits : 0 < q.len → queue_fits n (removed q).queue ≡ true
+  pub removed_fits : 0 < q.len → queue_fits n (removed q).queue ≡ true
   unfolding every
-  removed-fits m = fits_queue n (removed q).queue len waits free
+  removed_fits m = fits_queue n (removed q).queue len waits free
     where
       k : q.len ≤ QUEUE
-      k = fits-len n q h
+      k = fits_len n q h
 
       len : (removed q).queue.len ≤ QUEUE
-      len = subst (λ x. x.queue.len ≤ QUEUE) (sym (removed-front q m k)) (omega (arith, k))
+      len = subst (λ x. x.queue.len ≤ QUEUE) (sym (removed_front q m k)) (omega (arith, k))
 
       waits : every (item_fits n) (waiting (removed q).queue) ≡ true
-      waits = subst (λ w. every (item_fits n) w ≡ true) (sym (removed-waits q m k l))
-          (every-drop-1 (item_fits n) (waiting q) (fits-waiting n q h))
+      waits = subst (λ w. every (item_fits n) w ≡ true) (sym (removed_waits q m k l))
+          (every_drop_1 (item_fits n) (waiting q) (fits_waiting n q h))
 
-      shift : drop (q.len - 1) (shifted q.items) ≡ drop q.len q.items ++ (none-item ∷ [])
+      shift : drop (q.len - 1) (shifted q.items) ≡ drop q.len q.items ++ (none_item ∷ [])
       shift = drop-append-le (q.len - 1) (drop 1 q.items)
-          (none-item ∷ []) (subst (λ x. q.len - 1 ≤ x) (sym (length-drop 1 q.items)) (omega (arith, k, l)))
-          ∙ ap (λ w. w ++ (none-item ∷ [])) (drop-drop (q.len - 1) 1 q.items ∙ ap (λ i. drop i q.items) one-off)
+          (none_item ∷ []) (subst (λ x. q.len - 1 ≤ x) (sym (length-drop 1 q.items)) (omega (arith, k, l)))
+          ∙ ap (λ w. w ++ (none_item ∷ [])) (drop-drop (q.len - 1) 1 q.items ∙ ap (λ i. drop i q.items) one_off)
         where
-          one-off : 1 + (q.len - 1) ≡ q.len
-          one-off = omega arith
+          one_off : 1 + (q.len - 1) ≡ q.len
+          one_off = omega arith
 
       free : every is_none (drop (removed q).queue.len (removed q).queue.items) ≡ true
-      free = subst (λ x. every is_none (drop x.queue.len x.queue.items) ≡ true) (sym (removed-front q m k))
+      free = subst (λ x. every is_none (drop x.queue.len x.queue.items) ≡ true) (sym (removed_front q m k))
           (subst (λ w. every is_none w ≡ true) (sym shift) (every_append is_none
-          (drop q.len q.items) (none-item ∷ []) (fits-free n q h) (and_both (is_none none-item) true none_is refl)))
+          (drop q.len q.items) (none_item ∷ []) (fits_free n q h) (and_both (is_none none_item) true none_is refl)))

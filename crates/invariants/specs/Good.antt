@@ -11,7 +11,7 @@ use Rattle.meaning.specs.Rules.{within_row}
 use Rattle.meaning.specs.Tree.{is_child, kind_of, var_row}
 use Rattle.meaning.specs.Widget.{Ctx, Entry, changed, entered, left, numbers, sent, taken, told}
 use Rattle.meaning.specs.declared.State.{State}
-use Rattle.meaning.specs.declared.chart.Kind.TheVariants.{O as kind-o}
+use Rattle.meaning.specs.declared.chart.Kind.TheVariants.{O as kind_o}
 use Rattle.meaning.specs.declared.chart.VarRow.{VarRow}
 
 -- the lists of a state at 01's full size, as the declared struct has them
@@ -28,7 +28,7 @@ pub record Values (vs : List VarRow) (xs : List ℤ) : Type 0 where
 
 -- -1, or at an o state its child
 abbrev pub SlotOk : Chart → ℕ → ℤ → Type 0
-SlotOk c s (pos d) = (kind_of c s ≡ kind-o) × (is_child c s d ≡ true) × (d < length c.states)
+SlotOk c s (pos d) = (kind_of c s ≡ kind_o) × (is_child c s d ≡ true) × (d < length c.states)
 SlotOk c s (negsuc n) = n ≡ 0
 
 abbrev pub SlotsOk : Chart → List ℤ → Type 0

@@ -56,11 +56,11 @@ or_off a b p q = rw (p, q)
 -- ---- every element of a list
 
 module _ {A : Type 0} (p : A → Bool) where
-  pub every-at : (xs : List A) → every p xs ≡ true → (i : ℕ) → i < length xs → (d : A) → p (get_or xs i d) ≡ true
+  pub every_at : (xs : List A) → every p xs ≡ true → (i : ℕ) → i < length xs → (d : A) → p (get_or xs i d) ≡ true
   unfolding every
-  every-at [] e i l d = absurd (omega arith)
-  every-at (x ∷ xs) e zero l d = and_left (p x) (every p xs) e
-  every-at (x ∷ xs) e (suc i) l d = every-at xs (and_right (p x) (every p xs) e) i (omega arith) d
+  every_at [] e i l d = absurd (omega arith)
+  every_at (x ∷ xs) e zero l d = and_left (p x) (every p xs) e
+  every_at (x ∷ xs) e (suc i) l d = every_at xs (and_right (p x) (every p xs) e) i (omega arith) d
 
   pub at_every : (xs : List A) (d : A) → ((i : ℕ) → i < length xs → p (get_or xs i d) ≡ true) → every p xs ≡ true
   unfolding every
@@ -73,46 +73,46 @@ module _ {A : Type 0} (p : A → Bool) where
   every_append (x ∷ xs) ys h g =
       and_both (p x) (every p (xs ++ ys)) (and_left (p x) (every p xs) h) (every_append xs ys (and_right (p x) (every p xs) h) g)
 
-  pub every-append-left : (xs ys : List A) → every p (xs ++ ys) ≡ true → every p xs ≡ true
+  pub every_append_left : (xs ys : List A) → every p (xs ++ ys) ≡ true → every p xs ≡ true
   unfolding every
-  every-append-left [] ys h = refl
-  every-append-left (x ∷ xs) ys h = and_both (p x)
-      (every p xs) (and_left (p x) (every p (xs ++ ys)) h) (every-append-left xs ys (and_right (p x) (every p (xs ++ ys)) h))
+  every_append_left [] ys h = refl
+  every_append_left (x ∷ xs) ys h = and_both (p x)
+      (every p xs) (and_left (p x) (every p (xs ++ ys)) h) (every_append_left xs ys (and_right (p x) (every p (xs ++ ys)) h))
 
-  pub every-append-right : (xs ys : List A) → every p (xs ++ ys) ≡ true → every p ys ≡ true
+  pub every_append_right : (xs ys : List A) → every p (xs ++ ys) ≡ true → every p ys ≡ true
   unfolding every
-  every-append-right [] ys h = h
-  every-append-right (x ∷ xs) ys h = every-append-right xs ys (and_right (p x) (every p (xs ++ ys)) h)
+  every_append_right [] ys h = h
+  every_append_right (x ∷ xs) ys h = every_append_right xs ys (and_right (p x) (every p (xs ++ ys)) h)
 
-  pub every-replicate : (n : ℕ) (x : A) → p x ≡ true → every p (replicate n x) ≡ true
+  pub every_replicate : (n : ℕ) (x : A) → p x ≡ true → every p (replicate n x) ≡ true
   unfolding every
-  every-replicate zero x e = refl
-  every-replicate (suc n) x e = and_both (p x) (every p (replicate n x)) e (every-replicate n x e)
+  every_replicate zero x e = refl
+  every_replicate (suc n) x e = and_both (p x) (every p (replicate n x)) e (every_replicate n x e)
 
 -- ---- every number of a range
 
 module _ (p : ℕ → Bool) where
-  pub every-range : (a n : ℕ) → every p (from a n) ≡ true → (x : ℕ) → a ≤ x → x < a + n → p x ≡ true
+  pub every_range : (a n : ℕ) → every p (from a n) ≡ true → (x : ℕ) → a ≤ x → x < a + n → p x ≡ true
   unfolding every from
-  every-range a zero e x l u = absurd (omega arith)
-  every-range a (suc n) e x l u = ⊎_elim
+  every_range a zero e x l u = absurd (omega arith)
+  every_range a (suc n) e x l u = ⊎_elim
       (λ q. rw (← q) (and_left (p a) (every p (from (suc a) n)) e))
-      (λ q. every-range (suc a) n (and_right (p a) (every p (from (suc a) n)) e) x q (omega arith))
+      (λ q. every_range (suc a) n (and_right (p a) (every p (from (suc a) n)) e) x q (omega arith))
       (eq-or-lt_of_le l)
 
-  pub range-every : (a n : ℕ) → ((x : ℕ) → a ≤ x → x < a + n → p x ≡ true) → every p (from a n) ≡ true
+  pub range_every : (a n : ℕ) → ((x : ℕ) → a ≤ x → x < a + n → p x ≡ true) → every p (from a n) ≡ true
   unfolding every from
-  range-every a zero h = refl
-  range-every a (suc n) h = and_both (p a) (every p (from (suc a) n))
-      (h a (omega arith) (omega arith)) (range-every (suc a) n (λ x l u. h x (omega arith) (omega arith)))
+  range_every a zero h = refl
+  range_every a (suc n) h = and_both (p a) (every p (from (suc a) n))
+      (h a (omega arith) (omega arith)) (range_every (suc a) n (λ x l u. h x (omega arith) (omega arith)))
 
   -- of those that q keeps
-  pub every-kept : (q : ℕ → Bool) (a n : ℕ) → every p (keep q (from a n)) ≡ true → (x : ℕ) → a ≤ x → x < a + n → q x ≡ true → p x ≡ true
+  pub every_kept : (q : ℕ → Bool) (a n : ℕ) → every p (keep q (from a n)) ≡ true → (x : ℕ) → a ≤ x → x < a + n → q x ≡ true → p x ≡ true
   unfolding every keep from
-  every-kept q a zero e x l u t = absurd (omega arith)
-  every-kept q a (suc n) e x l u t = ⊎_elim
+  every_kept q a zero e x l u t = absurd (omega arith)
+  every_kept q a (suc n) e x l u t = ⊎_elim
       (λ r. here r (q a) refl e)
-      (λ r. every-kept q (suc a) n (rest (q a) e) x r (omega arith) t)
+      (λ r. every_kept q (suc a) n (rest (q a) e) x r (omega arith) t)
       (eq-or-lt_of_le l)
     where
       rest : (b : Bool) → every p (cond b (a ∷ keep q (from (suc a) n)) (keep q (from (suc a) n))) ≡ true
@@ -124,10 +124,10 @@ module _ (p : ℕ → Bool) where
       here r true s h = rw (← r) (and_left (p a) (every p (keep q (from (suc a) n))) h)
       here r false s h = absurd (true≢false (sym t ∙ rw (← r) s))
 
-  pub kept-every : (q : ℕ → Bool) (a n : ℕ) → ((x : ℕ) → a ≤ x → x < a + n → q x ≡ true → p x ≡ true) → every p (keep q (from a n)) ≡ true
+  pub kept_every : (q : ℕ → Bool) (a n : ℕ) → ((x : ℕ) → a ≤ x → x < a + n → q x ≡ true → p x ≡ true) → every p (keep q (from a n)) ≡ true
   unfolding every keep from
-  kept-every q a zero h = refl
-  kept-every q a (suc n) h = go (q a) refl (kept-every q (suc a) n (λ x l u. h x (omega arith) (omega arith)))
+  kept_every q a zero h = refl
+  kept_every q a (suc n) h = go (q a) refl (kept_every q (suc a) n (λ x l u. h x (omega arith) (omega arith)))
     where
       go : (b : Bool) → q a ≡ b → every p (keep q (from (suc a) n)) ≡ true
           → every p (cond b (a ∷ keep q (from (suc a) n)) (keep q (from (suc a) n))) ≡ true
@@ -168,29 +168,29 @@ module _ {A : Type 0} (P : A → Type 0) where
   each_at (x ∷ xs) (one_more p ps) zero l d = p
   each_at (x ∷ xs) (one_more p ps) (suc i) l d = each_at xs ps i (omega arith) d
 
-  pub each-joined : (xs ys : List A) → Each P xs → Each P ys → Each P (xs ++ ys)
-  each-joined [] ys none_left g = g
-  each-joined (x ∷ xs) ys (one_more p ps) g = one_more p (each-joined xs ys ps g)
+  pub each_joined : (xs ys : List A) → Each P xs → Each P ys → Each P (xs ++ ys)
+  each_joined [] ys none_left g = g
+  each_joined (x ∷ xs) ys (one_more p ps) g = one_more p (each_joined xs ys ps g)
 
-  pub each-kept : (q : A → Bool) (xs : List A) → Each P xs → Each P (keep q xs)
+  pub each_kept : (q : A → Bool) (xs : List A) → Each P xs → Each P (keep q xs)
   unfolding keep
-  each-kept q [] none_left = none_left
-  each-kept q (x ∷ xs) (one_more p ps) = go (q x) (each-kept q xs ps)
+  each_kept q [] none_left = none_left
+  each_kept q (x ∷ xs) (one_more p ps) = go (q x) (each_kept q xs ps)
     where
       go : (b : Bool) → Each P (keep q xs) → Each P (cond b (x ∷ keep q xs) (keep q xs))
       go true ih = one_more p ih
       go false ih = ih
 
-  each-reverse-aux : (xs ys : List A) → Each P xs → Each P ys → Each P (reverse_aux xs ys)
-  each-reverse-aux [] ys none_left g = g
-  each-reverse-aux (x ∷ xs) ys (one_more p ps) g = each-reverse-aux xs (x ∷ ys) ps (one_more p g)
+  each_reverse_aux : (xs ys : List A) → Each P xs → Each P ys → Each P (reverse_aux xs ys)
+  each_reverse_aux [] ys none_left g = g
+  each_reverse_aux (x ∷ xs) ys (one_more p ps) g = each_reverse_aux xs (x ∷ ys) ps (one_more p g)
 
-  pub each-reversed : (xs : List A) → Each P xs → Each P (reverse xs)
-  each-reversed xs h = each-reverse-aux xs [] h none_left
+  pub each_reversed : (xs : List A) → Each P xs → Each P (reverse xs)
+  each_reversed xs h = each_reverse_aux xs [] h none_left
 
-  pub each-mapped : {B : Type 0} (f : B → A) (xs : List B) → Each P (map f xs) → Each (λ x. P (f x)) xs
-  each-mapped f [] h = none_left
-  each-mapped f (x ∷ xs) (one_more p ps) = one_more p (each-mapped f xs ps)
+  pub each_mapped : {B : Type 0} (f : B → A) (xs : List B) → Each P (map f xs) → Each (λ x. P (f x)) xs
+  each_mapped f [] h = none_left
+  each_mapped f (x ∷ xs) (one_more p ps) = one_more p (each_mapped f xs ps)
 
   pub each_collected : {B : Type 0} (f : B → List A) (q : B → Bool) (xs : List B)
       → ((x : B) → q x ≡ true → Each P (f x)) → Each P (concat_map f (keep q xs))
@@ -199,12 +199,12 @@ module _ {A : Type 0} (P : A → Type 0) where
   each_collected f q (x ∷ xs) h = go (q x) refl (each_collected f q xs h)
     where
       go : (b : Bool) → q x ≡ b → Each P (concat_map f (keep q xs)) → Each P (concat_map f (cond b (x ∷ keep q xs) (keep q xs)))
-      go true e ih = each-joined (f x) (concat_map f (keep q xs)) (h x e) ih
+      go true e ih = each_joined (f x) (concat_map f (keep q xs)) (h x e) ih
       go false e ih = ih
 
-  pub each-weaker : (Q : A → Type 0) (xs : List A) → ((x : A) → P x → Q x) → Each P xs → Each Q xs
-  each-weaker Q [] f none_left = none_left
-  each-weaker Q (x ∷ xs) f (one_more p ps) = one_more (f x p) (each-weaker Q xs f ps)
+  pub each_weaker : (Q : A → Type 0) (xs : List A) → ((x : A) → P x → Q x) → Each P xs → Each Q xs
+  each_weaker Q [] f none_left = none_left
+  each_weaker Q (x ∷ xs) f (one_more p ps) = one_more (f x p) (each_weaker Q xs f ps)
 
 pub each_both : {A : Type 0} (P Q : A → Type 0) (xs : List A) → Each P xs → Each Q xs → Each (λ x. P x × Q x) xs
 each_both P Q [] none_left none_left = none_left

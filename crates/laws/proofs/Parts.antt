@@ -32,23 +32,23 @@ same_self r = eq-eqb (name r) (name r) refl
 
 -- a letter that names a record of which there may be some is its name
 module _ (x n : ℕ) where
-  named-in-is : (rs : List Record) → n < most (named_in rs x) → x ≡ name (named_in rs x)
-  named-in-is [] h = absurd (omega arith)
-  named-in-is (r ∷ rs) h = go (eqb x (name r)) refl h (named-in-is rs)
+  named_in_is : (rs : List Record) → n < most (named_in rs x) → x ≡ name (named_in rs x)
+  named_in_is [] h = absurd (omega arith)
+  named_in_is (r ∷ rs) h = go (eqb x (name r)) refl h (named_in_is rs)
     where
       go : (t : Bool) → eqb x (name r) ≡ t → n < most (cond t r (named_in rs x)) → (n < most (named_in rs x) → x ≡ name (named_in rs x))
           → x ≡ name (cond t r (named_in rs x))
       go true e h ih = eqb-true x (name r) e
       go false e h ih = ih h
 
-  pub named-is : n < most (record_by x) → x ≡ name (record_by x)
+  pub named_is : n < most (record_by x) → x ≡ name (record_by x)
   unfolding record_by
-  named-is h = named-in-is ORDER h
+  named_is h = named_in_is ORDER h
 
-  every-named : (f : Record → Bool) (rs : List Record) → every f rs ≡ true → n < most (named_in rs x) → f (named_in rs x) ≡ true
+  every_named : (f : Record → Bool) (rs : List Record) → every f rs ≡ true → n < most (named_in rs x) → f (named_in rs x) ≡ true
   unfolding every
-  every-named f [] e h = absurd (omega arith)
-  every-named f (r ∷ rs) e h = go (eqb x (name r)) h (every-named f rs (and_right (f r) (every f rs) e))
+  every_named f [] e h = absurd (omega arith)
+  every_named f (r ∷ rs) e h = go (eqb x (name r)) h (every_named f rs (and_right (f r) (every f rs) e))
     where
       go : (t : Bool) → n < most (cond t r (named_in rs x)) → (n < most (named_in rs x) → f (named_in rs x) ≡ true)
           → f (cond t r (named_in rs x)) ≡ true
@@ -58,7 +58,7 @@ module _ (x n : ℕ) where
 -- what a test says of each kind in the order holds of any kind of which there may be some
 pub every_record : (f : Record → Bool) → every f ORDER ≡ true → (r : Record) (n : ℕ) → n < most r → f r ≡ true
 unfolding record_by
-every_record f e r n h = rw (named r) at (every-named (name r) n f ORDER e (rw (← named r) at h))
+every_record f e r n h = rw (named r) at (every_named (name r) n f ORDER e (rw (← named r) at h))
 
 -- ---- parts
 

@@ -17,7 +17,7 @@ use Rattle.laws.specs.Facts.{Ordered, Under, child, deeper}
 use Rattle.meaning.specs.Chart.{Chart}
 use Rattle.meaning.specs.Lists.{first_that, has}
 use Rattle.meaning.specs.Tree.{ancestors, is_o, kind_of, parent_of, scope}
-use Rattle.meaning.specs.declared.chart.Kind.TheVariants.{O as kind-o}
+use Rattle.meaning.specs.declared.chart.Kind.TheVariants.{O as kind_o}
 
 -- the root is above every other state
 above_by : (c : Chart) (n p : ℕ) → parent_of c (suc n) ≡ p → ((m : ℕ) → p ≡ suc m → Under c 0 (suc m)) → Under c 0 (suc n)
@@ -48,7 +48,7 @@ first_found p (y ∷ ys) x h e = go (p y) refl (λ q. first_found p ys x q e)
         (or_cases (eqb x y) (has x ys) h)
 
 pub record ScopeFacts (c : Chart) (s t x : ℕ) : Type 0 where
-  pub kind : kind_of c x ≡ kind-o
+  pub kind : kind_of c x ≡ kind_o
   pub inside : x < length c.states
   pub above_source : Under c x s
   pub above_target : Under c x t

@@ -10,11 +10,11 @@ use lib.ListN.{get_or, length}
 use lib.Dec.{leb}
 use lib.Signed.{le_z}
 use borrow.Author.Tests.{eq-eqb, eqb-true, leb-true, ltb-true}
-use Rattle.laws.proofs.Lists.{and_left, and_right, every-at, every-kept, every-range, is_false, kept-every, le_or_lt}
+use Rattle.laws.proofs.Lists.{and_left, and_right, every_at, every_kept, every_range, is_false, kept_every, le_or_lt}
 use Rattle.laws.specs.Facts.{Each, Ordered, none_left, one_more}
 use Rattle.laws.proofs.Rules.{ActFacts, OwnerFacts, RulesHold, TransitionFacts, a_inside, act_facts, not_o_of_a}
-use Rattle.laws.proofs.Rules.{o_inside, o_of, ordered-2}
-use Rattle.laws.proofs.Rules.{outside-parent, owner_facts, rules_hold, transition_facts}
+use Rattle.laws.proofs.Rules.{o_inside, o_of, ordered_2}
+use Rattle.laws.proofs.Rules.{outside_parent, owner_facts, rules_hold, transition_facts}
 use Rattle.laws.proofs.Tree.{keep_none}
 use Rattle.meaning.specs.Chart.{Chart, no_action, no_trans, no_var}
 use Rattle.meaning.specs.Effects.{acts_in, acts_of, same_owner}
@@ -26,7 +26,7 @@ use Rattle.meaning.specs.Tree.{all_states, children, default_child, is_child, is
 use Rattle.meaning.specs.declared.chart.Act.{Act}
 use Rattle.meaning.specs.declared.chart.ActRow.{ActRow}
 use Rattle.meaning.specs.declared.chart.Kind.{Kind}
-use Rattle.meaning.specs.declared.chart.Kind.TheVariants.{A as kind-a, B as kind-b, O as kind-o}
+use Rattle.meaning.specs.declared.chart.Kind.TheVariants.{A as kind_a, B as kind_b, O as kind_o}
 use Rattle.meaning.specs.declared.chart.Owner.{Owner}
 
 -- ---- children
@@ -51,7 +51,7 @@ child_later c o s (suc n) e = omega (arith, child_parent c s n e, o.falls n)
 -- a child of another state than the root is one of the chart's
 pub child_inside : (c : Chart) (s y : ℕ) → 0 < s → is_child c s y ≡ true → y < length c.states
 child_inside c s zero h e = absurd (no_root_child c s e)
-child_inside c s (suc n) h e = ⊎_elim (λ l. absurd (omega (arith, outside-parent c (suc n) l, child_parent c s n e)))
+child_inside c s (suc n) h e = ⊎_elim (λ l. absurd (omega (arith, outside_parent c (suc n) l, child_parent c s n e)))
     (λ l. l) (le_or_lt (length c.states) (suc n))
 
 pub no_children : (c : Chart) (s : ℕ) → ((y : ℕ) → y < length c.states → is_child c s y ≡ true → ⊥) → children c s ≡ []
@@ -61,28 +61,28 @@ no_children c s h = keep_none (is_child c s) 0 (length c.states) (λ y l u. is_f
 pub every_child : (c : Chart) (p : ℕ → Bool) (s : ℕ)
     → every p (children c s) ≡ true → (y : ℕ) → y < length c.states → is_child c s y ≡ true → p y ≡ true
 unfolding children all_states
-every_child c p s e y l t = every-kept p (is_child c s) 0 (length c.states) e y (omega arith) (omega arith) t
+every_child c p s e y l t = every_kept p (is_child c s) 0 (length c.states) e y (omega arith) (omega arith) t
 
 pub child_every : (c : Chart) (p : ℕ → Bool) (s : ℕ)
     → ((y : ℕ) → y < length c.states → is_child c s y ≡ true → p y ≡ true) → every p (children c s) ≡ true
 unfolding children all_states
-child_every c p s h = kept-every p (is_child c s) 0 (length c.states) (λ y l u t. h y (omega arith) t)
+child_every c p s h = kept_every p (is_child c s) 0 (length c.states) (λ y l u t. h y (omega arith) t)
 
 -- ---- the record
 
 pub record SoundChart (c : Chart) : Type 0 where
   -- R1
   pub two : 2 ≤ length c.states
-  pub root_o : kind_of c 0 ≡ kind-o
+  pub root_o : kind_of c 0 ≡ kind_o
   -- R2
   pub ordered : Ordered c
   -- R3
-  pub leaf : (s : ℕ) → kind_of c s ≡ kind-b → children c s ≡ []
-  pub o_has : (s : ℕ) → kind_of c s ≡ kind-o → 1 ≤ length (children c s)
-  pub a_has : (s : ℕ) → kind_of c s ≡ kind-a → 2 ≤ length (children c s)
-  pub components : (s y : ℕ) → kind_of c s ≡ kind-a → is_child c s y ≡ true → kind_of c y ≡ kind-o
+  pub leaf : (s : ℕ) → kind_of c s ≡ kind_b → children c s ≡ []
+  pub o_has : (s : ℕ) → kind_of c s ≡ kind_o → 1 ≤ length (children c s)
+  pub a_has : (s : ℕ) → kind_of c s ≡ kind_a → 2 ≤ length (children c s)
+  pub components : (s y : ℕ) → kind_of c s ≡ kind_a → is_child c s y ≡ true → kind_of c y ≡ kind_o
   -- R4
-  pub default : (s : ℕ) → kind_of c s ≡ kind-o → (is_child c s (default_child c s) ≡ true) × (default_child c s < length c.states)
+  pub default : (s : ℕ) → kind_of c s ≡ kind_o → (is_child c s (default_child c s) ≡ true) × (default_child c s < length c.states)
   -- R5
   pub rows : (v : ℕ) → v < length c.vars
       → (le_z (var_row c.vars v).low (var_row c.vars v).first ≡ true)
@@ -101,104 +101,104 @@ nothing_of (x ∷ l) e = absurd (omega arith)
 
 module _ (c : Chart) (r : RulesHold c) where
   order : Ordered c
-  order = ordered-2 c r.r2
+  order = ordered_2 c r.r2
 
-  fits-1 : (2 ≤ length c.states) × (kind_of c 0 ≡ kind-o)
+  fits_1 : (2 ≤ length c.states) × (kind_of c 0 ≡ kind_o)
   unfolding rule_1
-  fits-1 = (
+  fits_1 = (
     leb-true _ _ (and_left (leb 2 (length c.states)) (is_o (kind_of c 0)) r.r1),
     o_of _ (and_right (leb 2 (length c.states)) (is_o (kind_of c 0)) r.r1),
   )
 
-  fits-3 : (s : ℕ) → s < length c.states → (k : Kind) → kind_of c s ≡ k → children_fit c k (children c s) ≡ true
+  fits_3 : (s : ℕ) → s < length c.states → (k : Kind) → kind_of c s ≡ k → children_fit c k (children c s) ≡ true
   unfolding rule_3 all_states
-  fits-3 s l k e = subst (λ x. children_fit c x (children c s) ≡ true) e
-      (every-range (λ x. children_fit c (kind_of c x) (children c x)) 0 (length c.states) r.r3 s (omega arith) (omega arith))
+  fits_3 s l k e = subst (λ x. children_fit c x (children c s) ≡ true) e
+      (every_range (λ x. children_fit c (kind_of c x) (children c x)) 0 (length c.states) r.r3 s (omega arith) (omega arith))
 
-  fits-4 : (s : ℕ) → s < length c.states → (k : Kind) → kind_of c s ≡ k → default_fits c s k ≡ true
+  fits_4 : (s : ℕ) → s < length c.states → (k : Kind) → kind_of c s ≡ k → default_fits c s k ≡ true
   unfolding rule_4 all_states
-  fits-4 s l k e = subst (λ x. default_fits c s x ≡ true) e
-      (every-range (λ x. default_fits c x (kind_of c x)) 0 (length c.states) r.r4 s (omega arith) (omega arith))
+  fits_4 s l k e = subst (λ x. default_fits c s x ≡ true) e
+      (every_range (λ x. default_fits c x (kind_of c x)) 0 (length c.states) r.r4 s (omega arith) (omega arith))
 
-  leaf-3 : (s : ℕ) → kind_of c s ≡ kind-b → children c s ≡ []
+  leaf_3 : (s : ℕ) → kind_of c s ≡ kind_b → children c s ≡ []
   unfolding children_fit
-  leaf-3 s k = ⊎_elim
+  leaf_3 s k = ⊎_elim
       (λ l. no_children c s (λ y u t. omega (arith, child_later c order s y t)))
-      (λ l. nothing_of _ (eqb-true _ _ (fits-3 s l kind-b k)))
+      (λ l. nothing_of _ (eqb-true _ _ (fits_3 s l kind_b k)))
       (le_or_lt (length c.states) s)
 
-  o-3 : (s : ℕ) → kind_of c s ≡ kind-o → 1 ≤ length (children c s)
+  o_3 : (s : ℕ) → kind_of c s ≡ kind_o → 1 ≤ length (children c s)
   unfolding children_fit
-  o-3 s k = leb-true _ _ (fits-3 s (o_inside c s k) kind-o k)
+  o_3 s k = leb-true _ _ (fits_3 s (o_inside c s k) kind_o k)
 
-  a_3 : (s : ℕ) → kind_of c s ≡ kind-a → (2 ≤ length (children c s)) × (every (λ d. is_o (kind_of c d)) (children c s) ≡ true)
+  a_3 : (s : ℕ) → kind_of c s ≡ kind_a → (2 ≤ length (children c s)) × (every (λ d. is_o (kind_of c d)) (children c s) ≡ true)
   unfolding children_fit
   a_3 s k = (
     leb-true _ _ (and_left (leb 2 (length (children c s)))
-        (every (λ d. is_o (kind_of c d)) (children c s)) (fits-3 s (a_inside c s k) kind-a k)),
-    and_right (leb 2 (length (children c s))) (every (λ d. is_o (kind_of c d)) (children c s)) (fits-3 s (a_inside c s k) kind-a k),
+        (every (λ d. is_o (kind_of c d)) (children c s)) (fits_3 s (a_inside c s k) kind_a k)),
+    and_right (leb 2 (length (children c s))) (every (λ d. is_o (kind_of c d)) (children c s)) (fits_3 s (a_inside c s k) kind_a k),
   )
 
-  not_root : (s : ℕ) → kind_of c s ≡ kind-a → 0 < s
-  not_root zero k = absurd (not_o_of_a _ k fits-1.1)
+  not_root : (s : ℕ) → kind_of c s ≡ kind_a → 0 < s
+  not_root zero k = absurd (not_o_of_a _ k fits_1.1)
   not_root (suc s) k = omega arith
 
-  components-3 : (s y : ℕ) → kind_of c s ≡ kind-a → is_child c s y ≡ true → kind_of c y ≡ kind-o
-  components-3 s y k t = o_of _ (every_child c (λ d. is_o (kind_of c d)) s (a_3 s k).1 y (child_inside c s y (not_root s k) t) t)
+  components_3 : (s y : ℕ) → kind_of c s ≡ kind_a → is_child c s y ≡ true → kind_of c y ≡ kind_o
+  components_3 s y k t = o_of _ (every_child c (λ d. is_o (kind_of c d)) s (a_3 s k).1 y (child_inside c s y (not_root s k) t) t)
 
-  default-4 : (s : ℕ) → kind_of c s ≡ kind-o → (is_child c s (default_child c s) ≡ true) × (default_child c s < length c.states)
+  default_4 : (s : ℕ) → kind_of c s ≡ kind_o → (is_child c s (default_child c s) ≡ true) × (default_child c s < length c.states)
   unfolding default_fits
-  default-4 s k =
-      let e = fits-4 s (o_inside c s k) kind-o k in (
+  default_4 s k =
+      let e = fits_4 s (o_inside c s k) kind_o k in (
         and_right (is_state c (default_child c s)) (is_child c s (default_child c s)) e,
         ltb-true _ _ (and_left (is_state c (default_child c s)) (is_child c s (default_child c s)) e),
       )
 
-  rows-5 : (v : ℕ) → v < length c.vars
+  rows_5 : (v : ℕ) → v < length c.vars
       → (le_z (var_row c.vars v).low (var_row c.vars v).first ≡ true)
       × (le_z (var_row c.vars v).first (var_row c.vars v).high ≡ true)
   unfolding rule_5 row_fits var_row
-  rows-5 v l =
-      let e = every-at row_fits c.vars r.r5 v l no_var in
+  rows_5 v l =
+      let e = every_at row_fits c.vars r.r5 v l no_var in
       let x = get_or c.vars v no_var in
       (and_left (le_z x.low x.first) (le_z x.first x.high) e, and_right (le_z x.low x.first) (le_z x.first x.high) e)
 
-  transitions-6 : (t : ℕ) → t < length c.transitions → TransitionFacts c (trans_row c t)
+  transitions_6 : (t : ℕ) → t < length c.transitions → TransitionFacts c (trans_row c t)
   unfolding rule_6 trans_row
-  transitions-6 t l = transition_facts c (get_or c.transitions t no_trans)
-      (every-at (transition_fits c) c.transitions r.r6 t l no_trans)
+  transitions_6 t l = transition_facts c (get_or c.transitions t no_trans)
+      (every_at (transition_fits c) c.transitions r.r6 t l no_trans)
 
-  actions-7 : (i : ℕ) → i < length c.actions → action_fits c (get_or c.actions i no_action) ≡ true
+  actions_7 : (i : ℕ) → i < length c.actions → action_fits c (get_or c.actions i no_action) ≡ true
   unfolding rule_7
-  actions-7 i l = every-at (action_fits c) c.actions r.r7 i l no_action
+  actions_7 i l = every_at (action_fits c) c.actions r.r7 i l no_action
 
-  rules-sound : SoundChart c
+  rules_sound : SoundChart c
   unfolding action_fits
-  rules-sound = record {
-    two = fits-1.0;
-    root_o = fits-1.1;
+  rules_sound = record {
+    two = fits_1.0;
+    root_o = fits_1.1;
     ordered = order;
-    leaf = leaf-3;
-    o_has = o-3;
+    leaf = leaf_3;
+    o_has = o_3;
     a_has = λ s k. (a_3 s k).0;
-    components = components-3;
-    default = default-4;
-    rows = rows-5;
-    transitions = transitions-6;
+    components = components_3;
+    default = default_4;
+    rows = rows_5;
+    transitions = transitions_6;
     owners = λ i l. let x = get_or c.actions i no_action in
-        owner_facts c x.owner (and_left (owner_fits c x.owner) (act_fits c x.act) (actions-7 i l));
+        owner_facts c x.owner (and_left (owner_fits c x.owner) (act_fits c x.act) (actions_7 i l));
     acts = λ i l. let x = get_or c.actions i no_action in
-        act_facts c x.act (and_right (owner_fits c x.owner) (act_fits c x.act) (actions-7 i l));
+        act_facts c x.act (and_right (owner_fits c x.owner) (act_fits c x.act) (actions_7 i l));
   }
 
 -- a chart that passes the rules is sound
 pub sound_chart : (c : Chart) → failing_rule c ≡ none → SoundChart c
-sound_chart c e = rules-sound c (rules_hold c e)
+sound_chart c e = rules_sound c (rules_hold c e)
 
 -- ---- what follows
 
 -- an a state is not the root
-pub a_not_root : (c : Chart) → SoundChart c → (s : ℕ) → kind_of c s ≡ kind-a → 0 < s
+pub a_not_root : (c : Chart) → SoundChart c → (s : ℕ) → kind_of c s ≡ kind_a → 0 < s
 a_not_root c h zero k = absurd (not_o_of_a _ k h.root_o)
 a_not_root c h (suc s) k = omega arith
 

@@ -9,7 +9,7 @@ use lib.ListN.{length, length-append}
 use lib.Dec.{leb}
 use lib.IntN.{ℤ}
 use borrow.Author.Tests.{leb-true}
-use Rattle.laws.proofs.Stays.{Plain, react-plain, require-stays, start_plain, then-stays}
+use Rattle.laws.proofs.Stays.{Plain, react_plain, require_stays, start_plain, then_stays}
 use Rattle.laws.proofs.Steps.{Holds}
 use Rattle.meaning.specs.Calls.{Outcome, called, fresh, outcome, react, as_found, run, start, start_steps, tests}
 use Rattle.meaning.specs.Chart.{Chart}
@@ -52,10 +52,10 @@ pub numbers_long : (es : List Entry) → length (concat_map numbers es) ≡ ENTR
 unfolding concat_map
 numbers_long [] = refl
 numbers_long (e ∷ es) = length-append (numbers e) (concat_map numbers es) ∙ ap (λ i. i + length (concat_map numbers es))
-    (entry_long e) ∙ ap (λ i. ENTRY + i) (numbers_long es) ∙ one-more-entry (length es)
+    (entry_long e) ∙ ap (λ i. ENTRY + i) (numbers_long es) ∙ one_more_entry (length es)
   where
-    one-more-entry : (n : ℕ) → ENTRY + ENTRY * n ≡ ENTRY * suc n
-    one-more-entry n = omega arith
+    one_more_entry : (n : ℕ) → ENTRY + ENTRY * n ≡ ENTRY * suc n
+    one_more_entry n = omega arith
 
 written_plain : (n : ℕ) → Plain (Written n)
 unfolding emit add_numbers change ◌then◌ require bind
@@ -99,9 +99,9 @@ start_fits c u n = outcome_fits n u (start_steps c (begin (fresh c) n))
 pub run_fits : (c : Chart) (u : State) (n : ℕ) → FitsRoom n (run c u n)
 unfolding run tests
 run_fits c u n = outcome_fits n u ((tests c u then react c (removed u.queue)) (begin u n))
-    (then-stays (Written n) (tests c u) (react c (removed u.queue)) (then-stays (Written n) (require 7 u.started)
-    (require 6 (own c u)) (require-stays (Written n) 7 u.started) (require-stays (Written n) 6 (own c u)))
-    (react-plain (Written n) (written_plain n) c (removed u.queue)) (begin u n) (begin_written u n))
+    (then_stays (Written n) (tests c u) (react c (removed u.queue)) (then_stays (Written n) (require 7 u.started)
+    (require 6 (own c u)) (require_stays (Written n) 7 u.started) (require_stays (Written n) 6 (own c u)))
+    (react_plain (Written n) (written_plain n) c (removed u.queue)) (begin u n) (begin_written u n))
 
 -- the count of entries that a call hands out is that of the entries written
 pub count_of : (n : ℕ) (o : Outcome) (f : FitsRoom n o) → (called o).entries ≡ length f.entries.0

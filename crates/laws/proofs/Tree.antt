@@ -20,9 +20,9 @@ under_trans {c} {a} u (child e) = deeper (subst (Under c a) (sym e) u)
 under_trans u (deeper v) = deeper (under_trans u v)
 
 module _ (c : Chart) (o : Ordered c) where
-  pub under-lt : {s d : ℕ} → Under c s d → s < d
-  under-lt (child {n} e) = omega (arith, o.falls n, e)
-  under-lt (deeper {n} u) = omega (arith, o.falls n, under-lt u)
+  pub under_lt : {s d : ℕ} → Under c s d → s < d
+  under_lt (child {n} e) = omega (arith, o.falls n, e)
+  under_lt (deeper {n} u) = omega (arith, o.falls n, under_lt u)
 
   pub step_down : (s n : ℕ) → suc n < length c.states → Under c s (suc n) → (s ≡ n) ⊎ Under c s n
   step_down s n h (child e) = ⊎_elim (λ q. inl (sym e ∙ q)) (λ q. inr (subst (λ x. Under c x n) e q)) (o.follows n h)
@@ -43,6 +43,8 @@ climb_under c s (suc f) (suc n) e =
 
 pub under_climb : (c : Chart) → Ordered c → (s f d : ℕ) → d ≤ f → Under c s d → has s (climb c f d) ≡ true
 unfolding climb has
+under_climb c o s zero zero h u = elim u [ ]
+under_climb c o s (suc f) zero h u = elim u [ ]
 under_climb c o s zero (suc n) h u = absurd (omega arith)
 under_climb c o s (suc f) (suc n) h (child e) = or_left (eqb s (parent_of c (suc n))) _ (eq-eqb _ _ (sym e))
 under_climb c o s (suc f) (suc n) h (deeper u) =
@@ -116,14 +118,14 @@ module _ (c : Chart) (o : Ordered c) (s : ℕ) (h : s < length c.states) where
   down : Closed (λ d. has s (ancestors c d)) (suc s) (length c.states)
   down x l g e = ⊎_elim (λ q. absurd (omega arith)) (λ u. under_has c o s x u) (step_down c o s x g (has_under c s (suc x) e))
 
-  none-up-to : (x : ℕ) → x < suc s → has s (ancestors c x) ≡ false
-  none-up-to x g = is_false _ (λ e. let u : s < x = under-lt c o (has_under c s x e) in absurd (omega arith))
+  none_up_to : (x : ℕ) → x < suc s → has s (ancestors c x) ≡ false
+  none_up_to x g = is_false _ (λ e. let u : s < x = under_lt c o (has_under c s x e) in absurd (omega arith))
 
-  size-split : length c.states ≡ suc s + (length c.states - suc s)
-  size-split = omega arith
+  size_split : length c.states ≡ suc s + (length c.states - suc s)
+  size_split = omega arith
 
   pub range : descendants c s ≡ from (suc s) (length (descendants c s))
   unfolding descendants all_states
   range = subst (λ n. Closed (λ d. has s (ancestors c d)) (suc s) n
       → keep (λ d. has s (ancestors c d)) (from 0 n) ≡ from (suc s) (length (keep (λ d. has s (ancestors c d)) (from 0 n))))
-      (sym size-split) (keep_range (λ d. has s (ancestors c d)) (suc s) (length c.states - suc s) none-up-to) down
+      (sym size_split) (keep_range (λ d. has s (ancestors c d)) (suc s) (length c.states - suc s) none_up_to) down

@@ -22,7 +22,7 @@ use Rattle.meaning.specs.Value.{Part, laid, PARTS, same_part, num, is_letter, is
 use Rattle.meaning.specs.Value.{trans_by}
 use Rattle.meaning.specs.Value.{act_by, action_by, chart_by, chart_of, size_by, rows_of, count_fits, fits, statable, part_fits, rule_0}
 use Rattle.meaning.specs.declared.chart.Act.{Act}
-use Rattle.meaning.specs.declared.chart.Act.TheVariants.{AddTo as add_to, Send as send, SetTo as set_to, TakeTo as take-to, Tell as tell}
+use Rattle.meaning.specs.declared.chart.Act.TheVariants.{AddTo as add_to, Send as send, SetTo as set_to, TakeTo as take_to, Tell as tell}
 use Rattle.meaning.specs.declared.chart.Guard.{Guard}
 use Rattle.meaning.specs.declared.chart.Guard.TheVariants.{Always as always, Compares as compares}
 use Rattle.meaning.specs.declared.chart.Sign.TheVariants.{Equal as equal, Less as less, More as more}
@@ -37,7 +37,7 @@ use Rattle.sizes.specs.Sizes.{ACTIONS, EVENTS, STATES, TRANSITIONS, VARIABLES}
 abbrev pub ActInRange : Act → Type 0
 ActInRange (set_to v x) = in_range x ≡ true
 ActInRange (add_to v x) = in_range x ≡ true
-ActInRange (take-to v) = Unit {0}
+ActInRange (take_to v) = Unit {0}
 ActInRange (send e x) = in_range x ≡ true
 ActInRange (tell x) = in_range x ≡ true
 
@@ -114,13 +114,13 @@ module _ (a x y : ℤ) (e : (one_of_letters (bytes "saq") a && (in_range x && in
       go false true false e = e
       go false false false e = e
 
-  act-range-by : ActInRange (act_by a x y)
+  act_range_by : ActInRange (act_by a x y)
   unfolding act_by
-  act-range-by = go (is_letter 115 a) (is_letter 97 a) (is_letter 107 a) (is_letter 113 a) refl refl refl
+  act_range_by = go (is_letter 115 a) (is_letter 97 a) (is_letter 107 a) (is_letter 113 a) refl refl refl
     where
       go : (s p k q : Bool) → is_letter 115 a ≡ s → is_letter 97 a ≡ p → is_letter 113 a ≡ q
           → ActInRange
-          (cond s (set_to (ref x) y) (cond p (add_to (ref x) y) (cond k (take-to (ref x)) (cond q (send (ref x) y) (tell x)))))
+          (cond s (set_to (ref x) y) (cond p (add_to (ref x) y) (cond k (take_to (ref x)) (cond q (send (ref x) y) (tell x)))))
       go true p k q hs hp hq = second_range 115 hs refl refl
       go false true k q hs hp hq = second_range 97 hp refl refl
       go false false true q hs hp hq = tt
@@ -132,16 +132,16 @@ unfolding statable action_by
 act_range row e =
     let l0 = (one_of_letters (bytes "saq") (num row 2) && (in_range (num row 3) && in_range (num row 4)))
     || (one_of_letters (bytes "ko") (num row 2) && (in_range (num row 3) && is_absent (num row 4))) in
-    act-range-by (num row 2) (num row 3) (num row 4)
+    act_range_by (num row 2) (num row 3) (num row 4)
     (and_right (in_range (num row 1)) l0 (and_right (one_of_letters (bytes "exdt") (num row 0)) (in_range (num row 1) && l0) e))
 
 module _
     (v g x : ℤ) (t : Bool)
     (e : (is_absent v && (is_absent g && (is_absent x && t))) || (in_range v && (one_of_letters (bytes "=<>") g && (in_range x && t))) ≡ true)
   where
-    constant-range : (l : ℕ) → is_letter l g ≡ true → one_of_letters (bytes "=<>") (pos l) ≡ true → in_range x ≡ true
+    constant_range : (l : ℕ) → is_letter l g ≡ true → one_of_letters (bytes "=<>") (pos l) ≡ true → in_range x ≡ true
     unfolding is_absent
-    constant-range l h p = go (is_absent v) (in_range v) (in_range x) (rw (eq_z_true g (pos l) h, p) at e)
+    constant_range l h p = go (is_absent v) (in_range v) (in_range x) (rw (eq_z_true g (pos l) h, p) at e)
       where
         go : (a s r : Bool) → (a && false) || (s && (r && t)) ≡ true → r ≡ true
         go a s true e = refl
@@ -150,22 +150,22 @@ module _
         go false true false e = e
         go false false false e = e
 
-    guard-range-by : GuardInRange (guard_by v g x)
+    guard_range_by : GuardInRange (guard_by v g x)
     unfolding guard_by
-    guard-range-by = go (is_letter 61 g) (is_letter 60 g) (is_letter 62 g) refl refl refl
+    guard_range_by = go (is_letter 61 g) (is_letter 60 g) (is_letter 62 g) refl refl refl
       where
         go : (p q r : Bool) → is_letter 61 g ≡ p → is_letter 60 g ≡ q → is_letter 62 g ≡ r
             → GuardInRange
             (cond p (compares (ref v) equal x) (cond q (compares (ref v) less x) (cond r (compares (ref v) more x) always)))
-        go true q r hp hq hr = constant-range 61 hp refl
-        go false true r hp hq hr = constant-range 60 hq refl
-        go false false true hp hq hr = constant-range 62 hr refl
+        go true q r hp hq hr = constant_range 61 hp refl
+        go false true r hp hq hr = constant_range 60 hq refl
+        go false false true hp hq hr = constant_range 62 hr refl
         go false false false hp hq hr = tt
 
 guard_range : (row : List ℤ) → statable t_record 0 row ≡ true → GuardInRange (trans_by row).guard
 unfolding statable trans_by
 guard_range row e =
-    guard-range-by (num row 2) (num row 3) (num row 4) (fits target 5 row)
+    guard_range_by (num row 2) (num row 3) (num row 4) (fits target 5 row)
     (and_right (in_range (num row 1)) (fits guard 2 row) (and_right (in_range (num row 0)) (in_range (num row 1) && fits guard 2 row) e))
 
 row_range : (row : List ℤ) → statable v_record 0 row ≡ true → RowInRange (var_by row)
@@ -180,41 +180,41 @@ row_range row e =
 
 -- a value that keeps R0: each part of it fits
 module _ (v : List ℤ) (e : rule_0 v ≡ true) where
-  pub part-ok : (p : Part) → exists (same_part p) PARTS ≡ true → part_fits v p ≡ true
+  pub part_ok : (p : Part) → exists (same_part p) PARTS ≡ true → part_fits v p ≡ true
   unfolding rule_0
-  part-ok p h = every_part (part_fits v) PARTS (and_right (leb VALUE (length v)) (every (part_fits v) PARTS) e) p h
+  part_ok p h = every_part (part_fits v) PARTS (and_right (leb VALUE (length v)) (every (part_fits v) PARTS) e) p h
 
   -- row i of a kind can be stated
   pub row_ok : (r : Record) → exists (same_part (laid r)) PARTS ≡ true → (i : ℕ) → i < length (rows_of v r)
       → statable r i (get_or (rows_of v r) i []) ≡ true
-  row_ok r h i l = let z : 0 + i ≡ i = omega arith in rw z at (every_from_at (statable r) 0 (rows_of v r) (part-ok (laid r) h) i l [])
+  row_ok r h i l = let z : 0 + i ≡ i = omega arith in rw z at (every_from_at (statable r) 0 (rows_of v r) (part_ok (laid r) h) i l [])
 
   -- what each row is taken for has the property that rows which can be stated have
-  all-rows : {A : Type 0} (P : A → Type 0) (f : List ℤ → A) (r : Record) (d : A) → exists (same_part (laid r)) PARTS ≡ true
+  all_rows : {A : Type 0} (P : A → Type 0) (f : List ℤ → A) (r : Record) (d : A) → exists (same_part (laid r)) PARTS ≡ true
       → ((i : ℕ) (row : List ℤ) → statable r i row ≡ true → P (f row))
       → (i : ℕ) → i < length (map f (rows_of v r)) → P (get_or (map f (rows_of v r)) i d)
-  all-rows P f r d h g i l =
+  all_rows P f r d h g i l =
       let k : i < length (rows_of v r) = rw (length-map (rows_of v r) f) at l in
       subst P (sym (get_d_map f (rows_of v r) i d [] k)) (g i (get_or (rows_of v r) i []) (row_ok r h i k))
 
-  few-rows : {A : Type 0} (f : List ℤ → A) (r : Record) → length (map f (rows_of v r)) ≤ most r
+  few_rows : {A : Type 0} (f : List ℤ → A) (r : Record) → length (map f (rows_of v r)) ≤ most r
   unfolding rows_of
-  few-rows f r =
+  few_rows f r =
       rw (length-map (rows_of v r) f, length_chunks (how_many v r) (row_size r) (drop (place (laid r)) v)) (many_few v r)
 
   -- it states a chart of 01's sizes
-  pub sized-chart : SizedChart (chart_of v)
+  pub sized_chart : SizedChart (chart_of v)
   unfolding chart_of chart_by rows_of statable every_from exists var_row trans_row chunks
-  sized-chart = record {
-    states = few-rows state_by s_record;
-    vars = few-rows var_by v_record;
+  sized_chart = record {
+    states = few_rows state_by s_record;
+    vars = few_rows var_by v_record;
     events = let row : List ℤ = take 1 (drop 2 v) in
-        ref_most EVENTS (num row 0) (and_left (count_fits 0 EVENTS (num row 0)) true (part-ok (laid e_record) refl));
-    transitions = few-rows trans_by t_record;
-    actions = few-rows action_by a_record;
-    rows_range = all-rows RowInRange var_by v_record no_var refl (λ i. row_range);
-    guards_range = all-rows (λ x. GuardInRange x.guard) trans_by t_record no_trans refl (λ i. guard_range);
-    acts_range = all-rows (λ x. ActInRange x.act) action_by a_record no_action refl (λ i. act_range);
+        ref_most EVENTS (num row 0) (and_left (count_fits 0 EVENTS (num row 0)) true (part_ok (laid e_record) refl));
+    transitions = few_rows trans_by t_record;
+    actions = few_rows action_by a_record;
+    rows_range = all_rows RowInRange var_by v_record no_var refl (λ i. row_range);
+    guards_range = all_rows (λ x. GuardInRange x.guard) trans_by t_record no_trans refl (λ i. guard_range);
+    acts_range = all_rows (λ x. ActInRange x.act) action_by a_record no_action refl (λ i. act_range);
   }
 
 -- a value that passes all rules: R0, and R1 to R7 of its chart

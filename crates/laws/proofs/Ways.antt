@@ -30,6 +30,8 @@ descendants_range c h s l = range c h.ordered s l
 towards_climb : (c : Chart) → Ordered c → (s f d : ℕ) → d ≤ f → Under c s d
     → (is_child c s (first_that (is_child c s) (d ∷ climb c f d)) ≡ true) × (first_that (is_child c s) (d ∷ climb c f d) ≤ d)
 unfolding climb first_that
+towards_climb c o s zero zero l u = elim u [ ]
+towards_climb c o s (suc f) zero l u = elim u [ ]
 towards_climb c o s zero (suc n) l u = absurd (omega arith)
 towards_climb c o s (suc f) (suc n) l (child e) = rw (parent_child c s n e) (parent_child c s n e, omega arith)
 towards_climb c o s (suc f) (suc n) l (deeper u) =
@@ -59,9 +61,9 @@ on_not_stops : (d : ℕ) → stops ≡ on_to d → ⊥
 on_not_stops d p = let z : ◌≡◌ {A = ℕ} 0 1 = cc in omega arith
 
 module _ (c : Chart) (h : SoundChart c) where
-  towards-on : (t : ℕ) → t < length c.states → (s d : ℕ) → towards c t s ≡ on_to d → (is_child c s d ≡ true) × (d < length c.states)
+  towards_on : (t : ℕ) → t < length c.states → (s d : ℕ) → towards c t s ≡ on_to d → (is_child c s d ≡ true) × (d < length c.states)
   unfolding towards
-  towards-on t l s d e = go (has s (ancestors c t)) refl e
+  towards_on t l s d e = go (has s (ancestors c t)) refl e
     where
       x : ℕ
       x = first_that (is_child c s) (t ∷ ancestors c t)
@@ -73,34 +75,34 @@ module _ (c : Chart) (h : SoundChart c) where
           (subst (λ y. is_child c s y ≡ true) r k.0, omega (arith, k.1))
       go false q p = absurd (on_not_defaults d p)
 
-  pub towards-sound : (t : ℕ) → t < length c.states → Sound c (towards c t)
-  towards-sound t l = record { ordered = h.ordered; on = λ s d k e. towards-on t l s d e; by = λ s k e. h.default s k; leaf = h.leaf }
+  pub towards_sound : (t : ℕ) → t < length c.states → Sound c (towards c t)
+  towards_sound t l = record { ordered = h.ordered; on = λ s d k e. towards_on t l s d e; by = λ s k e. h.default s k; leaf = h.leaf }
 
-  pub defaults-sound : Sound c by_defaults
+  pub defaults_sound : Sound c by_defaults
   unfolding by_defaults
-  defaults-sound = record {
+  defaults_sound = record {
     ordered = h.ordered;
     on = λ s d k e. absurd (on_not_defaults d e);
     by = λ s k e. h.default s k;
     leaf = h.leaf;
   }
 
-  pub owner-sound : (b : ℕ) → b < length c.states → Sound c (towards_owner c b)
+  pub owner_sound : (b : ℕ) → b < length c.states → Sound c (towards_owner c b)
   unfolding towards_owner
-  owner-sound b l = record { ordered = h.ordered; on = λ s d k e. go s d (eqb s b) e; by = λ s k e. h.default s k; leaf = h.leaf }
+  owner_sound b l = record { ordered = h.ordered; on = λ s d k e. go s d (eqb s b) e; by = λ s k e. h.default s k; leaf = h.leaf }
     where
       go : (s d : ℕ) (t : Bool) → cond t stops (towards c b s) ≡ on_to d → (is_child c s d ≡ true) × (d < length c.states)
       go s d true e = absurd (on_not_stops d e)
-      go s d false e = towards-on b l s d e
+      go s d false e = towards_on b l s d e
 
   -- slots that hold children
-  pub slots-sound : (u : State) → ((s d : ℕ) → slot u s ≡ holds d → (is_child c s d ≡ true) × (d < length c.states))
+  pub slots_sound : (u : State) → ((s d : ℕ) → slot u s ≡ holds d → (is_child c s d ≡ true) × (d < length c.states))
       → Sound c (by_slots u)
   unfolding by_slots slot_way
-  slots-sound u fits = record {
+  slots_sound u fits = record {
     ordered = h.ordered;
     on = λ s d k e. go s d (slot u s) refl e;
-    by = λ s k e. absurd (not-by (slot u s) e);
+    by = λ s k e. absurd (not_by (slot u s) e);
     leaf = h.leaf;
   }
     where
@@ -108,26 +110,26 @@ module _ (c : Chart) (h : SoundChart c) where
       go s d empty q e = absurd (on_not_stops d e)
       go s d (holds y) q e = fits s d (q ∙ ap holds (same_on y d e))
 
-      not-by : (x : Slot) → slot_way x ≡ defaults → ⊥
-      not-by empty e = let z : ◌≡◌ {A = ℕ} 0 1 = cc in omega arith
-      not-by (holds d) e = let z : ◌≡◌ {A = ℕ} 0 1 = cc in omega arith
+      not_by : (x : Slot) → slot_way x ≡ defaults → ⊥
+      not_by empty e = let z : ◌≡◌ {A = ℕ} 0 1 = cc in omega arith
+      not_by (holds d) e = let z : ◌≡◌ {A = ℕ} 0 1 = cc in omega arith
 
   -- ---- going down level by level is one forward pass
 
-  pub towards-pass : (t s : ℕ) → t < length c.states → s < length c.states
+  pub towards_pass : (t s : ℕ) → t < length c.states → s < length c.states
       → all_below c (towards c t) s ≡ map (visit_of c (towards c t)) (keep (λ x. reach c (towards c t) s x x) (descendants c s))
-  towards-pass t s l k = pass c (towards c t) (towards-sound t l) s k
+  towards_pass t s l k = pass c (towards c t) (towards_sound t l) s k
 
-  pub defaults-pass : (s : ℕ) → s < length c.states
+  pub defaults_pass : (s : ℕ) → s < length c.states
       → all_below c by_defaults s ≡ map (visit_of c by_defaults) (keep (λ x. reach c by_defaults s x x) (descendants c s))
-  defaults-pass s k = pass c by_defaults defaults-sound s k
+  defaults_pass s k = pass c by_defaults defaults_sound s k
 
-  pub owner-pass : (b s : ℕ) → b < length c.states → s < length c.states
+  pub owner_pass : (b s : ℕ) → b < length c.states → s < length c.states
       → all_below c (towards_owner c b) s
       ≡ map (visit_of c (towards_owner c b)) (keep (λ x. reach c (towards_owner c b) s x x) (descendants c s))
-  owner-pass b s l k = pass c (towards_owner c b) (owner-sound b l) s k
+  owner_pass b s l k = pass c (towards_owner c b) (owner_sound b l) s k
 
   pub slots_pass : (u : State) (s : ℕ) → ((p d : ℕ) → slot u p ≡ holds d → (is_child c p d ≡ true) × (d < length c.states))
       → s < length c.states
       → all_below c (by_slots u) s ≡ map (visit_of c (by_slots u)) (keep (λ x. reach c (by_slots u) s x x) (descendants c s))
-  slots_pass u s fits k = pass c (by_slots u) (slots-sound u fits) s k
+  slots_pass u s fits k = pass c (by_slots u) (slots_sound u fits) s k

@@ -4,7 +4,7 @@ use Rattle.std.specs.Prelude.{◌≡◌, ◌⊎◌, ◌<◌, ◌≤◌, suc, ℕ
 use Rattle.meaning.specs.Chart.{Chart}
 use Rattle.meaning.specs.Entry.{Way, defaults, on_to}
 use Rattle.meaning.specs.Tree.{children, default_child, is_child, kind_of, parent_of}
-use Rattle.meaning.specs.declared.chart.Kind.TheVariants.{B as kind-b, O as kind-o}
+use Rattle.meaning.specs.declared.chart.Kind.TheVariants.{B as kind_b, O as kind_o}
 use Rattle.meaning.specs.declared.chart.Target.{Target}
 use Rattle.meaning.specs.declared.chart.Target.TheVariants.{History as history, InPlace as in_place, To as to}
 
@@ -26,13 +26,13 @@ pub record Ordered (c : Chart) : Type 0 where
 -- the way goes on with children, and b states have none
 pub record Sound (c : Chart) (way : ℕ → Way) : Type 0 where
   pub ordered : Ordered c
-  pub on : (s d : ℕ) → kind_of c s ≡ kind-o → way s ≡ on_to d → (is_child c s d ≡ true) × (d < length c.states)
-  pub by : (s : ℕ) → kind_of c s ≡ kind-o → way s ≡ defaults
+  pub on : (s d : ℕ) → kind_of c s ≡ kind_o → way s ≡ on_to d → (is_child c s d ≡ true) × (d < length c.states)
+  pub by : (s : ℕ) → kind_of c s ≡ kind_o → way s ≡ defaults
       → (is_child c s (default_child c s) ≡ true) × (default_child c s < length c.states)
-  pub leaf : (s : ℕ) → kind_of c s ≡ kind-b → children c s ≡ []
+  pub leaf : (s : ℕ) → kind_of c s ≡ kind_b → children c s ≡ []
 
 -- a target is a state other than the root, a history's owner an o state, and the source is not the root
 abbrev pub TargetFacts : Chart → ℕ → Target → Type 0
 TargetFacts c s (to d) = (d < length c.states) × (0 < d) × (0 < s)
-TargetFacts c s (history b) = (b < length c.states) × (0 < b) × (kind_of c b ≡ kind-o) × (0 < s)
+TargetFacts c s (history b) = (b < length c.states) × (0 < b) × (kind_of c b ≡ kind_o) × (0 < s)
 TargetFacts c s in_place = Unit {0}

@@ -11,7 +11,7 @@ use Rattle.numbers.specs.declared.Place.{Place}
 use Rattle.numbers.specs.declared.Place.TheVariants.{Empty as empty, At as holds}
 use Rattle.laws.proofs.Steps.{bind_cong}
 use Rattle.meaning.specs.declared.State.{State}
-use Rattle.meaning.specs.declared.chart.Kind.TheVariants.{O as kind-o}
+use Rattle.meaning.specs.declared.chart.Kind.TheVariants.{O as kind_o}
 use Rattle.meaning.specs.Chart.{Chart}
 use Rattle.meaning.specs.Entry.{Visit, stops, state_of, goes_on, below, all_below, by_slots, visit, revisit, restore, restore_by}
 use Rattle.meaning.specs.Entry.{towards, towards_owner, visit_towards}
@@ -20,12 +20,12 @@ use Rattle.meaning.specs.Tree.{kind_of}
 use Rattle.meaning.specs.Widget.{Ctx, slot}
 use Rattle.widget.specs.declared.Went.{Went}
 use Rattle.widget.specs.View.{Lent, all_lent, ctx, tracing, widget, Did, Owes}
-use Rattle.widget.proofs.Going.{owes-as, owes_on, then-stop}
-use Rattle.widget.proofs.Loops.{owes-regroup, owes-when, owes-pass}
+use Rattle.widget.proofs.Going.{owes_as, owes_on, then_stop}
+use Rattle.widget.proofs.Loops.{owes_regroup, owes_when, owes_pass}
 use Rattle.tree.specs.Courses.{slot_of, stored_way, course_way, course_visit, arrival, restored, onward_from, Bound}
 use Rattle.tree.specs.declared.ways.Goal.TheVariants.{Target, Owner}
 use Rattle.tree.specs.declared.ways.Course.{Course}
-use Rattle.tree.specs.declared.ways.Course.TheVariants.{Defaults as default-course, Slots as slot-course, Towards}
+use Rattle.tree.specs.declared.ways.Course.TheVariants.{Defaults as default_course, Slots as slot_course, Towards}
 
 by_slots_is : (u : State) → by_slots u ≡ stored_way u.slots
 unfolding by_slots slot stored_way
@@ -48,9 +48,9 @@ module _ (c : Chart) (arg : ℤ) (b : ℕ) where
       go (holds d) = ap (λ w. each (revisit c arg) (all_below c w b) (ctx k at)) (sym (by_slots_is (widget k)))
 
   -- the way to the owner stops there
-  nothing-below : kind_of c b ≡ kind-o → all_below c (towards_owner c b) b ≡ []
+  nothing_below : kind_of c b ≡ kind_o → all_below c (towards_owner c b) b ≡ []
   unfolding all_below below goes_on towards_owner
-  nothing-below o = go (length c.states)
+  nothing_below o = go (length c.states)
     where
       stopped : towards_owner c b b ≡ stops
       stopped = ap (λ x. cond x stops (towards c b b)) (eq-eqb b b refl)
@@ -58,7 +58,7 @@ module _ (c : Chart) (arg : ℤ) (b : ℕ) where
       go : (f : ℕ) → below c (towards_owner c b) f b ≡ []
       go zero = refl
       go (suc f) = ap (λ x. goes_on c (below c (towards_owner c b) f) b x (towards_owner c b b)) o
-          ∙ ap (goes_on c (below c (towards_owner c b) f) b kind-o) stopped
+          ∙ ap (goes_on c (below c (towards_owner c b) f) b kind_o) stopped
 
 -- ---- on any course
 
@@ -67,10 +67,10 @@ module _ (c : Chart) (arg : ℤ) (x : Visit) where
   pub refused : (course : Course) {k : Lent} {at : ℕ} {r : Went} {k₁ : Lent} → Did (arrival c arg course x) k at r k₁ → (r.number ≡ 0 → ⊥)
       → Did (course_visit c arg course x) k at r k₁
   unfolding visit_towards
-  refused default-course d z = d
-  refused slot-course d z = d
+  refused default_course d z = d
+  refused slot_course d z = d
   refused (Towards (Target t)) d z = d
-  refused (Towards (Owner b)) d z = then-stop _ d z
+  refused (Towards (Owner b)) d z = then_stop _ d z
 
   module _ (sl : List ℤ) (i : ℕ) (n : state_of x ≡ i) (R : Step Ctx) {D : Step Ctx} {k₀ : Lent} {at₀ : ℕ} {k : Lent} {at : ℕ}
       {r : Went} {a : List Bool} {v q t : List ℤ} (z : r.number ≡ 0) where
@@ -79,14 +79,14 @@ module _ (c : Chart) (arg : ℤ) (x : Visit) where
         → Did (arrival c arg course x) k at r (all_lent a sl v q t)
         → Owes D k₀ at₀ (descent c arg sl (onward_from sl course i) i then R) (all_lent a sl v q t) r.at
     unfolding visit_towards ◌then◌ each bind
-    arrived default-course b o d = owes_on _ o d z
-    arrived slot-course b o d = owes_on _ o d z
+    arrived default_course b o d = owes_on _ o d z
+    arrived slot_course b o d = owes_on _ o d z
     arrived (Towards (Target t)) b o d = owes_on _ o d z
     arrived (Towards (Owner b)) l o d = go (eqb i b) refl
       where
         due : Owes D k₀ at₀ (when (eqb (state_of x) b) (restore c arg b) then (descent c arg sl (Towards (Owner b)) i then R))
             (all_lent a sl v q t) r.at
-        due = owes_on _ (owes-regroup (visit c arg x) (when (eqb (state_of x) b) (restore c arg b))
+        due = owes_on _ (owes_regroup (visit c arg x) (when (eqb (state_of x) b) (restore c arg b))
             (descent c arg sl (Towards (Owner b)) i then R) o) d z
 
         here : (eqb i b ≡ true) → i ≡ b
@@ -100,14 +100,14 @@ module _ (c : Chart) (arg : ℤ) (x : Visit) where
             (sym (here e))
             (ap (λ y. bind y R) (restores c arg b (all_lent a sl v q t) r.at)
             ∙ bind_cong (restore c arg b (ctx (all_lent a sl v q t) r.at))
-            (λ u. sym (ap (λ ys. bind (each (visit_towards c arg b) ys u) R) (nothing-below c arg b l.1))))
+            (λ u. sym (ap (λ ys. bind (each (visit_towards c arg b) ys u) R) (nothing_below c arg b l.1))))
 
         Then : Course → Type 0
         Then y = Owes D k₀ at₀ (descent c arg sl y i then R) (all_lent a sl v q t) r.at
 
         go : (y : Bool) → eqb i b ≡ y → Then (cond (eqb i b) (restored (slot_of sl i)) (Towards (Owner b)))
         go true e = subst (λ y. Then (cond y (restored (slot_of sl i)) (Towards (Owner b)))) (sym e)
-            (owes-as (descent c arg sl (restored (slot_of sl i)) i then R) (owes-when (restore c arg b) _ due (ap (λ j. eqb j b) n ∙ e))
+            (owes_as (descent c arg sl (restored (slot_of sl i)) i then R) (owes_when (restore c arg b) _ due (ap (λ j. eqb j b) n ∙ e))
             (restoring e))
         go false e = subst (λ y. Then (cond y (restored (slot_of sl i)) (Towards (Owner b)))) (sym e)
-            (owes-pass (restore c arg b) _ due (ap (λ j. eqb j b) n ∙ e))
+            (owes_pass (restore c arg b) _ due (ap (λ j. eqb j b) n ∙ e))

@@ -16,7 +16,7 @@ use Rattle.meaning.specs.Tree.{is_child}
 use Rattle.meaning.specs.Widget.{Ctx}
 use Rattle.widget.specs.declared.Went.{Went}
 use Rattle.widget.specs.View.{Lent, all_lent, ctx, Did, Owes}
-use Rattle.widget.proofs.Going.{owes-all, owes-as, owes_on, owes-stop}
+use Rattle.widget.proofs.Going.{owes_all, owes_as, owes_on, owes_stop}
 use Rattle.widget.proofs.Loops.{each_none}
 use Rattle.tree.specs.Courses.{course_way, course_visit, arrival, onward_from, Bound, Kids}
 use Rattle.tree.specs.declared.ways.Course.{Course}
@@ -30,22 +30,22 @@ module _ {B : Type 0} (g : ℕ → List B) (p : ℕ → Bool) where
   unfolding concat_map keep from
   range_none i e l = let n : e - i ≡ 0 = omega arith in rw n
 
-  pub range-next : (i e : ℕ) → i < e → from i (e - i) ≡ i ∷ from (i + 1) (e - (i + 1))
+  pub range_next : (i e : ℕ) → i < e → from i (e - i) ≡ i ∷ from (i + 1) (e - (i + 1))
   unfolding from
-  range-next i e l =
+  range_next i e l =
       let n : e - i ≡ suc (e - (i + 1)) = omega arith in
       let m : suc i ≡ i + 1 = omega arith in
       ap (from i) n ∙ ap (λ j. i ∷ from j (e - (i + 1))) m
 
-  pub range-skip : (i e : ℕ) → i < e → p i ≡ false → concat_map g (keep p (from i (e - i)))
+  pub range_skip : (i e : ℕ) → i < e → p i ≡ false → concat_map g (keep p (from i (e - i)))
       ≡ concat_map g (keep p (from (i + 1) (e - (i + 1))))
   unfolding concat_map keep
-  range-skip i e l q = ap (λ xs. concat_map g (keep p xs)) (range-next i e l) ∙ rw q
+  range_skip i e l q = ap (λ xs. concat_map g (keep p xs)) (range_next i e l) ∙ rw q
 
-  pub range-take : (i e : ℕ) → i < e → p i ≡ true
+  pub range_take : (i e : ℕ) → i < e → p i ≡ true
       → concat_map g (keep p (from i (e - i))) ≡ g i ++ concat_map g (keep p (from (i + 1) (e - (i + 1))))
   unfolding concat_map keep
-  range-take i e l q = ap (λ xs. concat_map g (keep p xs)) (range-next i e l) ∙ rw q
+  range_take i e l q = ap (λ xs. concat_map g (keep p xs)) (range_next i e l) ∙ rw q
 
 -- a visit, what is below it, and the rest
 each_part : (f : Visit → Step Ctx) (x : Visit) (xs ys : List Visit) (k : Ctx)
@@ -75,13 +75,13 @@ pub record Going (c : Chart) (arg : ℤ) (sl : List ℤ) (course : Course) (next
   pub owes : Owes (descent c arg sl course s) (all_lent a sl v q t) at (rest c arg sl course next s end i) (all_lent a₁ sl v₁ q₁ t₁) w.at
 
 module _ (c : Chart) (arg : ℤ) (sl : List ℤ) (course : Course) (next : Way) (s end : ℕ) {a : List Bool} {v q t : List ℤ} {at : ℕ} where
-  pub going-begin : {first : ℕ} → Sound c (course_way c sl course) → next ≡ course_way c sl course s → Kids c next s first end
+  pub going_begin : {first : ℕ} → Sound c (course_way c sl course) → next ≡ course_way c sl course s → Kids c next s first end
       → at ≤ length t
       → Going c arg sl course next s end a v q t at first a v q t (record { number = 0; at = at })
   unfolding rest
-  going-begin g e k h = record {
+  going_begin g e k h = record {
     going = refl;
-    owes = owes-as _ (owes-all h)
+    owes = owes_as _ (owes_all h)
         (ap (λ l. each (course_visit c arg course) l (ctx (all_lent a sl v q t) at)) (sym (k.goes (course_way c sl course) g (sym e))));
   }
 
@@ -91,15 +91,15 @@ module _ (c : Chart) (arg : ℤ) (sl : List ℤ) (course : Course) (next : Way) 
         → xs ≡ concat_map (part c (course_way c sl course) next s) (keep (is_child c s) (from i (end - i)))
         → Owes (descent c arg sl course s) (all_lent a sl v q t) at (each (course_visit c arg course) xs) (all_lent a₁ sl v₁ q₁ t₁) w.at
     unfolding rest
-    left e = owes-as _ h.owes (ap (λ l. each (course_visit c arg course) l (ctx (all_lent a₁ sl v₁ q₁ t₁) w.at)) e)
+    left e = owes_as _ h.owes (ap (λ l. each (course_visit c arg course) l (ctx (all_lent a₁ sl v₁ q₁ t₁) w.at)) e)
 
     pub going_end : end ≤ i → Did (descent c arg sl course s) (all_lent a sl v q t) at w (all_lent a₁ sl v₁ q₁ t₁)
     going_end l = went_on w h.going (each_none (course_visit c arg course) (left (sym (range_none _ (is_child c s) i end l))))
 
     module _ (l : i < end) where
-      pub going-skip : is_child c s i ≡ false → Going c arg sl course next s end a v q t at (i + 1) a₁ v₁ q₁ t₁ w
+      pub going_skip : is_child c s i ≡ false → Going c arg sl course next s end a v q t at (i + 1) a₁ v₁ q₁ t₁ w
       unfolding rest
-      going-skip n = record { going = h.going; owes = left (sym (range-skip _ (is_child c s) i end l n)) }
+      going_skip n = record { going = h.going; owes = left (sym (range_skip _ (is_child c s) i end l n)) }
 
       module _ (n : is_child c s i ≡ true) {r : Went} {a₂ : List Bool} {v₂ q₂ t₂ : List ℤ}
           (g : Did (arrival c arg course (visited c next s i)) (all_lent a₁ sl v₁ q₁ t₁) w.at r (all_lent a₂ sl v₂ q₂ t₂)) where
@@ -109,13 +109,13 @@ module _ (c : Chart) (arg : ℤ) (sl : List ℤ) (course : Course) (next : Way) 
         due : Owes (descent c arg sl course s) (all_lent a sl v q t) at (course_visit c arg course (visited c next s i) then after)
             (all_lent a₁ sl v₁ q₁ t₁) w.at
         unfolding rest after
-        due = owes-as _ (left (sym (range-take _ (is_child c s) i end l n)))
+        due = owes_as _ (left (sym (range_take _ (is_child c s) i end l n)))
             (sym (each_part (course_visit c arg course) (visited c next s i)
             (all_below c (course_way c sl course) i) _ (ctx (all_lent a₁ sl v₁ q₁ t₁) w.at)))
 
         -- the visit refuses
-        pub going-stop : (r.number ≡ 0 → ⊥) → Did (descent c arg sl course s) (all_lent a sl v q t) at r (all_lent a₂ sl v₂ q₂ t₂)
-        going-stop z = owes-stop after due (refused c arg (visited c next s i) course g z) z
+        pub going_stop : (r.number ≡ 0 → ⊥) → Did (descent c arg sl course s) (all_lent a sl v q t) at r (all_lent a₂ sl v₂ q₂ t₂)
+        going_stop z = owes_stop after due (refused c arg (visited c next s i) course g z) z
 
         module _ (z : r.number ≡ 0) (b : Bound c course) {o : Course} (f : o ≡ onward_from sl course i)
             {y : Went} {a₃ : List Bool} {v₃ q₃ t₃ : List ℤ}
@@ -129,8 +129,8 @@ module _ (c : Chart) (arg : ℤ) (sl : List ℤ) (course : Course) (next : Way) 
               (arrived c arg (visited c next s i) sl i (visited_is c next s i) _ z course b due g)
 
           -- something below it refuses
-          pub going-stop-below : (y.number ≡ 0 → ⊥) → Did (descent c arg sl course s) (all_lent a sl v q t) at y (all_lent a₃ sl v₃ q₃ t₃)
-          going-stop-below u = owes-stop _ entered d u
+          pub going_stop_below : (y.number ≡ 0 → ⊥) → Did (descent c arg sl course s) (all_lent a sl v q t) at y (all_lent a₃ sl v₃ q₃ t₃)
+          going_stop_below u = owes_stop _ entered d u
 
           pub going_on : y.number ≡ 0 → Going c arg sl course next s end a v q t at (i + 1) a₃ v₃ q₃ t₃ y
           going_on u = record { going = u; owes = owes_on _ entered d u }

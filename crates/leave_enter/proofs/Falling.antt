@@ -18,10 +18,10 @@ use Rattle.meaning.specs.Value.{chart_of}
 use Rattle.meaning.specs.Widget.{Ctx, is_active}
 use Rattle.widget.specs.declared.Went.{Went}
 use Rattle.widget.specs.View.{Lent, ctx, tracing, Did, Owes}
-use Rattle.widget.proofs.Going.{owes-all, owes-as}
-use Rattle.widget.proofs.Loops.{each_none, each_next, each-ends, look_at, when-on}
+use Rattle.widget.proofs.Going.{owes_all, owes_as}
+use Rattle.widget.proofs.Loops.{each_none, each_next, each_ends, look_at, when_on}
 use Rattle.meaning.specs.Rules.{Ruled}
-use Rattle.tree.proofs.On.{end-within}
+use Rattle.tree.proofs.On.{end_within}
 use Rattle.tree.proofs.Passing.{sound}
 
 -- ---- the numbers from a on, falling
@@ -41,10 +41,10 @@ falls_by s d h =
 -- ---- an element whose step leaves everything as it is
 
 module _ {D : Step Ctx} {k : Lent} {at : ℕ} {k₁ : Lent} {at₁ : ℕ} where
-  pub each-pass : {A : Type 0} (f : A → Step Ctx) (x : A) (xs : List A) → Owes D k at (each f (x ∷ xs)) k₁ at₁
+  pub each_pass : {A : Type 0} (f : A → Step Ctx) (x : A) (xs : List A) → Owes D k at (each f (x ∷ xs)) k₁ at₁
       → f x (ctx k₁ at₁) ≡ ok (ctx k₁ at₁) → Owes D k at (each f xs) k₁ at₁
   unfolding each bind
-  each-pass f x xs o e = owes-as (each f xs) o (sym (ap (λ r. bind r (λ c. each f xs c)) e))
+  each_pass f x xs o e = owes_as (each f xs) o (sym (ap (λ r. bind r (λ c. each f xs c)) e))
 
 -- ---- one state, left if it is active
 
@@ -53,10 +53,10 @@ module _ (c : Chart) (arg : ℤ) (x : ℕ) where
   unfolding leave_active look when is_active ctx tracing
   leaves_none k at e = rw e
 
-  pub leaves-one : {k : Lent} {at : ℕ} {r : Went} {k₁ : Lent} → get_or k.active x false ≡ true → Did (leave c arg x) k at r k₁
+  pub leaves_one : {k : Lent} {at : ℕ} {r : Went} {k₁ : Lent} → get_or k.active x false ≡ true → Did (leave c arg x) k at r k₁
       → Did (leave_active c arg x) k at r k₁
   unfolding leave_active is_active ctx tracing
-  leaves-one e d = look_at _ (when-on e d)
+  leaves_one e d = look_at _ (when_on e d)
 
 -- ---- the loop
 
@@ -69,26 +69,26 @@ pub record Leaving (v : List ℤ) (arg : ℤ) (s : ℕ) (k : Lent) (at : ℕ) (d
       (suc s) (d - suc s)))) k₁ at₁
 
 module _ {v : List ℤ} {arg : ℤ} {s : ℕ} {k : Lent} {at : ℕ} where
-  pub leaving-begin : Ruled v → s < length (chart_of v).states → at ≤ length k.trace → {d : ℕ}
+  pub leaving_begin : Ruled v → s < length (chart_of v).states → at ≤ length k.trace → {d : ℕ}
       → d ≡ suc s + length (descendants (chart_of v) s)
       → Leaving v arg s k at d k at
   unfolding leave_all
-  leaving-begin r h f {d} e =
+  leaving_begin r h f {d} e =
       let n : length (descendants (chart_of v) s) ≡ d - suc s = omega arith in
       record {
         past = omega arith;
-        top = omega (arith, end-within (chart_of v) (sound v r).ordered s h);
+        top = omega (arith, end_within (chart_of v) (sound v r).ordered s h);
         fits = f;
         kept = refl;
-        owes = owes-as _ (owes-all f) (ap
+        owes = owes_as _ (owes_all f) (ap
             (λ l. each (leave_active (chart_of v) arg) (reverse l) (ctx k at)) (sym (descendants_range (chart_of v) (sound v r) s h
             ∙ ap (from (suc s)) n)));
       }
 
   module _ {d : ℕ} {k₁ : Lent} {at₁ : ℕ} (h : Leaving v arg s k at d k₁ at₁) where
-    pub leaving-end : d ≤ suc s → Did (leave_all (chart_of v) arg (descendants (chart_of v) s)) k at (record { number = 0; at = at₁ }) k₁
+    pub leaving_end : d ≤ suc s → Did (leave_all (chart_of v) arg (descendants (chart_of v) s)) k at (record { number = 0; at = at₁ }) k₁
     unfolding from
-    leaving-end l =
+    leaving_end l =
         let n : d - suc s ≡ 0 = omega arith in
         each_none (leave_active (chart_of v) arg) (subst
         (λ n. Owes (leave_all (chart_of v) arg (descendants (chart_of v) s)) k at (each (leave_active (chart_of v) arg) (reverse
@@ -100,26 +100,26 @@ module _ {v : List ℤ} {arg : ℤ} {s : ℕ} {k : Lent} {at : ℕ} where
       due = subst (λ n. Owes (leave_all (chart_of v) arg (descendants (chart_of v) s)) k at (each (leave_active
           (chart_of v) arg) n) k₁ at₁) (falls_by s d l) h.owes
 
-      pub leaving-skip : get_or k₁.active (d - 1) false ≡ false → Leaving v arg s k at (d - 1) k₁ at₁
-      leaving-skip e = record {
+      pub leaving_skip : get_or k₁.active (d - 1) false ≡ false → Leaving v arg s k at (d - 1) k₁ at₁
+      leaving_skip e = record {
         past = omega arith;
         top = omega (arith, h.top);
         fits = h.fits;
         kept = h.kept;
-        owes = each-pass (leave_active (chart_of v) arg) (d - 1) (reverse (from (suc s) ((d - 1) - suc s))) due (leaves_none
+        owes = each_pass (leave_active (chart_of v) arg) (d - 1) (reverse (from (suc s) ((d - 1) - suc s))) due (leaves_none
             (chart_of v) arg (d - 1) k₁ at₁ e);
       }
 
       module _ {r : Went} {k₂ : Lent} (e : get_or k₁.active (d - 1) false ≡ true) (g : Did (leave (chart_of v) arg
           (d - 1)) k₁ at₁ r k₂) where
-        pub leaving-stop : (r.number ≡ 0 → ⊥) → Did (leave_all (chart_of v) arg (descendants (chart_of v) s)) k at r k₂
-        leaving-stop z = each-ends (leave_active (chart_of v) arg) (d - 1) _ due (leaves-one (chart_of v) arg (d - 1) e g) z
+        pub leaving_stop : (r.number ≡ 0 → ⊥) → Did (leave_all (chart_of v) arg (descendants (chart_of v) s)) k at r k₂
+        leaving_stop z = each_ends (leave_active (chart_of v) arg) (d - 1) _ due (leaves_one (chart_of v) arg (d - 1) e g) z
 
-        pub leaving-on : r.number ≡ 0 → Leaving v arg s k at (d - 1) k₂ r.at
-        leaving-on z = record {
+        pub leaving_on : r.number ≡ 0 → Leaving v arg s k at (d - 1) k₂ r.at
+        leaving_on z = record {
           past = omega arith;
           top = omega (arith, h.top);
           fits = g.fits;
           kept = g.kept ∙ h.kept;
-          owes = each_next (leave_active (chart_of v) arg) (d - 1) _ due (leaves-one (chart_of v) arg (d - 1) e g) z;
+          owes = each_next (leave_active (chart_of v) arg) (d - 1) _ due (leaves_one (chart_of v) arg (d - 1) e g) z;
         }

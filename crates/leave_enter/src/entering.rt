@@ -4,7 +4,7 @@
 ghost use Rattle.std.specs.Prelude.{◌≡◌, ◌≤◌, ◌<◌, length};
 ghost use Rattle.sizes.specs.Sizes.{STATES as states};
 ghost use Rattle.meaning.specs.Steps.{each};
-ghost use Rattle.meaning.specs.Tree.{kind_of as kind-in};
+ghost use Rattle.meaning.specs.Tree.{kind_of as kind_in};
 ghost use Rattle.meaning.specs.Entry.{all_below, visit as visits};
 ghost use Rattle.meaning.specs.Value.{chart_of};
 ghost use Rattle.acts.specs.Index.{Prepared};
@@ -40,7 +40,7 @@ fn visit(
 ) -> Went
     requires { Prepared chart.now index.now × (s < states) × (at ≤ length trace.old) × (p < states) }
     ensures { Within trace.old result trace.new × ((k : Lent) → Did (visits (chart_of chart.now)
-        arg (visit_as (defaulting (kind-in (chart_of chart.now) p) (way_by next)) p s)) (with_active active.old
+        arg (visit_as (defaulting (kind_in (chart_of chart.now) p) (way_by next)) p s)) (with_active active.old
         (with_vars vars.old (with_queue queue.old (with_trace trace.old k)))) at result (with_active
         active.new (with_vars vars.new (with_queue queue.new (with_trace trace.new k))))) }
 {
@@ -74,7 +74,7 @@ fn arrive(
     requires { Prepared chart.now index.now × (s < states) × (length slots.now ≡ states) × (at ≤ length trace.old)
         × (p < states) }
     ensures { Did (arrival (chart_of chart.now)
-        arg course (visit_as (defaulting (kind-in (chart_of chart.now) p) (way_by next)) p s))
+        arg course (visit_as (defaulting (kind_in (chart_of chart.now) p) (way_by next)) p s))
         (all_lent active.old slots.now vars.old queue.old trace.old) at result
         (all_lent active.new slots.now vars.new queue.new trace.new) }
 {

@@ -14,26 +14,26 @@ use Rattle.meaning.specs.Line.{worse, room}
 use Rattle.fields.specs.Said.{numbers_of}
 
 module _ (a b : ℕ) where
-  pub worse-1 : a ≡ 1 → 1 ≡ worse a b
+  pub worse_1 : a ≡ 1 → 1 ≡ worse a b
   unfolding worse
-  worse-1 h = rw h
+  worse_1 h = rw h
 
-  pub worse-2 : (a ≡ 1 → ⊥) → b ≡ 1 → 1 ≡ worse a b
+  pub worse_2 : (a ≡ 1 → ⊥) → b ≡ 1 → 1 ≡ worse a b
   unfolding worse
-  worse-2 h k = rw (ne_eqb a 1 h, k)
+  worse_2 h k = rw (ne_eqb a 1 h, k)
 
-  pub worse-3 : (a ≡ 1 → ⊥) → (b ≡ 1 → ⊥) → a ≡ 2 → 2 ≡ worse a b
+  pub worse_3 : (a ≡ 1 → ⊥) → (b ≡ 1 → ⊥) → a ≡ 2 → 2 ≡ worse a b
   unfolding worse
-  worse-3 h k g = rw (ne_eqb b 1 k, g)
+  worse_3 h k g = rw (ne_eqb b 1 k, g)
 
-  pub worse-4 : (a ≡ 1 → ⊥) → (b ≡ 1 → ⊥) → (a ≡ 2 → ⊥) → b ≡ worse a b
+  pub worse_4 : (a ≡ 1 → ⊥) → (b ≡ 1 → ⊥) → (a ≡ 2 → ⊥) → b ≡ worse a b
   unfolding worse
-  worse-4 h k g = rw (ne_eqb a 1 h, ne_eqb b 1 k, ne_eqb a 2 g)
+  worse_4 h k g = rw (ne_eqb a 1 h, ne_eqb b 1 k, ne_eqb a 2 g)
 
   -- 0 only for both; and 1 is one of the two
-  pub worse-zero : worse a b ≡ 0 → b ≡ 0
+  pub worse_zero : worse a b ≡ 0 → b ≡ 0
   unfolding worse
-  worse-zero e = go (eqb a 1) (eqb b 1) (eqb a 2) e
+  worse_zero e = go (eqb a 1) (eqb b 1) (eqb a 2) e
     where
       go : (p q r : Bool) → ◌≡◌ {A = ℕ} (cond p 1 (cond q 1 (cond r 2 b))) 0 → b ≡ 0
       go true q r e = absurd (omega arith)
@@ -41,9 +41,9 @@ module _ (a b : ℕ) where
       go false false true e = absurd (omega arith)
       go false false false e = e
 
-  pub worse-one : (a ≡ 1 → ⊥) → worse a b ≡ 1 → b ≡ 1
+  pub worse_one : (a ≡ 1 → ⊥) → worse a b ≡ 1 → b ≡ 1
   unfolding worse
-  worse-one h e = go (eqb a 1) (eqb b 1) (eqb a 2) refl refl e
+  worse_one h e = go (eqb a 1) (eqb b 1) (eqb a 2) refl refl e
     where
       go : (p q r : Bool) → eqb a 1 ≡ p → eqb b 1 ≡ q → ◌≡◌ {A = ℕ} (cond p 1 (cond q 1 (cond r 2 b))) 1 → b ≡ 1
       go true q r f g e = absurd (h (eqb-true a 1 f))
@@ -51,9 +51,9 @@ module _ (a b : ℕ) where
       go false false true f g e = absurd (omega arith)
       go false false false f g e = e
 
-  pub worse-last : b ≡ 1 → worse a b ≡ 1
+  pub worse_last : b ≡ 1 → worse a b ≡ 1
   unfolding worse
-  worse-last e = rw e (go (eqb a 1))
+  worse_last e = rw e (go (eqb a 1))
     where
       go : (t : Bool) → ◌≡◌ {A = ℕ} (cond t 1 1) 1
       go true = refl
@@ -73,8 +73,8 @@ put_past xs at z h = sym (set_out xs at z h)
 
 -- ---- the numbers that a field states
 module _ (xs : List ℤ) (at w : ℕ) (a b : ℤ) where
-  pub put-none : w ≡ 0 → xs ≡ sets xs at (numbers_of w a b)
-  put-none e = rw e
+  pub put_none : w ≡ 0 → xs ≡ sets xs at (numbers_of w a b)
+  put_none e = rw e
 
   pub put_one : (ys : List ℤ) → w ≡ 1 → ys ≡ set xs at b → ys ≡ sets xs at (numbers_of w a b)
   put_one ys e f = rw (e, f)

@@ -8,7 +8,7 @@ ghost use Rattle.std.specs.Prelude.{◌≡◌, [], ◌+◌, ◌*◌, ◌-◌, �
 ghost use Rattle.std.proofs.Math.Seq.{slice};
 ghost use Rattle.numbers.specs.Reference.{NOWHERE as nowhere};
 ghost use Rattle.meaning.specs.Split.{fields};
-ghost use Rattle.meaning.specs.Line.{line as a-line, beside, room, rest_of, read_by};
+ghost use Rattle.meaning.specs.Line.{line as a_line, beside, room, rest_of, read_by};
 ghost use Rattle.forms.specs.Table.{ENTRIES as entries, form_at};
 ghost use Rattle.lines.specs.Took.{Taken, Took};
 
@@ -81,7 +81,7 @@ pub fn line(
     at: usize,
 ) -> usize
     requires { (from ≤ to) × (to ≤ length s.now) × (at + 2 * entries ≤ nowhere) }
-    ensures { Took (beside (a-line (room n most) [])
+    ensures { Took (beside (a_line (room n most) [])
         (read_by (form_at entry) n (rest_of (fields (slice from to s.now))))) at chart.old result chart.new }
 {
     let e = stop(s, from, to, TAB);

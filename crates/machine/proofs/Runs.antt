@@ -14,7 +14,7 @@ use Rattle.queue.specs.Queue.{no_item, shifted, removed}
 use Rattle.queue.specs.Numbers.{QUEUE_NUMBERS, queue_by, numbers_of}
 use Rattle.queue.specs.declared.Queue.{Queue}
 use Rattle.queue.specs.declared.Removed.{Removed}
-use Rattle.queue.proofs.Tidy.{removed-long}
+use Rattle.queue.proofs.Tidy.{removed_long}
 use Rattle.queue.proofs.Numbers.{held_lent, numbers_long}
 use Rattle.meaning.specs.declared.State.{State}
 use Rattle.meaning.specs.declared.Called.{Called}
@@ -30,59 +30,59 @@ use Rattle.widget.specs.declared.Went.{Went}
 use Rattle.widget.proofs.Going as going
 use Rattle.plan_code.specs.Code.{Ran}
 use Rattle.ends.proofs.Ending.{Ends, ends_steps}
-use Rattle.machine.proofs.Gates.{owns, tests-7, tests-6, tests-on}
+use Rattle.machine.proofs.Gates.{owns, tests_7, tests_6, tests_on}
 
 -- ---- a step, then null steps
 
 module _ (p : Plan) (s : Step Ctx) (before : Lent) {w : Went} {after : Lent} (d : Ran s before 0 w after) where
-  pub settled-stop : (w.number ≡ 0 → ⊥) → Ran (s then plan_settle p) before 0 w after
-  settled-stop z = record { did = going.then-stop _ d.did z; slotted = λ y. absurd (z y) }
+  pub settled_stop : (w.number ≡ 0 → ⊥) → Ran (s then plan_settle p) before 0 w after
+  settled_stop z = record { did = going.then_stop _ d.did z; slotted = λ y. absurd (z y) }
 
   pub settled_on : w.number ≡ 0 → {r : Went} {after₂ : Lent} → Ran (plan_settle p) after w.at r after₂
       → Ran (s then plan_settle p) before 0 r after₂
-  settled_on z g = record { did = going.then-on d.did z g.did; slotted = λ y. g.slotted y ∙ d.slotted z }
+  settled_on z g = record { did = going.then_on d.did z g.did; slotted = λ y. g.slotted y ∙ d.slotted z }
 
   -- no head has trigger 0
-  pub settled-once : w.number ≡ 0 → Ran (plan_settle p) after w.at (record { number = 0; at = w.at }) after
+  pub settled_once : w.number ≡ 0 → Ran (plan_settle p) after w.at (record { number = 0; at = w.at }) after
       → Ran (s then plan_settle p) before 0 w after
-  settled-once z g =
+  settled_once z g =
       subst (λ r. Ran (s then plan_settle p) before 0 r after) (ap (λ n. record { number = n; at = w.at }) (sym z)) (settled_on z g)
 
 -- ---- the tests in turn
 
 module _ (C G : Step Ctx) (d : Bool) (k : Ctx) where
-  none-waits : d ≡ false → ((require 8 d then C) then G) k ≡ refuse 8
+  none_waits : d ≡ false → ((require 8 d then C) then G) k ≡ refuse 8
   unfolding ◌then◌ require bind
-  none-waits g = rw g
+  none_waits g = rw g
 
-  one-waits : d ≡ true → ((require 8 d then C) then G) k ≡ bind (C k) G
+  one_waits : d ≡ true → ((require 8 d then C) then G) k ≡ bind (C k) G
   unfolding ◌then◌ require bind
-  one-waits g = rw g
+  one_waits g = rw g
 
 module _ (p : Plan) (u : State) (n : ℕ) where
-  pub run-7 : u.started ≡ false → plan_run p u n ≡ as_found 7 0 u
+  pub run_7 : u.started ≡ false → plan_run p u n ≡ as_found 7 0 u
   unfolding plan_run outcome
-  run-7 e = ap (outcome u) (tests-7 p u (plan_react p (removed u.queue)) (begin u n) e)
+  run_7 e = ap (outcome u) (tests_7 p u (plan_react p (removed u.queue)) (begin u n) e)
 
   module _ (s : u.started ≡ true) where
-    pub run-6 : owns p u ≡ false → plan_run p u n ≡ as_found 6 0 u
+    pub run_6 : owns p u ≡ false → plan_run p u n ≡ as_found 6 0 u
     unfolding plan_run outcome
-    run-6 e = ap (outcome u) (tests-6 p u (plan_react p (removed u.queue)) (begin u n) s e)
+    run_6 e = ap (outcome u) (tests_6 p u (plan_react p (removed u.queue)) (begin u n) s e)
 
     module _ (o : owns p u ≡ true) (m : Removed) (x : m ≡ removed u.queue) where
-      pub run-8 : m.done ≡ false → plan_run p u n ≡ as_found 8 0 u
+      pub run_8 : m.done ≡ false → plan_run p u n ≡ as_found 8 0 u
       unfolding plan_run plan_react take_front outcome
-      run-8 e =
-          ap (outcome u) (tests-on p u (plan_react p (removed u.queue)) (begin u n) s o
-          ∙ none-waits _ _ (removed u.queue).done (begin u n) (ap (λ y. y.done) (sym x) ∙ e))
+      run_8 e =
+          ap (outcome u) (tests_on p u (plan_react p (removed u.queue)) (begin u n) s o
+          ∙ none_waits _ _ (removed u.queue).done (begin u n) (ap (λ y. y.done) (sym x) ∙ e))
 
       pub run_on : m.done ≡ true
           → plan_run p u n ≡ outcome u ((plan_step p (ref m.front.event) m.front.arg then plan_settle p) (begin
           (set_queue m.queue u) n))
       unfolding plan_run plan_react take_front change bind begin
       run_on e =
-          ap (outcome u) (tests-on p u (plan_react p (removed u.queue)) (begin u n) s o
-          ∙ one-waits _ _ (removed u.queue).done (begin u n) (ap (λ y. y.done) (sym x) ∙ e))
+          ap (outcome u) (tests_on p u (plan_react p (removed u.queue)) (begin u n) s o
+          ∙ one_waits _ _ (removed u.queue).done (begin u n) (ap (λ y. y.done) (sym x) ∙ e))
           ∙ ap (λ y. outcome u ((plan_step p (ref y.front.event) y.front.arg then plan_settle p) (begin (set_queue
           y.queue u) n))) (sym x)
 
@@ -132,7 +132,7 @@ module _ (p : Plan) (u : State) (long : length u.queue.items ≡ QUEUE) (m : Rem
 
   whole : length ns ≡ QUEUE_NUMBERS
   whole = ap length l ∙ numbers_long m.queue (ap (λ y. length y.queue.items) x
-      ∙ removed-long u.queue (omega (arith, long)) ∙ long)
+      ∙ removed_long u.queue (omega (arith, long)) ∙ long)
 
   pub run_ends : {e : ℕ} {a : ℤ} (t : List ℤ) {w : Went} {k₁ : Lent} (r : Called) (t₂ : List ℤ) → e ≡ ref m.front.event
       → a ≡ m.front.arg

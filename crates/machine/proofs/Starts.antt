@@ -73,14 +73,14 @@ module _ (ns : List ℤ) {k : Counts} (x : Examined ns k) {before : Lent} {w : W
   unfolding plan_by
   begun = subst (λ c. Ran (run_block (plan_by ns).vars (pos 0) (take c.start (plan_by ns).code)) before 0 w after) x.counted d
 
-  pub begin-stop : (w.number ≡ 0 → ⊥) → Ran (plan_start_steps (plan_by ns)) before 0 w after
+  pub begin_stop : (w.number ≡ 0 → ⊥) → Ran (plan_start_steps (plan_by ns)) before 0 w after
   unfolding plan_start_steps
-  begin-stop z = record { did = going.then-stop _ begun.did z; slotted = λ y. absurd (z y) }
+  begin_stop z = record { did = going.then_stop _ begun.did z; slotted = λ y. absurd (z y) }
 
-  pub begin-on : w.number ≡ 0 → {r : Went} {after₂ : Lent} → Ran (plan_settle (plan_by ns)) after w.at r after₂
+  pub begin_on : w.number ≡ 0 → {r : Went} {after₂ : Lent} → Ran (plan_settle (plan_by ns)) after w.at r after₂
       → Ran (plan_start_steps (plan_by ns)) before 0 r after₂
   unfolding plan_start_steps
-  begin-on z g = record { did = going.then-on begun.did z g.did; slotted = λ y. g.slotted y ∙ begun.slotted z }
+  begin_on z g = record { did = going.then_on begun.did z g.did; slotted = λ y. g.slotted y ∙ begun.slotted z }
 
 -- ---- the fresh widget
 

@@ -17,61 +17,61 @@ use Rattle.meaning.specs.Calls.{as_found, outcome, called, take_front}
 use Rattle.meaning.specs.Machine.{plan_tests, plan_post, plan_discard}
 use Rattle.queue_calls.specs.Parts.{quiet}
 use Rattle.queue_calls.proofs.Answering.{refusing, ending}
-use Rattle.machine.proofs.Gates.{owns, tests-7, tests-6, tests-on, require-no, require-on}
+use Rattle.machine.proofs.Gates.{owns, tests_7, tests_6, tests_on, require_no, require_on}
 
 module _ (p : Plan) (u : State) where
   module _ (e a : ℤ) where
     rest : Step Ctx
     rest = require 10 (event_fits p.events e a) then enqueue e a
 
-    pub post-7 : u.started ≡ false → called (as_found 7 0 u) ≡ called (plan_post p u e a)
+    pub post_7 : u.started ≡ false → called (as_found 7 0 u) ≡ called (plan_post p u e a)
     unfolding plan_post rest
-    post-7 s = refusing u (tests-7 p u rest (begin u 0) s)
+    post_7 s = refusing u (tests_7 p u rest (begin u 0) s)
 
     module _ (s : u.started ≡ true) where
-      pub post-6 : owns p u ≡ false → called (as_found 6 0 u) ≡ called (plan_post p u e a)
+      pub post_6 : owns p u ≡ false → called (as_found 6 0 u) ≡ called (plan_post p u e a)
       unfolding plan_post rest
-      post-6 o = refusing u (tests-6 p u rest (begin u 0) s o)
+      post_6 o = refusing u (tests_6 p u rest (begin u 0) s o)
 
       module _ (o : owns p u ≡ true) {n : ℕ} (k : n ≡ p.events) where
-        pub post-10 : event_fits n e a ≡ false → called (as_found 10 0 u) ≡ called (plan_post p u e a)
+        pub post_10 : event_fits n e a ≡ false → called (as_found 10 0 u) ≡ called (plan_post p u e a)
         unfolding plan_post rest
-        post-10 f = refusing u (tests-on p u rest (begin u 0) s o
-            ∙ require-no 10 (enqueue e a) (begin u 0) (ap (λ x. event_fits x e a) (sym k) ∙ f))
+        post_10 f = refusing u (tests_on p u rest (begin u 0) s o
+            ∙ require_no 10 (enqueue e a) (begin u 0) (ap (λ x. event_fits x e a) (sym k) ∙ f))
 
         module _ (f : event_fits n e a ≡ true) {q : Queued} (g : q ≡ appended u.queue e a) where
-          to-queue : (plan_tests p u then rest) (begin u 0) ≡ take_queue q (begin u 0)
+          to_queue : (plan_tests p u then rest) (begin u 0) ≡ take_queue q (begin u 0)
           unfolding rest enqueue look begin
-          to-queue =
-              tests-on p u rest (begin u 0) s o
-              ∙ require-on 10 (enqueue e a) (begin u 0) (ap (λ x. event_fits x e a) (sym k) ∙ f)
+          to_queue =
+              tests_on p u rest (begin u 0) s o
+              ∙ require_on 10 (enqueue e a) (begin u 0) (ap (λ x. event_fits x e a) (sym k) ∙ f)
               ∙ ap (λ x. take_queue x (begin u 0)) (sym g)
 
-          pub post-9 : q.done ≡ false → called (as_found 9 0 u) ≡ called (plan_post p u e a)
+          pub post_9 : q.done ≡ false → called (as_found 9 0 u) ≡ called (plan_post p u e a)
           unfolding plan_post rest take_queue
-          post-9 d = refusing u (to-queue ∙ require-no 9 (change (set_queue q.queue)) (begin u 0) d)
+          post_9 d = refusing u (to_queue ∙ require_no 9 (change (set_queue q.queue)) (begin u 0) d)
 
-          pub post-0 : q.done ≡ true → called (quiet (set_queue q.queue u)) ≡ called (plan_post p u e a)
+          pub post_0 : q.done ≡ true → called (quiet (set_queue q.queue u)) ≡ called (plan_post p u e a)
           unfolding plan_post rest take_queue
-          post-0 d = ending u q.queue (to-queue ∙ require-on 9 (change (set_queue q.queue)) (begin u 0) d)
+          post_0 d = ending u q.queue (to_queue ∙ require_on 9 (change (set_queue q.queue)) (begin u 0) d)
 
-  pub discard-7 : u.started ≡ false → called (as_found 7 0 u) ≡ called (plan_discard p u)
+  pub discard_7 : u.started ≡ false → called (as_found 7 0 u) ≡ called (plan_discard p u)
   unfolding plan_discard
-  discard-7 s = refusing u (tests-7 p u (take_front (removed u.queue)) (begin u 0) s)
+  discard_7 s = refusing u (tests_7 p u (take_front (removed u.queue)) (begin u 0) s)
 
   module _ (s : u.started ≡ true) where
-    pub discard-6 : owns p u ≡ false → called (as_found 6 0 u) ≡ called (plan_discard p u)
+    pub discard_6 : owns p u ≡ false → called (as_found 6 0 u) ≡ called (plan_discard p u)
     unfolding plan_discard
-    discard-6 o = refusing u (tests-6 p u (take_front (removed u.queue)) (begin u 0) s o)
+    discard_6 o = refusing u (tests_6 p u (take_front (removed u.queue)) (begin u 0) s o)
 
     module _ (o : owns p u ≡ true) {r : Removed} (g : r ≡ removed u.queue) where
       to_front : (plan_tests p u then take_front (removed u.queue)) (begin u 0) ≡ take_front r (begin u 0)
-      to_front = tests-on p u (take_front (removed u.queue)) (begin u 0) s o ∙ ap (λ x. take_front x (begin u 0)) (sym g)
+      to_front = tests_on p u (take_front (removed u.queue)) (begin u 0) s o ∙ ap (λ x. take_front x (begin u 0)) (sym g)
 
-      pub discard-8 : r.done ≡ false → called (as_found 8 0 u) ≡ called (plan_discard p u)
+      pub discard_8 : r.done ≡ false → called (as_found 8 0 u) ≡ called (plan_discard p u)
       unfolding plan_discard take_front
-      discard-8 d = refusing u (to_front ∙ require-no 8 (change (set_queue r.queue)) (begin u 0) d)
+      discard_8 d = refusing u (to_front ∙ require_no 8 (change (set_queue r.queue)) (begin u 0) d)
 
-      pub discard-0 : r.done ≡ true → called (quiet (set_queue r.queue u)) ≡ called (plan_discard p u)
+      pub discard_0 : r.done ≡ true → called (quiet (set_queue r.queue u)) ≡ called (plan_discard p u)
       unfolding plan_discard take_front
-      discard-0 d = ending u r.queue (to_front ∙ require-on 8 (change (set_queue r.queue)) (begin u 0) d)
+      discard_0 d = ending u r.queue (to_front ∙ require_on 8 (change (set_queue r.queue)) (begin u 0) d)

@@ -4,7 +4,7 @@
 use Rattle.std.specs.Prelude.{ℕ, List, ℤ, pos}
 -- kind (o, a, b)
 pub use Rattle.meaning.specs.declared.chart.Kind.{Kind}
-pub use Rattle.meaning.specs.declared.chart.Kind.TheVariants.{O as kind-o, A as kind-a, B as kind-b}
+pub use Rattle.meaning.specs.declared.chart.Kind.TheVariants.{O as kind_o, A as kind_a, B as kind_b}
 -- guard sign (=, <, >)
 pub use Rattle.meaning.specs.declared.chart.Sign.{Sign}
 pub use Rattle.meaning.specs.declared.chart.Sign.TheVariants.{Equal as equal, Less as less, More as more}
@@ -16,12 +16,12 @@ pub use Rattle.meaning.specs.declared.chart.Target.{Target}
 pub use Rattle.meaning.specs.declared.chart.Target.TheVariants.{To as to, History as history, InPlace as in_place}
 -- acts s, a, k, q, o: set, add, take, send, tell
 pub use Rattle.meaning.specs.declared.chart.Act.{Act}
-pub use Rattle.meaning.specs.declared.chart.Act.TheVariants.{SetTo as set_to, AddTo as add_to, TakeTo as take-to}
+pub use Rattle.meaning.specs.declared.chart.Act.TheVariants.{SetTo as set_to, AddTo as add_to, TakeTo as take_to}
 pub use Rattle.meaning.specs.declared.chart.Act.TheVariants.{Send as send, Tell as tell}
 -- owner kinds e, x, d, t
 pub use Rattle.meaning.specs.declared.chart.Owner.{Owner}
-pub use Rattle.meaning.specs.declared.chart.Owner.TheVariants.{EntryOf as entry_of, ExitOf as exit-of}
-pub use Rattle.meaning.specs.declared.chart.Owner.TheVariants.{DefaultOf as default-of, TransitionOf as transition-of}
+pub use Rattle.meaning.specs.declared.chart.Owner.TheVariants.{EntryOf as entry_of, ExitOf as exit_of}
+pub use Rattle.meaning.specs.declared.chart.Owner.TheVariants.{DefaultOf as default_of, TransitionOf as transition_of}
 -- S: parent, kind, default; V: low, high, first; T: source, trigger, guard, target; A: owner, act
 pub use Rattle.meaning.specs.declared.chart.StateRow.{StateRow}
 pub use Rattle.meaning.specs.declared.chart.VarRow.{VarRow}
@@ -38,7 +38,7 @@ pub record Chart : Type 0 where
 
 -- what stands at a place that the chart does not have
 abbrev pub no_state : StateRow
-no_state = record { parent = 0; kind = kind-b; default = 0 }
+no_state = record { parent = 0; kind = kind_b; default = 0 }
 
 abbrev pub no_var : VarRow
 no_var = record { low = pos 0; high = pos 0; first = pos 0 }

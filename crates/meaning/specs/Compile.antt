@@ -4,8 +4,8 @@ use Rattle.std.specs.Prelude.{ℕ, suc, ◌+◌, Bool, true, false, cond, List, 
 use Rattle.std.proofs.Math.Option.{Option, none, some}
 use Rattle.meaning.specs.Answers.{RULE_FAILS, PLAN_TOO_LONG}
 use Rattle.meaning.specs.Lists.{concat_map}
-use Rattle.meaning.specs.Chart.{Kind, kind-o, kind-a, kind-b, Target, to, history, in_place, Owner, entry_of, exit-of, default-of}
-use Rattle.meaning.specs.Chart.{transition-of}
+use Rattle.meaning.specs.Chart.{Kind, kind_o, kind_a, kind_b, Target, to, history, in_place, Owner, entry_of, exit_of, default_of}
+use Rattle.meaning.specs.Chart.{transition_of}
 use Rattle.meaning.specs.Chart.{TransRow, Chart}
 use Rattle.meaning.specs.Tree.{parent_of, kind_of, trans_row, all_transitions, descendants, scope, span}
 use Rattle.meaning.specs.Effects.{acts_of, o_parent}
@@ -14,7 +14,7 @@ use Rattle.meaning.specs.Reaction.{choosing_order}
 use Rattle.meaning.specs.Value.{chart_of}
 use Rattle.meaning.specs.Rules.{failing_rule_of}
 use Rattle.meaning.specs.Text.{Result, done, refused, answer_of, count_of, lent_result}
-use Rattle.meaning.specs.Plan.{Instr, go-in, go-out, skip-out, skip-empty, skip-full, skip-not, does, Head, Plan, plan_numbers}
+use Rattle.meaning.specs.Plan.{Instr, go_in, go_out, skip_out, skip_empty, skip_full, skip_not, does, Head, Plan, plan_numbers}
 use Rattle.meaning.specs.declared.plan.Compiled.{Compiled}
 
 -- ---- the parts of a block
@@ -24,26 +24,26 @@ code_acts c o = map does (acts_of c o)
 
 -- "for each state of the span, .. with k exit actions: SKIPOUT s k+1, OUT s, the actions"
 unfoldable pub exit_code : Chart → ℕ → List Instr
-exit_code c s = skip-out s (suc (length (code_acts c (exit-of s)))) ∷ go-out s (o_parent c s) ∷ code_acts c (exit-of s)
+exit_code c s = skip_out s (suc (length (code_acts c (exit_of s)))) ∷ go_out s (o_parent c s) ∷ code_acts c (exit_of s)
 
 -- "IN, entry actions"
 unfoldable pub enter_code : Chart → ℕ → List Instr
-enter_code c s = go-in s ∷ code_acts c (entry_of s)
+enter_code c s = go_in s ∷ code_acts c (entry_of s)
 
 -- "For each entered state, ..: default actions where due, IN, entry actions"
 unfoldable pub visit_code : Chart → Visit → List Instr
 visit_code c (plain s) = enter_code c s
-visit_code c (by_default p s) = code_acts c (default-of p) ++ enter_code c s
+visit_code c (by_default p s) = code_acts c (default_of p) ++ enter_code c s
 
 -- "SKIPNOT p d k+1 if p is kind o; IN d; its actions"
 unfoldable pub held_code : Chart → Kind → ℕ → ℕ → List Instr
-held_code c kind-o p d = skip-not p d (length (enter_code c d)) ∷ enter_code c d
-held_code c kind-a p d = enter_code c d
-held_code c kind-b p d = enter_code c d
+held_code c kind_o p d = skip_not p d (length (enter_code c d)) ∷ enter_code c d
+held_code c kind_a p d = enter_code c d
+held_code c kind_b p d = enter_code c d
 
 -- "SKIPOUT p past all of d"
 unfoldable pub past_if_out : ℕ → List Instr → List Instr
-past_if_out p code = skip-out p (length code) ∷ code
+past_if_out p code = skip_out p (length code) ∷ code
 
 unfoldable pub stored_code : Chart → ℕ → List Instr
 stored_code c d = past_if_out (parent_of c d) (held_code c (kind_of c (parent_of c d)) (parent_of c d) d)
@@ -57,7 +57,7 @@ default_arm c b = concat_map (visit_code c) (all_below c by_defaults b)
 
 -- "SKIPFULL B over the default arm; the arm; SKIPEMPTY B over the stored arm; the arm"
 unfoldable pub arms_of : ℕ → List Instr → List Instr → List Instr
-arms_of b default stored = skip-full b (length default) ∷ default ++ (skip-empty b (length stored) ∷ stored)
+arms_of b default stored = skip_full b (length default) ∷ default ++ (skip_empty b (length stored) ∷ stored)
 
 unfoldable pub arms : Chart → ℕ → List Instr
 arms c b = arms_of b (default_arm c b) (stored_arm c b)
@@ -79,11 +79,11 @@ exits_code c ss = concat_map (exit_code c) (reverse ss)
 unfoldable pub block_to : Chart → ℕ → ℕ → Target → List Instr
 block_to c t s (to d) =
     exits_code c (descendants c (scope c s d))
-    ++ (code_acts c (transition-of t) ++ concat_map (visit_code c) (all_below c (towards c d) (scope c s d)))
+    ++ (code_acts c (transition_of t) ++ concat_map (visit_code c) (all_below c (towards c d) (scope c s d)))
 block_to c t s (history b) =
     exits_code c (descendants c (scope c s b))
-    ++ (code_acts c (transition-of t) ++ concat_map (towards_code c b) (all_below c (towards_owner c b) (scope c s b)))
-block_to c t s in_place = code_acts c (transition-of t)
+    ++ (code_acts c (transition_of t) ++ concat_map (towards_code c b) (all_below c (towards_owner c b) (scope c s b)))
+block_to c t s in_place = code_acts c (transition_of t)
 
 unfoldable pub block : Chart → ℕ → List Instr
 block c t = block_to c t (trans_row c t).source (trans_row c t).target

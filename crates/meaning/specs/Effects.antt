@@ -8,8 +8,8 @@ use Rattle.meaning.specs.Answers.{QUEUE_FULL}
 use Rattle.meaning.specs.declared.State.{State}
 use Rattle.meaning.specs.Steps.{Res, ok, refuse, Step, ◌then◌, require, look, each}
 use Rattle.meaning.specs.Lists.{concat_map}
-use Rattle.meaning.specs.Chart.{Act, set_to, add_to, take-to, send, tell, Owner, entry_of, exit-of, default-of}
-use Rattle.meaning.specs.Chart.{transition-of, VarRow, ActRow, Chart}
+use Rattle.meaning.specs.Chart.{Act, set_to, add_to, take_to, send, tell, Owner, entry_of, exit_of, default_of}
+use Rattle.meaning.specs.Chart.{transition_of, VarRow, ActRow, Chart}
 use Rattle.meaning.specs.Tree.{parent_of, kind_of, var_row, is_o}
 use Rattle.meaning.specs.Widget.{Ctx, Slot, empty, holds, value_at, set_active, set_slot, set_value, set_queue, change, emit}
 use Rattle.meaning.specs.Widget.{Entry, left, entered, changed, sent, told}
@@ -36,7 +36,7 @@ enqueue e x = look (λ k. take_queue (appended k.state.queue e x))
 unfoldable pub act_on : VarRow → ℤ → Act → Step Ctx
 act_on r a (set_to v x) = assign r v x
 act_on r a (add_to v x) = look (λ k. assign r v (value_at k.state v +ℤ x))
-act_on r a (take-to v) = assign r v a
+act_on r a (take_to v) = assign r v a
 act_on r a (send e x) = emit (sent e x) then enqueue (pos e) x
 act_on r a (tell x) = emit (told x)
 
@@ -44,7 +44,7 @@ act_on r a (tell x) = emit (told x)
 unfoldable pub act_var : Act → ℕ
 act_var (set_to v x) = v
 act_var (add_to v x) = v
-act_var (take-to v) = v
+act_var (take_to v) = v
 act_var (send e x) = 0
 act_var (tell x) = 0
 
@@ -55,21 +55,21 @@ perform vs a x = act_on (var_row vs (act_var x)) a x
 
 unfoldable pub same_owner : Owner → Owner → Bool
 same_owner (entry_of m) (entry_of n) = eqb m n
-same_owner (entry_of m) (exit-of n) = false
-same_owner (entry_of m) (default-of n) = false
-same_owner (entry_of m) (transition-of n) = false
-same_owner (exit-of m) (entry_of n) = false
-same_owner (exit-of m) (exit-of n) = eqb m n
-same_owner (exit-of m) (default-of n) = false
-same_owner (exit-of m) (transition-of n) = false
-same_owner (default-of m) (entry_of n) = false
-same_owner (default-of m) (exit-of n) = false
-same_owner (default-of m) (default-of n) = eqb m n
-same_owner (default-of m) (transition-of n) = false
-same_owner (transition-of m) (entry_of n) = false
-same_owner (transition-of m) (exit-of n) = false
-same_owner (transition-of m) (default-of n) = false
-same_owner (transition-of m) (transition-of n) = eqb m n
+same_owner (entry_of m) (exit_of n) = false
+same_owner (entry_of m) (default_of n) = false
+same_owner (entry_of m) (transition_of n) = false
+same_owner (exit_of m) (entry_of n) = false
+same_owner (exit_of m) (exit_of n) = eqb m n
+same_owner (exit_of m) (default_of n) = false
+same_owner (exit_of m) (transition_of n) = false
+same_owner (default_of m) (entry_of n) = false
+same_owner (default_of m) (exit_of n) = false
+same_owner (default_of m) (default_of n) = eqb m n
+same_owner (default_of m) (transition_of n) = false
+same_owner (transition_of m) (entry_of n) = false
+same_owner (transition_of m) (exit_of n) = false
+same_owner (transition_of m) (default_of n) = false
+same_owner (transition_of m) (transition_of n) = eqb m n
 
 unfoldable pub acts_in : List ActRow → Owner → List Act
 acts_in [] o = []
@@ -98,7 +98,7 @@ mark_left p s = emit (left s) then change (λ u. store_in p s (set_active s fals
 
 -- "its exit actions follow at once"
 unfoldable pub leave : Chart → ℤ → ℕ → Step Ctx
-leave c a s = mark_left (o_parent c s) s then perform_all c a (exit-of s)
+leave c a s = mark_left (o_parent c s) s then perform_all c a (exit_of s)
 
 -- ---- entering one state
 

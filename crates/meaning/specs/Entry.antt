@@ -5,7 +5,7 @@ use Rattle.meaning.specs.Answers.{SLOT_EMPTY}
 use Rattle.meaning.specs.declared.State.{State}
 use Rattle.meaning.specs.Steps.{Res, refuse, Step, ◌then◌, when, look, each}
 use Rattle.meaning.specs.Lists.{has, first_that, concat_map}
-use Rattle.meaning.specs.Chart.{Kind, kind-o, kind-a, kind-b, default-of, Chart}
+use Rattle.meaning.specs.Chart.{Kind, kind_o, kind_a, kind_b, default_of, Chart}
 use Rattle.meaning.specs.Tree.{kind_of, default_child, is_o, ancestors, is_child, children}
 use Rattle.meaning.specs.Widget.{Ctx, Slot, empty, holds, slot, is_empty}
 use Rattle.meaning.specs.Effects.{perform_all, enter}
@@ -27,11 +27,11 @@ pub data Way : Type 0 where
 
 -- how s goes on: with one child if it is an o state, "in each a state every component"
 unfoldable pub goes_on : Chart → (ℕ → List Visit) → ℕ → Kind → Way → List Visit
-goes_on c deep s kind-o (on_to d) = plain d ∷ deep d
-goes_on c deep s kind-o defaults = by_default s (default_child c s) ∷ deep (default_child c s)
-goes_on c deep s kind-o stops = []
-goes_on c deep s kind-a way = concat_map (λ d. plain d ∷ deep d) (children c s)
-goes_on c deep s kind-b way = []
+goes_on c deep s kind_o (on_to d) = plain d ∷ deep d
+goes_on c deep s kind_o defaults = by_default s (default_child c s) ∷ deep (default_child c s)
+goes_on c deep s kind_o stops = []
+goes_on c deep s kind_a way = concat_map (λ d. plain d ∷ deep d) (children c s)
+goes_on c deep s kind_b way = []
 
 -- all that is entered below s, which itself is in (f: at least as many as there are states)
 unfoldable pub below : Chart → (ℕ → Way) → ℕ → ℕ → List Visit
@@ -67,7 +67,7 @@ by_slots u s = slot_way (slot u s)
 -- "A state entered by its parent's default has that default's actions run just before it"
 unfoldable pub visit : Chart → ℤ → Visit → Step Ctx
 visit c a (plain s) = enter c a s
-visit c a (by_default p s) = perform_all c a (default-of p) then enter c a s
+visit c a (by_default p s) = perform_all c a (default_of p) then enter c a s
 
 -- in a restore an o state whose slot is empty has no child to go on with: 14 "a restore meets an empty slot below its owner"
 unfoldable pub revisit : Chart → ℤ → Visit → Step Ctx

@@ -6,8 +6,8 @@ use Rattle.queue.specs.Queue.{item, queue_of}
 use Rattle.meaning.specs.declared.State.{State}
 use Rattle.meaning.specs.Grammar.{bytes, Record, s_record, v_record, e_record, t_record, a_record, no_record}
 use Rattle.meaning.specs.Lists.{concat_map, from, has, padded}
-use Rattle.meaning.specs.Chart.{Kind, kind-o, kind-a, kind-b, Guard, always, compares, equal, Target, to, history, set_to}
-use Rattle.meaning.specs.Chart.{add_to, send, tell, entry_of, exit-of, default-of, transition-of}
+use Rattle.meaning.specs.Chart.{Kind, kind_o, kind_a, kind_b, Guard, always, compares, equal, Target, to, history, set_to}
+use Rattle.meaning.specs.Chart.{add_to, send, tell, entry_of, exit_of, default_of, transition_of}
 use Rattle.meaning.specs.Chart.{StateRow, VarRow, TransRow, ActRow, Act, Owner, Chart}
 use Rattle.meaning.specs.Value.{ABSENT}
 use Rattle.meaning.specs.Text.{value_of}
@@ -47,11 +47,11 @@ text_K = concat_map bytes (
 -- chart K as a chart
 unfoldable pub chart_K : Chart
 chart_K = record {
-  states = st 0 kind-o 1 ∷ st 0 kind-b 0 ∷ st 0 kind-o 3 ∷ st 2 kind-b 0 ∷ st 2 kind-b 0 ∷ [];
+  states = st 0 kind_o 1 ∷ st 0 kind_b 0 ∷ st 0 kind_o 3 ∷ st 2 kind_b 0 ∷ st 2 kind_b 0 ∷ [];
   vars = record { low = negsuc 99; high = pos 100; first = pos 0 } ∷ [];
   events = 2;
   transitions = tr 1 1 always (history 2) ∷ tr 3 2 always (to 4) ∷ tr 2 1 always (to 1) ∷ [];
-  actions = ac (entry_of 4) (tell (pos 7)) ∷ ac (exit-of 2) (add_to 0 (pos 60)) ∷ ac (default-of 2) (tell (pos 9)) ∷ [];
+  actions = ac (entry_of 4) (tell (pos 7)) ∷ ac (exit_of 2) (add_to 0 (pos 60)) ∷ ac (default_of 2) (tell (pos 9)) ∷ [];
 }
 
 -- chart K's rows: each field a number, or the code of its letter
@@ -81,18 +81,18 @@ plan_K = compile chart_K
 unfoldable pub chart_two : Chart
 chart_two = record {
   states =
-      st 0 kind-o 1 ∷ st 0 kind-a 0 ∷ st 1 kind-o 3 ∷ st 2 kind-b 0 ∷ st 2 kind-b 0 ∷ st 1 kind-o 6 ∷ st 5 kind-b 0 ∷ st 5 kind-b 0 ∷ [];
+      st 0 kind_o 1 ∷ st 0 kind_a 0 ∷ st 1 kind_o 3 ∷ st 2 kind_b 0 ∷ st 2 kind_b 0 ∷ st 1 kind_o 6 ∷ st 5 kind_b 0 ∷ st 5 kind_b 0 ∷ [];
   vars = record { low = negsuc 99; high = pos 100; first = pos 0 } ∷ [];
   events = 0;
   transitions = tr 3 0 (compares 0 equal (pos 0)) (to 4) ∷ tr 6 0 always (to 7) ∷ [];
-  actions = ac (transition-of 1) (set_to 0 (pos 1)) ∷ [];
+  actions = ac (transition_of 1) (set_to 0 (pos 1)) ∷ [];
 }
 
 -- a component that is its own source and target: its scope lies above its a parent, so every component is left and entered
 unfoldable pub chart_self : Chart
 chart_self = record {
   states =
-      st 0 kind-o 1 ∷ st 0 kind-a 0 ∷ st 1 kind-o 3 ∷ st 2 kind-b 0 ∷ st 1 kind-o 5 ∷ st 4 kind-b 0 ∷ [];
+      st 0 kind_o 1 ∷ st 0 kind_a 0 ∷ st 1 kind_o 3 ∷ st 2 kind_b 0 ∷ st 1 kind_o 5 ∷ st 4 kind_b 0 ∷ [];
   vars = [];
   events = 1;
   transitions = tr 2 1 always (to 2) ∷ [];
@@ -102,27 +102,27 @@ chart_self = record {
 -- a history entered from inside its own owner: it restores what that very firing has just left
 unfoldable pub chart_inside : Chart
 chart_inside = record {
-  states = st 0 kind-o 1 ∷ st 0 kind-o 2 ∷ st 1 kind-b 0 ∷ st 1 kind-b 0 ∷ [];
+  states = st 0 kind_o 1 ∷ st 0 kind_o 2 ∷ st 1 kind_b 0 ∷ st 1 kind_b 0 ∷ [];
   vars = [];
   events = 2;
   transitions = tr 2 1 always (to 3) ∷ tr 3 2 always (history 1) ∷ [];
-  actions = ac (default-of 1) (tell (pos 9)) ∷ [];
+  actions = ac (default_of 1) (tell (pos 9)) ∷ [];
 }
 
 -- a queue that fills in the middle of a reaction: state 1 is left, and its exit actions send one event more than there are places
 unfoldable pub chart_filling : Chart
 chart_filling = record {
-  states = st 0 kind-o 1 ∷ st 0 kind-b 0 ∷ st 0 kind-b 0 ∷ [];
+  states = st 0 kind_o 1 ∷ st 0 kind_b 0 ∷ st 0 kind_b 0 ∷ [];
   vars = [];
   events = 1;
   transitions = tr 1 1 always (to 2) ∷ [];
-  actions = replicate (suc QUEUE) (ac (exit-of 1) (send 1 (pos 0)));
+  actions = replicate (suc QUEUE) (ac (exit_of 1) (send 1 (pos 0)));
 }
 
 -- an event that null steps follow, one after another: 1 to 2 by the event, then on to 3 and to 4
 unfoldable pub chart_settling : Chart
 chart_settling = record {
-  states = st 0 kind-o 1 ∷ st 0 kind-b 0 ∷ st 0 kind-b 0 ∷ st 0 kind-b 0 ∷ st 0 kind-b 0 ∷ [];
+  states = st 0 kind_o 1 ∷ st 0 kind_b 0 ∷ st 0 kind_b 0 ∷ st 0 kind_b 0 ∷ st 0 kind_b 0 ∷ [];
   vars = [];
   events = 1;
   transitions = tr 1 1 always (to 2) ∷ tr 2 0 always (to 3) ∷ tr 3 0 always (to 4) ∷ [];

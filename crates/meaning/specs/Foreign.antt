@@ -9,7 +9,7 @@ use Rattle.queue.specs.declared.Item.{Item}
 use Rattle.queue.specs.declared.Queue.{Queue}
 use Rattle.meaning.specs.declared.State.{State}
 use Rattle.meaning.specs.Lists.{keep, every, from}
-use Rattle.meaning.specs.Chart.{Kind, kind-o, kind-a, kind-b, VarRow, Chart}
+use Rattle.meaning.specs.Chart.{Kind, kind_o, kind_a, kind_b, VarRow, Chart}
 use Rattle.meaning.specs.Tree.{kind_of, is_o, all_states, is_child, children}
 use Rattle.meaning.specs.Rules.{within_row}
 use Rattle.meaning.specs.Widget.{is_active, Slot, slot, is_filled}
@@ -18,9 +18,9 @@ use Rattle.meaning.specs.Widget.{is_active, Slot, slot, is_filled}
 
 -- "one child of each o state in it and all children of each a state in it"
 unfoldable pub children_legal : Chart → State → Kind → List ℕ → Bool
-children_legal c u kind-o ds = eqb (length (keep (is_active u) ds)) 1
-children_legal c u kind-a ds = every (is_active u) ds
-children_legal c u kind-b ds = true
+children_legal c u kind_o ds = eqb (length (keep (is_active u) ds)) 1
+children_legal c u kind_a ds = every (is_active u) ds
+children_legal c u kind_b ds = true
 
 -- "exactly": below a state that is not in it nothing is
 unfoldable pub legal_at : Chart → State → ℕ → Bool
@@ -44,9 +44,9 @@ values_fit (r ∷ rs) (x ∷ xs) = within_row r x && values_fit rs xs
 
 -- what stands in a slot leads on: an o state's slot is filled, and that of each component of an a state
 unfoldable pub leads_on : Chart → State → Kind → ℕ → Bool
-leads_on c u kind-o d = is_filled (slot u d)
-leads_on c u kind-a d = every (λ x. is_filled (slot u x)) (children c d)
-leads_on c u kind-b d = true
+leads_on c u kind_o d = is_filled (slot u d)
+leads_on c u kind_a d = every (λ x. is_filled (slot u x)) (children c d)
+leads_on c u kind_b d = true
 
 unfoldable pub slot_fits : Chart → State → ℕ → ℤ → Bool
 slot_fits c u s (pos d) = ltb d (length c.states) && (is_o (kind_of c s) && (is_child c s d && leads_on c u (kind_of c d) d))

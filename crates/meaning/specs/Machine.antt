@@ -14,7 +14,7 @@ use Rattle.meaning.specs.Reaction.{guard_holds, step_by, settle_in_by, settle_by
 use Rattle.meaning.specs.Foreign.{values_fit, queue_fits, marks_fit}
 use Rattle.meaning.specs.Calls.{Outcome, Runner, as_found, fresh_by, start_steps_by, start_by, tests_by, react_by, run_by, post_by}
 use Rattle.meaning.specs.Calls.{discard_by}
-use Rattle.meaning.specs.Plan.{Instr, go-in, go-out, skip-out, skip-empty, skip-full, skip-not, does, Head, Plan}
+use Rattle.meaning.specs.Plan.{Instr, go_in, go_out, skip_out, skip_empty, skip_full, skip_not, does, Head, Plan}
 use Rattle.meaning.specs.WellFormed.{plan_by, well_formed}
 
 -- ---- running instructions
@@ -44,12 +44,12 @@ holds_it d (holds x) = eqb d x
 -- "1 IN s. 2 OUT s p. Both act and trace even if s is so already. 3 SKIPOUT s n: pass over n if s is not active. 4 SKIPEMPTY s n.
 -- 5 SKIPFULL s n. 6 SKIPNOT s d n: pass over n if the slot of s is not d. 7 SET, 8 ADD, 9 TAKE, 10 SEND, 11 TELL"
 unfoldable pub exec_now : List VarRow → ℤ → Instr → Ctx → Res Mach
-exec_now vs a (go-in s) k = go_on (mark_entered s k)
-exec_now vs a (go-out s p) k = go_on (mark_left p s k)
-exec_now vs a (skip-out s n) k = on_if (is_active k.state s) n k
-exec_now vs a (skip-empty s n) k = on_if (is_filled (slot k.state s)) n k
-exec_now vs a (skip-full s n) k = on_if (is_empty (slot k.state s)) n k
-exec_now vs a (skip-not s d n) k = on_if (holds_it d (slot k.state s)) n k
+exec_now vs a (go_in s) k = go_on (mark_entered s k)
+exec_now vs a (go_out s p) k = go_on (mark_left p s k)
+exec_now vs a (skip_out s n) k = on_if (is_active k.state s) n k
+exec_now vs a (skip_empty s n) k = on_if (is_filled (slot k.state s)) n k
+exec_now vs a (skip_full s n) k = on_if (is_empty (slot k.state s)) n k
+exec_now vs a (skip_not s d n) k = on_if (holds_it d (slot k.state s)) n k
 exec_now vs a (does x) k = go_on (perform vs a x k)
 
 unfoldable pub exec_at : List VarRow → ℤ → ℕ → Instr → Ctx → Res Mach

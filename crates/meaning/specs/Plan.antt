@@ -2,13 +2,13 @@
 -- The instructions and heads are the types declared in src/plan.rt, by the names that the definitions use.
 use Rattle.std.specs.Prelude.{ℕ, List, [], ◌∷◌, ◌++◌, length, ℤ, pos, negsuc}
 use Rattle.meaning.specs.Lists.{concat_map}
-use Rattle.meaning.specs.Chart.{Sign, equal, less, more, Guard, always, compares, Act, set_to, add_to, take-to, send, tell, VarRow}
+use Rattle.meaning.specs.Chart.{Sign, equal, less, more, Guard, always, compares, Act, set_to, add_to, take_to, send, tell, VarRow}
 use Rattle.meaning.specs.Widget.{Slot, empty, holds}
 -- IN, OUT, SKIPOUT, SKIPEMPTY, SKIPFULL, SKIPNOT, and SET, ADD, TAKE, SEND, TELL, which are the acts
 pub use Rattle.meaning.specs.declared.plan.Instr.{Instr}
-pub use Rattle.meaning.specs.declared.plan.Instr.TheVariants.{In as go-in, Out as go-out, SkipOut as skip-out}
-pub use Rattle.meaning.specs.declared.plan.Instr.TheVariants.{SkipEmpty as skip-empty}
-pub use Rattle.meaning.specs.declared.plan.Instr.TheVariants.{SkipFull as skip-full, SkipNot as skip-not, Does as does}
+pub use Rattle.meaning.specs.declared.plan.Instr.TheVariants.{In as go_in, Out as go_out, SkipOut as skip_out}
+pub use Rattle.meaning.specs.declared.plan.Instr.TheVariants.{SkipEmpty as skip_empty}
+pub use Rattle.meaning.specs.declared.plan.Instr.TheVariants.{SkipFull as skip_full, SkipNot as skip_not, Does as does}
 -- transition, source, trigger, guard, span first, span last, block start, block length
 pub use Rattle.meaning.specs.declared.plan.Head.{Head}
 
@@ -32,18 +32,18 @@ slot_number (holds d) = pos d
 unfoldable pub act_numbers : Act → List ℤ
 act_numbers (set_to v x) = pos 7 ∷ pos v ∷ x ∷ pos 0 ∷ []
 act_numbers (add_to v x) = pos 8 ∷ pos v ∷ x ∷ pos 0 ∷ []
-act_numbers (take-to v) = pos 9 ∷ pos v ∷ pos 0 ∷ pos 0 ∷ []
+act_numbers (take_to v) = pos 9 ∷ pos v ∷ pos 0 ∷ pos 0 ∷ []
 act_numbers (send e x) = pos 10 ∷ pos e ∷ x ∷ pos 0 ∷ []
 act_numbers (tell x) = pos 11 ∷ x ∷ pos 0 ∷ pos 0 ∷ []
 
 -- "1 IN s. 2 OUT s p. 3 SKIPOUT s n. 4 SKIPEMPTY s n. 5 SKIPFULL s n. 6 SKIPNOT s d n"
 unfoldable pub instr_numbers : Instr → List ℤ
-instr_numbers (go-in s) = pos 1 ∷ pos s ∷ pos 0 ∷ pos 0 ∷ []
-instr_numbers (go-out s p) = pos 2 ∷ pos s ∷ slot_number p ∷ pos 0 ∷ []
-instr_numbers (skip-out s n) = pos 3 ∷ pos s ∷ pos n ∷ pos 0 ∷ []
-instr_numbers (skip-empty s n) = pos 4 ∷ pos s ∷ pos n ∷ pos 0 ∷ []
-instr_numbers (skip-full s n) = pos 5 ∷ pos s ∷ pos n ∷ pos 0 ∷ []
-instr_numbers (skip-not s d n) = pos 6 ∷ pos s ∷ pos d ∷ pos n ∷ []
+instr_numbers (go_in s) = pos 1 ∷ pos s ∷ pos 0 ∷ pos 0 ∷ []
+instr_numbers (go_out s p) = pos 2 ∷ pos s ∷ slot_number p ∷ pos 0 ∷ []
+instr_numbers (skip_out s n) = pos 3 ∷ pos s ∷ pos n ∷ pos 0 ∷ []
+instr_numbers (skip_empty s n) = pos 4 ∷ pos s ∷ pos n ∷ pos 0 ∷ []
+instr_numbers (skip_full s n) = pos 5 ∷ pos s ∷ pos n ∷ pos 0 ∷ []
+instr_numbers (skip_not s d n) = pos 6 ∷ pos s ∷ pos d ∷ pos n ∷ []
 instr_numbers (does x) = act_numbers x
 
 -- ---- a head's ten numbers

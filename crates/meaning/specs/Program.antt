@@ -15,7 +15,7 @@ use Rattle.meaning.specs.Text.{read}
 use Rattle.meaning.specs.Text as text
 -- a line of the input: an event and its argument to post, or a line of another form
 pub use Rattle.meaning.specs.declared.Input.{Input}
-pub use Rattle.meaning.specs.declared.Input.TheVariants.{Posts as posts, Wrong as another-form}
+pub use Rattle.meaning.specs.declared.Input.TheVariants.{Posts as posts, Wrong as another_form}
 
 -- "With room for 1,000 entries"
 abbrev pub ENTRIES : ℕ
@@ -46,20 +46,20 @@ report n trace = 82 ∷ SPACE ∷ digits n ++ SPACE ∷ digits (length trace / E
 unfoldable pub input_by : Num → Num → Input
 input_by (Is e) (Is a) = posts e a
 input_by (Is e) Beyond = posts e (pos BEYOND)
-input_by (Is e) Not = another-form
+input_by (Is e) Not = another_form
 input_by Beyond (Is a) = posts (pos BEYOND) a
 input_by Beyond Beyond = posts (pos BEYOND) (pos BEYOND)
-input_by Beyond Not = another-form
-input_by Not (Is a) = another-form
-input_by Not Beyond = another-form
-input_by Not Not = another-form
+input_by Beyond Not = another_form
+input_by Not (Is a) = another_form
+input_by Not Beyond = another_form
+input_by Not Not = another_form
 
 -- "lines of event, tab, argument"
 unfoldable pub input_of : List (List ℕ) → Input
-input_of [] = another-form
-input_of (e ∷ []) = another-form
+input_of [] = another_form
+input_of (e ∷ []) = another_form
 input_of (e ∷ a ∷ []) = input_by (number_of e) (number_of a)
-input_of (e ∷ a ∷ b ∷ more) = another-form
+input_of (e ∷ a ∷ b ∷ more) = another_form
 
 -- the lines of the input: "The last line may lack its LF"
 unfoldable pub input_lines : List (List ℕ) → List (List ℕ)
@@ -88,7 +88,7 @@ after_post c o = elim (eqb o.number 0) [
 -- "A line of another form prints `R 1 0`"
 unfoldable pub do_line : Chart → State → Input → Turn
 do_line c u (posts e a) = after_post c (post c u e a)
-do_line c u another-form = record { state = u; printed = report 1 [] }
+do_line c u another_form = record { state = u; printed = report 1 [] }
 
 -- ---- the whole output
 

@@ -9,7 +9,7 @@ use Rattle.meaning.specs.Answers.{UNSETTLED}
 use Rattle.meaning.specs.declared.State.{State}
 use Rattle.meaning.specs.Steps.{Res, refuse, Step, ◌then◌, skip, when, look, each}
 use Rattle.meaning.specs.Lists.{has, keep, exists, concat_map}
-use Rattle.meaning.specs.Chart.{Sign, equal, less, more, Guard, always, compares, Target, to, history, in_place, transition-of}
+use Rattle.meaning.specs.Chart.{Sign, equal, less, more, Guard, always, compares, Target, to, history, in_place, transition_of}
 use Rattle.meaning.specs.Chart.{TransRow, Chart}
 use Rattle.meaning.specs.Tree.{trans_row, all_states, all_transitions, descendants, scope, span}
 use Rattle.meaning.specs.Widget.{Ctx, is_active, value_at, emit, Entry, taken}
@@ -68,13 +68,13 @@ leave_all c a ss = each (leave_active c a) (reverse ss)
 unfoldable pub fire_to : Chart → ℤ → ℕ → ℕ → Target → Step Ctx
 fire_to c a t s (to d) =
     leave_all c a (descendants c (scope c s d))
-    then perform_all c a (transition-of t)
+    then perform_all c a (transition_of t)
     then each (visit c a) (all_below c (towards c d) (scope c s d))
 fire_to c a t s (history b) =
     leave_all c a (descendants c (scope c s b))
-    then perform_all c a (transition-of t)
+    then perform_all c a (transition_of t)
     then each (visit_towards c a b) (all_below c (towards_owner c b) (scope c s b))
-fire_to c a t s in_place = perform_all c a (transition-of t)
+fire_to c a t s in_place = perform_all c a (transition_of t)
 
 unfoldable pub fire : Chart → ℤ → ℕ → Step Ctx
 fire c a t = emit (taken t) then fire_to c a t (trans_row c t).source (trans_row c t).target

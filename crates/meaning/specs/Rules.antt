@@ -5,8 +5,8 @@ use Rattle.std.specs.Int.Signed.{le_z}
 use Rattle.sizes.specs.Sizes.{LEAST_STATES}
 use Rattle.meaning.specs.declared.Answer.{Answer}
 use Rattle.meaning.specs.Lists.{has, every, from}
-use Rattle.meaning.specs.Chart.{Kind, kind-o, kind-a, kind-b, Guard, always, compares, Target, to, history, in_place}
-use Rattle.meaning.specs.Chart.{Act, set_to, add_to, take-to, send, tell, Owner, entry_of, exit-of, default-of, transition-of}
+use Rattle.meaning.specs.Chart.{Kind, kind_o, kind_a, kind_b, Guard, always, compares, Target, to, history, in_place}
+use Rattle.meaning.specs.Chart.{Act, set_to, add_to, take_to, send, tell, Owner, entry_of, exit_of, default_of, transition_of}
 use Rattle.meaning.specs.Chart.{VarRow, TransRow, ActRow, Chart}
 use Rattle.meaning.specs.Tree.{parent_of, kind_of, default_child, var_row, is_o, all_states, ancestors, is_child, children}
 use Rattle.meaning.specs.Value.{rule_0, chart_of}
@@ -35,18 +35,18 @@ rule_2 c = every (parent_fits c) (all_states c)
 
 -- R3 "b has no child, o at least one, a at least two, all of them o"
 unfoldable pub children_fit : Chart → Kind → List ℕ → Bool
-children_fit c kind-o ds = leb 1 (length ds)
-children_fit c kind-a ds = leb 2 (length ds) && every (λ d. is_o (kind_of c d)) ds
-children_fit c kind-b ds = eqb (length ds) 0
+children_fit c kind_o ds = leb 1 (length ds)
+children_fit c kind_a ds = leb 2 (length ds) && every (λ d. is_o (kind_of c d)) ds
+children_fit c kind_b ds = eqb (length ds) 0
 
 unfoldable pub rule_3 : Chart → Bool
 rule_3 c = every (λ s. children_fit c (kind_of c s) (children c s)) (all_states c)
 
 -- R4 "an o state's default is its direct child"
 unfoldable pub default_fits : Chart → ℕ → Kind → Bool
-default_fits c s kind-o = is_state c (default_child c s) && is_child c s (default_child c s)
-default_fits c s kind-a = true
-default_fits c s kind-b = true
+default_fits c s kind_o = is_state c (default_child c s) && is_child c s (default_child c s)
+default_fits c s kind_a = true
+default_fits c s kind_b = true
 
 unfoldable pub rule_4 : Chart → Bool
 rule_4 c = every (λ s. default_fits c s (kind_of c s)) (all_states c)
@@ -80,9 +80,9 @@ rule_6 c = every (transition_fits c) c.transitions
 -- its variable's range"
 unfoldable pub owner_fits : Chart → Owner → Bool
 owner_fits c (entry_of s) = is_state c s
-owner_fits c (exit-of s) = is_state c s
-owner_fits c (default-of s) = is_state c s && is_o (kind_of c s)
-owner_fits c (transition-of t) = ltb t (length c.transitions)
+owner_fits c (exit_of s) = is_state c s
+owner_fits c (default_of s) = is_state c s && is_o (kind_of c s)
+owner_fits c (transition_of t) = ltb t (length c.transitions)
 
 unfoldable pub within_row : VarRow → ℤ → Bool
 within_row r x = le_z r.low x && le_z x r.high
@@ -90,7 +90,7 @@ within_row r x = le_z r.low x && le_z x r.high
 unfoldable pub act_fits : Chart → Act → Bool
 act_fits c (set_to v x) = is_var c v && within_row (var_row c.vars v) x
 act_fits c (add_to v x) = is_var c v
-act_fits c (take-to v) = is_var c v
+act_fits c (take_to v) = is_var c v
 act_fits c (send e x) = leb 1 e && leb e c.events
 act_fits c (tell x) = true
 

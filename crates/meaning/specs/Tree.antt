@@ -2,7 +2,7 @@
 -- Each is said as 01 says it; that the proper descendants are one range of numbers is a law of the crate laws. Assumes nothing.
 use Rattle.std.specs.Prelude.{ℕ, zero, suc, Bool, true, false, cond, ◌&&◌, List, [], ◌∷◌, length, get_or, eqb}
 use Rattle.meaning.specs.Lists.{has, keep, first_that, from}
-use Rattle.meaning.specs.Chart.{Kind, kind-o, kind-a, kind-b, Target, to, history, in_place}
+use Rattle.meaning.specs.Chart.{Kind, kind_o, kind_a, kind_b, Target, to, history, in_place}
 use Rattle.meaning.specs.Chart.{StateRow, VarRow, TransRow, Chart, no_state, no_var, no_trans}
 
 -- ---- the rows of a chart
@@ -29,9 +29,9 @@ unfoldable pub trans_row : Chart → ℕ → TransRow
 trans_row c t = get_or c.transitions t no_trans
 
 unfoldable pub is_o : Kind → Bool
-is_o kind-o = true
-is_o kind-a = false
-is_o kind-b = false
+is_o kind_o = true
+is_o kind_a = false
+is_o kind_b = false
 
 unfoldable pub all_states : Chart → List ℕ
 all_states c = from 0 (length c.states)

@@ -12,9 +12,9 @@ use Rattle.meaning.specs.Grammar.{Field, turn, number, count, letter, dash, targ
 use Rattle.meaning.specs.Grammar.{last, ◌tab◌, ◌or◌}
 use Rattle.meaning.specs.Grammar.{Record, s_record, v_record, e_record, t_record, a_record, form, most, row_size, same}
 use Rattle.meaning.specs.Lists.{every, every_from, chunks}
-use Rattle.meaning.specs.Chart.{Kind, kind-o, kind-a, kind-b, Sign, equal, less, more, Guard, always, compares, Target, to}
+use Rattle.meaning.specs.Chart.{Kind, kind_o, kind_a, kind_b, Sign, equal, less, more, Guard, always, compares, Target, to}
 use Rattle.meaning.specs.Chart.{history, in_place}
-use Rattle.meaning.specs.Chart.{Act, set_to, add_to, take-to, send, tell, Owner, entry_of, exit-of, default-of, transition-of}
+use Rattle.meaning.specs.Chart.{Act, set_to, add_to, take_to, send, tell, Owner, entry_of, exit_of, default_of, transition_of}
 use Rattle.meaning.specs.Chart.{StateRow, VarRow, TransRow, ActRow, Chart}
 
 -- "-" as a number of the value: outside what a constant may be
@@ -107,7 +107,7 @@ ref_or_none z = cond (is_absent z) 0 (ref z)
 
 -- o, a, b
 unfoldable pub kind_by : ℤ → Kind
-kind_by z = cond (is_letter (code "o") z) kind-o (cond (is_letter (code "a") z) kind-a kind-b)
+kind_by z = cond (is_letter (code "o") z) kind_o (cond (is_letter (code "a") z) kind_a kind_b)
 
 unfoldable pub state_by : List ℤ → StateRow
 state_by row = record { parent = ref_or_none (num row 0); kind = kind_by (num row 1); default = ref_or_none (num row 2) }
@@ -137,14 +137,14 @@ trans_by row = record {
 unfoldable pub owner_by : ℤ → ℤ → Owner
 owner_by k n =
     cond (is_letter (code "e") k) (entry_of (ref n))
-    (cond (is_letter (code "x") k) (exit-of (ref n)) (cond (is_letter (code "d") k) (default-of (ref n)) (transition-of (ref n))))
+    (cond (is_letter (code "x") k) (exit_of (ref n)) (cond (is_letter (code "d") k) (default_of (ref n)) (transition_of (ref n))))
 
 -- s, a, k, q, o
 unfoldable pub act_by : ℤ → ℤ → ℤ → Act
 act_by a x y =
     cond (is_letter (code "s") a) (set_to (ref x) y)
     (cond (is_letter (code "a") a) (add_to (ref x) y)
-    (cond (is_letter (code "k") a) (take-to (ref x)) (cond (is_letter (code "q") a) (send (ref x) y) (tell x))))
+    (cond (is_letter (code "k") a) (take_to (ref x)) (cond (is_letter (code "q") a) (send (ref x) y) (tell x))))
 
 unfoldable pub action_by : List ℤ → ActRow
 action_by row = record { owner = owner_by (num row 0) (num row 1); act = act_by (num row 2) (num row 3) (num row 4) }

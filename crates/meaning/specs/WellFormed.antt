@@ -7,12 +7,12 @@ use Rattle.numbers.specs.Equal.{eq_z}
 use Rattle.numbers.specs.Range.{in_range}
 use Rattle.numbers.specs.Reference.{ref}
 use Rattle.meaning.specs.Lists.{every, concat_map, chunks}
-use Rattle.meaning.specs.Chart.{equal, less, more, Guard, always, compares, set_to, add_to, take-to, send, tell, VarRow}
+use Rattle.meaning.specs.Chart.{equal, less, more, Guard, always, compares, set_to, add_to, take_to, send, tell, VarRow}
 use Rattle.meaning.specs.Grammar.{v_record}
 use Rattle.meaning.specs.Value.{num, size_by, count_fits, VAR_ROW, var_by, statable}
 use Rattle.meaning.specs.Rules.{row_fits}
-use Rattle.meaning.specs.Widget.{as-slot}
-use Rattle.meaning.specs.Plan.{Instr, go-in, go-out, skip-out, skip-empty, skip-full, skip-not, does, Head, Plan}
+use Rattle.meaning.specs.Widget.{as_slot}
+use Rattle.meaning.specs.Plan.{Instr, go_in, go_out, skip_out, skip_empty, skip_full, skip_not, does, Head, Plan}
 use Rattle.meaning.specs.declared.plan.Counts.{Counts}
 
 -- ---- where each part stands
@@ -83,17 +83,17 @@ unfoldable pub instr_act_by : ℤ → ℤ → ℤ → Instr
 instr_act_by k x y =
     cond (eq_z k (pos 7)) (does (set_to (ref x) y))
     (cond (eq_z k (pos 8)) (does (add_to (ref x) y))
-    (cond (eq_z k (pos 9)) (does (take-to (ref x))) (cond (eq_z k (pos 10)) (does (send (ref x) y)) (does (tell x)))))
+    (cond (eq_z k (pos 9)) (does (take_to (ref x))) (cond (eq_z k (pos 10)) (does (send (ref x) y)) (does (tell x)))))
 
 -- "1 IN s. 2 OUT s p. 3 SKIPOUT s n. 4 SKIPEMPTY s n. 5 SKIPFULL s n. 6 SKIPNOT s d n"
 unfoldable pub instr_of : ℤ → ℤ → ℤ → ℤ → Instr
 instr_of k x y z =
-    cond (eq_z k (pos 1)) (go-in (ref x))
-    (cond (eq_z k (pos 2)) (go-out (ref x) (as-slot y))
-    (cond (eq_z k (pos 3)) (skip-out (ref x) (ref y))
-    (cond (eq_z k (pos 4)) (skip-empty (ref x) (ref y))
-    (cond (eq_z k (pos 5)) (skip-full (ref x) (ref y))
-    (cond (eq_z k (pos 6)) (skip-not (ref x) (ref y) (ref z)) (instr_act_by k x y))))))
+    cond (eq_z k (pos 1)) (go_in (ref x))
+    (cond (eq_z k (pos 2)) (go_out (ref x) (as_slot y))
+    (cond (eq_z k (pos 3)) (skip_out (ref x) (ref y))
+    (cond (eq_z k (pos 4)) (skip_empty (ref x) (ref y))
+    (cond (eq_z k (pos 5)) (skip_full (ref x) (ref y))
+    (cond (eq_z k (pos 6)) (skip_not (ref x) (ref y) (ref z)) (instr_act_by k x y))))))
 
 unfoldable pub instr_by : List ℤ → Instr
 instr_by row = instr_of (num row 0) (num row 1) (num row 2) (num row 3)

@@ -8,7 +8,7 @@ use Rattle.meaning.specs.Steps.{Res, ok, refuse, Step, ◌then◌, require}
 -- "An empty slot is -1": a slot is empty, or holds a state; no number below 0 is a state
 pub use Rattle.numbers.specs.declared.Place.{Place as Slot}
 pub use Rattle.numbers.specs.declared.Place.TheVariants.{Empty as empty, At as holds}
-pub use Rattle.numbers.specs.Place.{place_of as as-slot}
+pub use Rattle.numbers.specs.Place.{place_of as as_slot}
 
 -- the state, the trace numbers so far, and how many more numbers there is room for
 pub record Ctx : Type 0 where
@@ -23,7 +23,7 @@ is_active u s = get_or u.active s false
 
 -- what a slot holds; a slot is told from a state by its own type, so that no marker is ever taken for a state
 unfoldable pub slot : State → ℕ → Slot
-slot u s = as-slot (get_or u.slots s (negsuc 0))
+slot u s = as_slot (get_or u.slots s (negsuc 0))
 
 unfoldable pub is_empty : Slot → Bool
 is_empty empty = true

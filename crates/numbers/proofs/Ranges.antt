@@ -70,27 +70,27 @@ module _ (low x high : ℤ) where
   unfolding within
   within_low e = (both (le_z low x) (le_z x high) e).0
 
-  pub within-high : within low x high ≡ true → le_z x high ≡ true
+  pub within_high : within low x high ≡ true → le_z x high ≡ true
   unfolding within
-  within-high e = (both (le_z low x) (le_z x high) e).1
+  within_high e = (both (le_z low x) (le_z x high) e).1
 
   pub within_both : le_z low x ≡ true → le_z x high ≡ true → within low x high ≡ true
   unfolding within
   within_both p q = rw (p, q)
 
-  pub within-mag : (B : ℕ) → mag low < B → mag high < B → within low x high ≡ true → mag x < B
-  within-mag B f g e = mag_between B low x high (not_lt_of_le low x (within_low e)) (not_lt_of_le x high (within-high e)) f g
+  pub within_mag : (B : ℕ) → mag low < B → mag high < B → within low x high ≡ true → mag x < B
+  within_mag B f g e = mag_between B low x high (not_lt_of_le low x (within_low e)) (not_lt_of_le x high (within_high e)) f g
 
 -- a narrower range lies in a wider one
 pub within_wider : (least low x high most : ℤ) → le_z least low ≡ true → le_z high most ≡ true → within low x high ≡ true
     → within least x most ≡ true
 within_wider least low x high most p q e =
-    within_both least x most (le_z_trans least low x p (within_low low x high e)) (le_z_trans x high most (within-high low x high e) q)
+    within_both least x most (le_z_trans least low x p (within_low low x high e)) (le_z_trans x high most (within_high low x high e) q)
 
 -- a number of 01's range fits an i32
 pub in_range_mag : (x : ℤ) → in_range x ≡ true → mag x ≤ MOST
 unfolding in_range
-in_range_mag x e = let h = within-mag lowest x highest (MOST + 1) (omega arith) (omega arith) e in omega arith
+in_range_mag x e = let h = within_mag lowest x highest (MOST + 1) (omega arith) (omega arith) e in omega arith
 
 pub in_range_fits : (x : ℤ) → in_range x ≡ true → mag x < 2 ^ 31
 in_range_fits x e = let h = in_range_mag x e in omega arith
@@ -102,23 +102,23 @@ in_range_sfits x e = record { sfits = in_range_fits x e }
 pub between_in_range : (low x high : ℤ) → in_range low ≡ true → in_range high ≡ true → within low x high ≡ true → in_range x ≡ true
 unfolding in_range
 between_in_range low x high p q e =
-    within_wider lowest low x high highest (within_low lowest low highest p) (within-high lowest high highest q) e
+    within_wider lowest low x high highest (within_low lowest low highest p) (within_high lowest high highest q) e
 
 -- what is held lies in its range, and a value of the range is held as it is
 module _ (v low high : ℤ) where
-  held-within : (s t : Bool) → lt_z v low ≡ s → lt_z high v ≡ t → le_z low high ≡ true
+  held_within : (s t : Bool) → lt_z v low ≡ s → lt_z high v ≡ t → le_z low high ≡ true
       → within low (cond s low (cond t high v)) high ≡ true
-  held-within true t p q r = within_both low low high (le_z_refl low) r
-  held-within false true p q r = within_both low high high r (le_z_refl high)
-  held-within false false p q r = within_both low v high (le_of_not_lt low v p) (le_of_not_lt v high q)
+  held_within true t p q r = within_both low low high (le_z_refl low) r
+  held_within false true p q r = within_both low high high r (le_z_refl high)
+  held_within false false p q r = within_both low v high (le_of_not_lt low v p) (le_of_not_lt v high q)
 
-  pub hold-within : le_z low high ≡ true → within low (hold_z v low high) high ≡ true
+  pub hold_within : le_z low high ≡ true → within low (hold_z v low high) high ≡ true
   unfolding hold_z
-  hold-within r = held-within (lt_z v low) (lt_z high v) refl refl r
+  hold_within r = held_within (lt_z v low) (lt_z high v) refl refl r
 
-  pub hold-same : within low v high ≡ true → hold_z v low high ≡ v
+  pub hold_same : within low v high ≡ true → hold_z v low high ≡ v
   unfolding hold_z
-  hold-same e = rw (not_lt_of_le low v (within_low low v high e), not_lt_of_le v high (within-high low v high e))
+  hold_same e = rw (not_lt_of_le low v (within_low low v high e), not_lt_of_le v high (within_high low v high e))
 
-  pub hold-in-range : in_range low ≡ true → in_range high ≡ true → le_z low high ≡ true → in_range (hold_z v low high) ≡ true
-  hold-in-range p q r = between_in_range low (hold_z v low high) high p q (hold-within r)
+  pub hold_in_range : in_range low ≡ true → in_range high ≡ true → le_z low high ≡ true → in_range (hold_z v low high) ≡ true
+  hold_in_range p q r = between_in_range low (hold_z v low high) high p q (hold_within r)

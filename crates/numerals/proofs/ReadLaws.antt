@@ -33,22 +33,22 @@ value_high a b bs p = rw (lt-ltb 57 b p, le-ltb b 48 (omega arith))
 
 module _ (s : List ℕ) (i to n : ℕ) where
   -- the digits from i on: at the end, at no digit, one more
-  pub val-done : i ≤ to → to ≤ i → value n (slice i to s) ≡ some n
+  pub val_done : i ≤ to → to ≤ i → value n (slice i to s) ≡ some n
   unfolding value
-  val-done p q = let e : i ≡ to = omega arith in rw (e, slice_empty)
+  val_done p q = let e : i ≡ to = omega arith in rw (e, slice_empty)
 
   module _ (h : i < to) (k : to ≤ length s) where
-    pub val-low : get_or s i 0 < 48 → nat.Not ≡ capped (value n (slice i to s))
+    pub val_low : get_or s i 0 < 48 → nat.Not ≡ capped (value n (slice i to s))
     unfolding capped
-    val-low p = rw (slice-cons i to s 0 h k, value_low n (get_or s i 0) (slice (suc i) to s) p)
+    val_low p = rw (slice-cons i to s 0 h k, value_low n (get_or s i 0) (slice (suc i) to s) p)
 
-    pub val-high : 57 < get_or s i 0 → nat.Not ≡ capped (value n (slice i to s))
+    pub val_high : 57 < get_or s i 0 → nat.Not ≡ capped (value n (slice i to s))
     unfolding capped
-    val-high p = rw (slice-cons i to s 0 h k, value_high n (get_or s i 0) (slice (suc i) to s) p)
+    val_high p = rw (slice-cons i to s 0 h k, value_high n (get_or s i 0) (slice (suc i) to s) p)
 
-    pub val-more : (m : ℕ) → 48 ≤ get_or s i 0 → get_or s i 0 ≤ 57 → m ≡ min BEYOND (n * 10 + (get_or s i 0 - 48))
+    pub val_more : (m : ℕ) → 48 ≤ get_or s i 0 → get_or s i 0 ≤ 57 → m ≡ min BEYOND (n * 10 + (get_or s i 0 - 48))
         → value m (slice (i + 1) to s) ≡ value n (slice i to s)
-    val-more m p q e = rw (add-one, e, slice-cons i to s 0 h k, value_digit n (get_or s i 0) (slice (suc i) to s) p q)
+    val_more m p q e = rw (add-one, e, slice-cons i to s 0 h k, value_digit n (get_or s i 0) (slice (suc i) to s) p q)
 
 pub capped_is : (n : ℕ) → n < BEYOND → nat.Is n ≡ capped (some n)
 unfolding capped
@@ -60,38 +60,38 @@ capped_past n h = rw (lt-ltb MOST n (omega arith))
 
 -- ---- 0 alone, or digits that do not start with 0
 module _ (s : List ℕ) (from to : ℕ) where
-  pub nat-empty : from ≡ to → nat.Not ≡ natural_of (slice from to s)
+  pub nat_empty : from ≡ to → nat.Not ≡ natural_of (slice from to s)
   unfolding natural_of natural capped
-  nat-empty e = rw (e, slice_empty)
+  nat_empty e = rw (e, slice_empty)
 
-  pub num-empty : from ≡ to → num.Not ≡ number_of (slice from to s)
+  pub num_empty : from ≡ to → num.Not ≡ number_of (slice from to s)
   unfolding number_of
-  num-empty e = rw (e, slice_empty)
+  num_empty e = rw (e, slice_empty)
 
   module _ (h : from < to) (k : to ≤ length s) where
-    pub nat-zero : get_or s from 0 ≡ 48 → from + 1 ≡ to → nat.Is 0 ≡ natural_of (slice from to s)
+    pub nat_zero : get_or s from 0 ≡ 48 → from + 1 ≡ to → nat.Is 0 ≡ natural_of (slice from to s)
     unfolding natural_of natural capped
-    nat-zero p e =
+    nat_zero p e =
         let q : suc from ≡ to = omega arith in
         rw (slice-cons from to s 0 h k, p, q, slice_empty)
 
-    pub nat-lead : get_or s from 0 ≡ 48 → (from + 1 ≡ to → ⊥) → nat.Not ≡ natural_of (slice from to s)
+    pub nat_lead : get_or s from 0 ≡ 48 → (from + 1 ≡ to → ⊥) → nat.Not ≡ natural_of (slice from to s)
     unfolding natural_of natural capped
-    nat-lead p e =
+    nat_lead p e =
         let q : suc from < to = omega arith in
         rw (slice-cons from to s 0 h k, p, slice-cons (suc from) to s 0 q k)
 
-    pub nat-plain : (get_or s from 0 ≡ 48 → ⊥) → capped (value 0 (slice from to s)) ≡ natural_of (slice from to s)
+    pub nat_plain : (get_or s from 0 ≡ 48 → ⊥) → capped (value 0 (slice from to s)) ≡ natural_of (slice from to s)
     unfolding natural_of natural
-    nat-plain p = rw (slice-cons from to s 0 h k) (rw (ne_eqb (get_or s from 0) 48 p))
+    nat_plain p = rw (slice-cons from to s 0 h k) (rw (ne_eqb (get_or s from 0) 48 p))
 
-    pub num-minus : get_or s from 0 ≡ 45 → number_of (slice from to s) ≡ minus (natural_of (slice (from + 1) to s))
+    pub num_minus : get_or s from 0 ≡ 45 → number_of (slice from to s) ≡ minus (natural_of (slice (from + 1) to s))
     unfolding number_of
-    num-minus p = rw (slice-cons from to s 0 h k, p, add-one)
+    num_minus p = rw (slice-cons from to s 0 h k, p, add-one)
 
-    pub num-plain : (get_or s from 0 ≡ 45 → ⊥) → number_of (slice from to s) ≡ with_no_sign (natural_of (slice from to s))
+    pub num_plain : (get_or s from 0 ≡ 45 → ⊥) → number_of (slice from to s) ≡ with_no_sign (natural_of (slice from to s))
     unfolding number_of
-    num-plain p = rw (slice-cons from to s 0 h k) (rw (ne_eqb (get_or s from 0) 45 p))
+    num_plain p = rw (slice-cons from to s 0 h k) (rw (ne_eqb (get_or s from 0) 45 p))
 
 -- a natural number that was read is in the range
 pub nat_small : (bs : List ℕ) → Small (natural_of bs)

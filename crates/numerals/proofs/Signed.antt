@@ -31,19 +31,19 @@ module _ (v : Nat) (n : ℕ) (e : v ≡ nat.Is n) (s : Small v) where
   small_is : n ≤ MOST
   small_is = rw e at s
 
-  pub is-fits : SFits w32 (pos n)
-  is-fits = record { sfits = omega (arith, small_is) }
+  pub is_fits : SFits w32 (pos n)
+  is_fits = record { sfits = omega (arith, small_is) }
 
-  pub plain-is : num.Is (to_z w32 n) ≡ with_no_sign v
-  plain-is = rw (e, to_z_pos w32 {n = n} (omega (arith, small_is)))
+  pub plain_is : num.Is (to_z w32 n) ≡ with_no_sign v
+  plain_is = rw (e, to_z_pos w32 {n = n} (omega (arith, small_is)))
 
   module _ (h : n ≡ 0 → ⊥) where
     gone : (n : ℕ) → n ≤ MOST → (n ≡ 0 → ⊥) → (mag (pos 0 -ℤ pos n) < 2 ^ 31) × (num.Is (pos 0 -ℤ pos n) ≡ minus (nat.Is n))
     gone zero k h = absurd (h refl)
     gone (suc n) k h = rw (neg_pos n) (omega arith, refl)
 
-    pub minus-fits : SFits w32 (pos 0 -ℤ to_z w32 n)
-    minus-fits = rw (to_z_pos w32 {n = n} (omega (arith, small_is))) (record { sfits = (gone n small_is h).0 })
+    pub minus_fits : SFits w32 (pos 0 -ℤ to_z w32 n)
+    minus_fits = rw (to_z_pos w32 {n = n} (omega (arith, small_is))) (record { sfits = (gone n small_is h).0 })
 
     pub minus_is : num.Is (to_z w32 (of_z w32 (pos 0 -ℤ to_z w32 n))) ≡ minus v
     minus_is = rw (to_z_pos w32 {n = n} (omega (arith, small_is)), back32 (pos 0 -ℤ pos n) (gone n small_is h).0, e) (gone n small_is h).1

@@ -6,7 +6,7 @@ ghost use Rattle.std.specs.Prelude.{◌≡◌, ◌+◌, ◌*◌, ◌-◌, ◌<�
 ghost use Rattle.std.proofs.Math.Seq.{slice};
 ghost use Rattle.sizes.specs.Sizes.{MOST as Most};
 ghost use Rattle.meaning.specs.Number.{value, capped, natural_of, with_no_sign, minus, number_of};
-ghost use Rattle.numerals.specs.Small.{Small, grown as grown-by};
+ghost use Rattle.numerals.specs.Small.{Small, grown as grown_by};
 
 use meaning::{Nat, Num};
 use sizes::MOST;
@@ -19,7 +19,7 @@ const TENTH: u64 = (MOST as u64) / 10;
 // The value with one digit more.
 pub fn grown(n: u64, b: u8) -> u64
     requires { (48 ≤ b) × (b ≤ 57) }
-    ensures { result ≡ grown-by n b }
+    ensures { result ≡ grown_by n b }
 {
     if TENTH < n {
         return BEYOND;

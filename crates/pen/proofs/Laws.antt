@@ -22,12 +22,12 @@ all_append (x ∷ xs) ys p = all_append xs ys (put_byte x p)
 
 -- one part after the other: bytes, one byte, and the end
 module _ (p : Pen) {a r : Pen} where
-  pub then-bytes : (bs rest : List ℕ) → a ≡ put_all bs p → r ≡ put_all rest a → r ≡ put_all (bs ++ rest) p
-  then-bytes bs rest e f = f ∙ ap (put_all rest) e ∙ sym (all_append bs rest p)
+  pub then_bytes : (bs rest : List ℕ) → a ≡ put_all bs p → r ≡ put_all rest a → r ≡ put_all (bs ++ rest) p
+  then_bytes bs rest e f = f ∙ ap (put_all rest) e ∙ sym (all_append bs rest p)
 
-  pub then-byte : (b : ℕ) (rest : List ℕ) → a ≡ put_byte b p → r ≡ put_all rest a → r ≡ put_all (b ∷ rest) p
+  pub then_byte : (b : ℕ) (rest : List ℕ) → a ≡ put_byte b p → r ≡ put_all rest a → r ≡ put_all (b ∷ rest) p
   unfolding put_all
-  then-byte b rest e f = f ∙ ap (put_all rest) e
+  then_byte b rest e f = f ∙ ap (put_all rest) e
 
 pub then_end : (p : Pen) {r : Pen} (b : ℕ) → r ≡ put_byte b p → r ≡ put_all (b ∷ []) p
 unfolding put_all
@@ -43,27 +43,27 @@ put_out b n l h = rw (le-ltb n (length l) h)
 
 -- digits, one after the other
 module _ (n : ℕ) (p q : Pen) where
-  pub digits-put-one : n < 10 → q ≡ put_byte (48 + n) p → q ≡ put_all (digits n) p
+  pub digits_put_one : n < 10 → q ≡ put_byte (48 + n) p → q ≡ put_all (digits n) p
   unfolding put_all
-  digits-put-one h e = rw (digits_one n h, e)
+  digits_put_one h e = rw (digits_one n h, e)
 
-  pub digits-put-more : (r : Pen) → 10 ≤ n → q ≡ put_all (digits (n / 10)) p → r ≡ put_byte (48 + n % 10) q → r ≡ put_all (digits n) p
+  pub digits_put_more : (r : Pen) → 10 ≤ n → q ≡ put_all (digits (n / 10)) p → r ≡ put_byte (48 + n % 10) q → r ≡ put_all (digits n) p
   unfolding put_all
-  digits-put-more r h e f = rw (digits_more n h, all_append, ← e, f)
+  digits_put_more r h e f = rw (digits_more n h, all_append, ← e, f)
 
 -- a number: a minus, or none
 module _ (z : ℤ) (n : ℕ) (p r : Pen) (e : n ≡ nat_abs z) where
-  pub numeral-minus : (q : Pen) → lt_z z (pos 0) ≡ true → q ≡ put_byte 45 p → r ≡ put_all (digits n) q → r ≡ put_all (numeral z) p
+  pub numeral_minus : (q : Pen) → lt_z z (pos 0) ≡ true → q ≡ put_byte 45 p → r ≡ put_all (digits n) q → r ≡ put_all (numeral z) p
   unfolding put_all numeral
-  numeral-minus q t f g = go z e t
+  numeral_minus q t f g = go z e t
     where
       go : (z : ℤ) → n ≡ nat_abs z → lt_z z (pos 0) ≡ true → r ≡ put_all (numeral z) p
       go (pos k) e t = let h = ltb-true k 0 t in absurd (omega arith)
       go (negsuc k) e t = g ∙ rw (f, e)
 
-  pub numeral-plain : lt_z z (pos 0) ≡ false → r ≡ put_all (digits n) p → r ≡ put_all (numeral z) p
+  pub numeral_plain : lt_z z (pos 0) ≡ false → r ≡ put_all (digits n) p → r ≡ put_all (numeral z) p
   unfolding put_all numeral
-  numeral-plain t g = go z e t
+  numeral_plain t g = go z e t
     where
       go : (z : ℤ) → n ≡ nat_abs z → lt_z z (pos 0) ≡ false → r ≡ put_all (numeral z) p
       go (pos k) e t = g ∙ rw e

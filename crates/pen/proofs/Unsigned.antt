@@ -25,29 +25,29 @@ module _ (z w : ℤ) (f : mag z < 2 ^ 31) (e : w ≡ z) where
   wide_back = rw e (back64 z (omega arith))
 
   module _ (t : lt_z (to_z w64 (of_z w64 w)) (pos 0) ≡ true) where
-    is-neg : pos 0 -ℤ to_z w64 (of_z w64 w) ≡ pos (nat_abs z)
-    is-neg = rw wide_back (size_neg z (rw wide_back at t))
+    is_neg : pos 0 -ℤ to_z w64 (of_z w64 w) ≡ pos (nat_abs z)
+    is_neg = rw wide_back (size_neg z (rw wide_back at t))
 
-    pub neg-fits : SFits w64 (pos 0 -ℤ to_z w64 (of_z w64 w))
-    neg-fits = rw is-neg (record { sfits = omega (arith, size_small z f) })
+    pub neg_fits : SFits w64 (pos 0 -ℤ to_z w64 (of_z w64 w))
+    neg_fits = rw is_neg (record { sfits = omega (arith, size_small z f) })
 
-    neg-back : to_z w64 (of_z w64 (pos 0 -ℤ to_z w64 (of_z w64 w))) ≡ pos (nat_abs z)
-    neg-back = rw is-neg (back64 (pos (nat_abs z)) (omega (arith, size_small z f)))
+    neg_back : to_z w64 (of_z w64 (pos 0 -ℤ to_z w64 (of_z w64 w))) ≡ pos (nat_abs z)
+    neg_back = rw is_neg (back64 (pos (nat_abs z)) (omega (arith, size_small z f)))
 
-    pub neg-cast : T (non_neg (to_z w64 (of_z w64 (pos 0 -ℤ to_z w64 (of_z w64 w)))))
+    pub neg_cast : T (non_neg (to_z w64 (of_z w64 (pos 0 -ℤ to_z w64 (of_z w64 w)))))
         × Fits w64 (nat_abs (to_z w64 (of_z w64 (pos 0 -ℤ to_z w64 (of_z w64 w)))))
-    neg-cast = rw neg-back (tt, record { fits = omega (arith, size_small z f) })
+    neg_cast = rw neg_back (tt, record { fits = omega (arith, size_small z f) })
 
-    pub neg-size : nat_abs (to_z w64 (of_z w64 (pos 0 -ℤ to_z w64 (of_z w64 w)))) ≡ nat_abs z
-    neg-size = rw neg-back
+    pub neg_size : nat_abs (to_z w64 (of_z w64 (pos 0 -ℤ to_z w64 (of_z w64 w)))) ≡ nat_abs z
+    neg_size = rw neg_back
 
   module _ (t : lt_z (to_z w64 (of_z w64 w)) (pos 0) ≡ false) where
-    pub pos-cast : T (non_neg (to_z w64 (of_z w64 w))) × Fits w64 (nat_abs (to_z w64 (of_z w64 w)))
-    pos-cast = rw wide_back (go z f (rw wide_back at t))
+    pub pos_cast : T (non_neg (to_z w64 (of_z w64 w))) × Fits w64 (nat_abs (to_z w64 (of_z w64 w)))
+    pos_cast = rw wide_back (go z f (rw wide_back at t))
       where
         go : (z : ℤ) → mag z < 2 ^ 31 → lt_z z (pos 0) ≡ false → T (non_neg z) × Fits w64 (nat_abs z)
         go (pos n) f t = (tt, record { fits = omega arith })
         go (negsuc n) f t = absurd (true≢false t)
 
-    pub pos-size : nat_abs (to_z w64 (of_z w64 w)) ≡ nat_abs z
-    pos-size = rw wide_back
+    pub pos_size : nat_abs (to_z w64 (of_z w64 w)) ≡ nat_abs z
+    pos_size = rw wide_back

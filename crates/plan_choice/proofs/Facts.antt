@@ -14,7 +14,7 @@ use Rattle.numbers.specs.Equal.{eq_z}
 use Rattle.numbers.specs.Range.{in_range}
 use Rattle.numbers.specs.Reference.{ref}
 use Rattle.numbers.proofs.Laws.{eq_z_true}
-use Rattle.laws.proofs.Lists.{and_left, and_right, every-at, or_cases}
+use Rattle.laws.proofs.Lists.{and_left, and_right, every_at, or_cases}
 use mathlib.Core.Logic.{⊎_elim}
 use Rattle.meaning.specs.Lists.{every}
 use Rattle.meaning.specs.Value.{num, count_fits}
@@ -27,8 +27,8 @@ use Rattle.meaning.specs.WellFormed.{var_keeps, one_of, head_guard_fits, span_fi
 use Rattle.meaning.specs.WellFormed.{head_fits, all_blocks_fill, code_fits, left_in_blocks, code_at}
 use Rattle.meaning.specs.WellFormed.{rows_well_formed, is_whole, well_formed}
 use Rattle.plan_rows.specs.Rows.{row, Sized}
-use Rattle.plan_rows.proofs.Rows.{sized, heads-length, head-rows-length, head-rows-at, head-of-plan, head-there}
-use Rattle.plan_rows.proofs.Kept.{HeadKept, head-kept}
+use Rattle.plan_rows.proofs.Rows.{sized, heads_length, head_rows_length, head_rows_at, head_of_plan, head_there}
+use Rattle.plan_rows.proofs.Kept.{HeadKept, head_kept}
 use Rattle.choice.specs.Choice.{Reads}
 use Rattle.plan_choice.specs.Heads.{Examined, head_at, Spanned, head_of}
 
@@ -66,11 +66,11 @@ module _ {ns : List ℤ} {k : Counts} (x : Examined ns k) where
   pub passes : Passed ns k
   passes = subst (Passed ns) (sym x.counted) (all_passed ns x.formed)
 
-  pub counts-sized : Sized k
-  counts-sized = subst Sized (sym x.counted) (sized ns)
+  pub counts_sized : Sized k
+  counts_sized = subst Sized (sym x.counted) (sized ns)
 
-  pub heads-long : length (plan_by ns).heads ≡ k.heads
-  heads-long = subst (λ q. length (plan_by ns).heads ≡ q.heads) (sym x.counted) (heads-length ns)
+  pub heads_long : length (plan_by ns).heads ≡ k.heads
+  heads_long = subst (λ q. length (plan_by ns).heads ≡ q.heads) (sym x.counted) (heads_length ns)
 
 -- ---- a head
 
@@ -110,31 +110,31 @@ head_said k l s v e =
 
 module _ {ns : List ℤ} {k : Counts} (x : Examined ns k) (h : ℕ) (l : h < k.heads) where
   -- its row is there
-  pub head-whole : heads_at k + h * HEAD_ROW + HEAD_ROW ≤ length ns
-  head-whole = let q = head-there ns k (passes x).whole h l in omega arith
+  pub head_whole : heads_at k + h * HEAD_ROW + HEAD_ROW ≤ length ns
+  head_whole = let q = head_there ns k (passes x).whole h l in omega arith
 
   fits : head_fits k (row HEAD_ROW (heads_at k) h ns) ≡ true
-  fits = subst (λ r. head_fits k r ≡ true) (head-rows-at ns k h l)
-      (every-at (head_fits k) (head_rows ns k) (passes x).heads h (subst (λ n. h < n) (sym (head-rows-length ns k)) l) [])
+  fits = subst (λ r. head_fits k r ≡ true) (head_rows_at ns k h l)
+      (every_at (head_fits k) (head_rows ns k) (passes x).heads h (subst (λ n. h < n) (sym (head_rows_length ns k)) l) [])
 
   -- what it names is there
-  pub head-names : ((head_of ns (heads_at k) h).source < STATES) × Reads (head_of ns (heads_at k) h).guard
+  pub head_names : ((head_of ns (heads_at k) h).source < STATES) × Reads (head_of ns (heads_at k) h).guard
       × ((head_of ns (heads_at k) h).transition < TRANSITIONS)
-  head-names = head_said k (row HEAD_ROW (heads_at k) h ns) (counts-sized x).states (counts-sized x).vars fits
+  head_names = head_said k (row HEAD_ROW (heads_at k) h ns) (counts_sized x).states (counts_sized x).vars fits
 
   kept : HeadKept k (head_of ns (heads_at k) h)
-  kept = head-kept k (row HEAD_ROW (heads_at k) h ns) (counts-sized x).states fits
+  kept = head_kept k (row HEAD_ROW (heads_at k) h ns) (counts_sized x).states fits
 
-  pub head-spanned : Spanned (head_of ns (heads_at k) h)
-  head-spanned = (omega (arith, kept.first, (counts-sized x).states), omega (arith, kept.last, (counts-sized x).states))
+  pub head_spanned : Spanned (head_of ns (heads_at k) h)
+  head_spanned = (omega (arith, kept.first, (counts_sized x).states), omega (arith, kept.last, (counts_sized x).states))
 
-  pub head-event : (head_of ns (heads_at k) h).trigger ≤ k.events
-  head-event = kept.trigger
+  pub head_event : (head_of ns (heads_at k) h).trigger ≤ k.events
+  head_event = kept.trigger
 
-  pub head-trigger : (head_of ns (heads_at k) h).trigger ≤ EVENTS
-  head-trigger = omega (arith, head-event, (counts-sized x).events)
+  pub head_trigger : (head_of ns (heads_at k) h).trigger ≤ EVENTS
+  head_trigger = omega (arith, head_event, (counts_sized x).events)
 
   -- it is the head of this number of the plan
-  pub head-is : (d : Head) → get_or (plan_by ns).heads h d ≡ head_of ns (heads_at k) h
-  head-is d =
-      subst (λ q. h < q.heads → get_or (plan_by ns).heads h d ≡ head_of ns (heads_at q) h) (sym x.counted) (head-of-plan ns h d) l
+  pub head_is : (d : Head) → get_or (plan_by ns).heads h d ≡ head_of ns (heads_at k) h
+  head_is d =
+      subst (λ q. h < q.heads → get_or (plan_by ns).heads h d ≡ head_of ns (heads_at q) h) (sym x.counted) (head_of_plan ns h d) l

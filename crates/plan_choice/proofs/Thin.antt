@@ -33,11 +33,11 @@ module _ (p : Head → Bool) where
   still g (h ∷ hs) e = still (h ∷ g) hs (or_right (p h) (exists p g) e)
 
   -- one of them clashes
-  pub gone-hit : (g hs : List Head) (j : ℕ) (d : Head) → j < length hs → p (get_or hs j d) ≡ true → exists p (gone_after g hs) ≡ true
+  pub gone_hit : (g hs : List Head) (j : ℕ) (d : Head) → j < length hs → p (get_or hs j d) ≡ true → exists p (gone_after g hs) ≡ true
   unfolding gone_after exists
-  gone-hit g [] j d l e = absurd (omega arith)
-  gone-hit g (h ∷ hs) zero d l e = still (h ∷ g) hs (or_left (p h) (exists p g) e)
-  gone-hit g (h ∷ hs) (suc j) d l e = gone-hit (h ∷ g) hs j d (omega arith) e
+  gone_hit g [] j d l e = absurd (omega arith)
+  gone_hit g (h ∷ hs) zero d l e = still (h ∷ g) hs (or_left (p h) (exists p g) e)
+  gone_hit g (h ∷ hs) (suc j) d l e = gone_hit (h ∷ g) hs j d (omega arith) e
 
   -- none does
   pub gone_none : (g hs : List Head) (d : Head) → exists p g ≡ false → ((j : ℕ) → j < length hs → p (get_or hs j d) ≡ false)
@@ -53,12 +53,12 @@ unfoldable pub with_rest : ℕ → State → List Head → List Head → List He
 with_rest e u hs ps = ps ++ thin_heads (gone_after [] ps) (keep (head_enabled e u) hs)
 
 module _ (g : List Head) (h : Head) (hs : List Head) where
-  by-meeting : (b : Bool) → exists (spans_meet h) g ≡ b → thin_heads g (h ∷ hs) ≡ elim b [
+  by_meeting : (b : Bool) → exists (spans_meet h) g ≡ b → thin_heads g (h ∷ hs) ≡ elim b [
     | true ↦ thin_heads g hs
     | false ↦ h ∷ thin_heads (h ∷ g) hs
   ]
   unfolding thin_heads
-  by-meeting b e = subst (λ d. thin_heads g (h ∷ hs) ≡ elim d [
+  by_meeting b e = subst (λ d. thin_heads g (h ∷ hs) ≡ elim d [
     | true ↦ thin_heads g hs
     | false ↦ h ∷ thin_heads (h ∷ g) hs
   ]) e refl
@@ -68,23 +68,23 @@ module _ (e : ℕ) (u : State) (all : List Head) (i : ℕ) (d h : Head) (l : i <
   here : drop i all ≡ h ∷ drop (i + 1) all
   here = rw (add-one i) (drop-cons all i d l ∙ ap (λ x. x ∷ drop (suc i) all) q)
 
-  pub rest-off : head_enabled e u h ≡ false → with_rest e u (drop (i + 1) all) ps ≡ with_rest e u (drop i all) ps
+  pub rest_off : head_enabled e u h ≡ false → with_rest e u (drop (i + 1) all) ps ≡ with_rest e u (drop i all) ps
   unfolding with_rest keep
-  rest-off f = rw (here, f)
+  rest_off f = rw (here, f)
 
   module _ (f : head_enabled e u h ≡ true) where
     pub rest_clash : exists (spans_meet h) (gone_after [] ps) ≡ true → with_rest e u (drop (i + 1) all) ps ≡ with_rest e u (drop i all) ps
     unfolding with_rest keep
-    rest_clash m = rw (here, f, by-meeting (gone_after [] ps) h (keep (head_enabled e u) (drop (i + 1) all)) true m)
+    rest_clash m = rw (here, f, by_meeting (gone_after [] ps) h (keep (head_enabled e u) (drop (i + 1) all)) true m)
 
-    pub rest-take : exists (spans_meet h) (gone_after [] ps) ≡ false
+    pub rest_take : exists (spans_meet h) (gone_after [] ps) ≡ false
         → with_rest e u (drop (i + 1) all) (ps ++ (h ∷ [])) ≡ with_rest e u (drop i all) ps
     unfolding with_rest keep
-    rest-take m =
+    rest_take m =
         rw (
           here,
           f,
-          by-meeting (gone_after [] ps) h (keep (head_enabled e u) (drop
+          by_meeting (gone_after [] ps) h (keep (head_enabled e u) (drop
               (i + 1) all)) false m,
           gone_snoc [] ps h,
           append_assoc,

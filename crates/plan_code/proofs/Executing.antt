@@ -12,10 +12,10 @@ use Rattle.numbers.specs.Place.{place_of}
 use Rattle.numbers.specs.declared.Place.{Place as Slot}
 use Rattle.numbers.specs.declared.Place.TheVariants.{Empty as empty, At as holds}
 use Rattle.meaning.specs.declared.chart.VarRow.{VarRow}
-use Rattle.meaning.specs.declared.chart.Act.TheVariants.{SetTo as set_to, AddTo as add_to, TakeTo as take-to, Send as send, Tell as tell}
+use Rattle.meaning.specs.declared.chart.Act.TheVariants.{SetTo as set_to, AddTo as add_to, TakeTo as take_to, Send as send, Tell as tell}
 use Rattle.meaning.specs.declared.plan.Instr.{Instr}
-use Rattle.meaning.specs.declared.plan.Instr.TheVariants.{In as go-in, Out as go-out, SkipOut as skip-out, SkipEmpty as skip-empty}
-use Rattle.meaning.specs.declared.plan.Instr.TheVariants.{SkipFull as skip-full, SkipNot as skip-not, Does as does}
+use Rattle.meaning.specs.declared.plan.Instr.TheVariants.{In as go_in, Out as go_out, SkipOut as skip_out, SkipEmpty as skip_empty}
+use Rattle.meaning.specs.declared.plan.Instr.TheVariants.{SkipFull as skip_full, SkipNot as skip_not, Does as does}
 use Rattle.meaning.specs.Steps.{Res, ok, refuse, Step, bind, ◌then◌, require}
 use Rattle.meaning.specs.Chart.{no_var}
 use Rattle.meaning.specs.Tree.{var_row}
@@ -26,7 +26,7 @@ use Rattle.meaning.specs.Machine.{Mach, passing, go_on, on_if, holds_it, exec_no
 use Rattle.meaning.specs.Value.{VAR_ROW, var_by}
 use Rattle.meaning.specs.WellFormed.{SIX, counts_of, plan_by}
 use Rattle.plan_rows.specs.Rows.{row}
-use Rattle.plan_rows.proofs.Rows.{sized, var-of-plan, var-there}
+use Rattle.plan_rows.proofs.Rows.{sized, var_of_plan, var_there}
 use Rattle.plan_choice.proofs.Facts.{passes}
 use Rattle.widget.specs.Acts.{adding, sending}
 use Rattle.queue.specs.Numbers.{QUEUE_NUMBERS}
@@ -60,15 +60,15 @@ module _ {vs : List VarRow} {a : ℤ} {before after : Lent} {at : ℕ} {w : Went
         slotted = h;
       }))
 
-  pub enters : {i : Instr} {s : ℕ} → i ≡ go-in s → Did (mark_entered s) before at w after → after.slots ≡ before.slots
+  pub enters : {i : Instr} {s : ℕ} → i ≡ go_in s → Did (mark_entered s) before at w after → after.slots ≡ before.slots
       → Execs vs a i before at r after
   unfolding exec_now
-  enters {i} {s} q d h = effect (go-in s) q (mark_entered s) (λ k. refl) d (λ z. ap length h)
+  enters {i} {s} q d h = effect (go_in s) q (mark_entered s) (λ k. refl) d (λ z. ap length h)
 
-  pub leaves : {i : Instr} {s : ℕ} {p : Slot} → i ≡ go-out s p → Did (mark_left p s) before at w after
+  pub leaves : {i : Instr} {s : ℕ} {p : Slot} → i ≡ go_out s p → Did (mark_left p s) before at w after
       → (w.number ≡ 0 → length after.slots ≡ length before.slots) → Execs vs a i before at r after
   unfolding exec_now
-  leaves {i} {s} {p} q d h = effect (go-out s p) q (mark_left p s) (λ k. refl) d h
+  leaves {i} {s} {p} q d h = effect (go_out s p) q (mark_left p s) (λ k. refl) d h
 
   pub sets : {i : Instr} (v : ℕ) (x : ℤ) → i ≡ does (set_to v x) → Did (assign (var_row vs v) v x) before at w after
       → after.slots ≡ before.slots → Execs vs a i before at r after
@@ -80,10 +80,10 @@ module _ {vs : List VarRow} {a : ℤ} {before after : Lent} {at : ℕ} {w : Went
   unfolding exec_now perform act_on act_var adding
   adds v x q d h = effect (does (add_to v x)) q (adding (var_row vs v) v x) (λ k. refl) d (λ z. ap length h)
 
-  pub takes : {i : Instr} (v : ℕ) → i ≡ does (take-to v) → Did (assign (var_row vs v) v a) before at w after
+  pub takes : {i : Instr} (v : ℕ) → i ≡ does (take_to v) → Did (assign (var_row vs v) v a) before at w after
       → after.slots ≡ before.slots → Execs vs a i before at r after
   unfolding exec_now perform act_on act_var
-  takes v q d h = effect (does (take-to v)) q (assign (var_row vs v) v a) (λ k. refl) d (λ z. ap length h)
+  takes v q d h = effect (does (take_to v)) q (assign (var_row vs v) v a) (λ k. refl) d (λ z. ap length h)
 
   pub sends : {i : Instr} (e : ℕ) (x : ℤ) → i ≡ does (send e x) → Did (sending e x) before at w after
       → after.slots ≡ before.slots → Execs vs a i before at r after
@@ -170,30 +170,30 @@ module _ {vs : List VarRow} {a : ℤ} {k : Lent} {at : ℕ} {b : Bool} {n : ℕ}
         slotted = λ z. refl;
       }))
 
-  pub skips-out : {i : Instr} {s : ℕ} → i ≡ skip-out s n → b ≡ get_or k.active s false → Execs vs a i k at r k
+  pub skips_out : {i : Instr} {s : ℕ} → i ≡ skip_out s n → b ≡ get_or k.active s false → Execs vs a i k at r k
   unfolding exec_now is_active ctx tracing
-  skips-out {i} {s} p q = test (skip-out s n) p (get_or k.active s false) q refl
+  skips_out {i} {s} p q = test (skip_out s n) p (get_or k.active s false) q refl
 
-  pub skips-empty : {i : Instr} {s : ℕ} → i ≡ skip-empty s n → s < STATES → Slotted k.slots
+  pub skips_empty : {i : Instr} {s : ℕ} → i ≡ skip_empty s n → s < STATES → Slotted k.slots
       → b ≡ is_filled (place_of (get_or k.slots s (pos 0)))
       → Execs vs a i k at r k
   unfolding exec_now slot ctx tracing
-  skips-empty {i} {s} p h g q = test (skip-empty s n) p (is_filled (place_of (get_or k.slots s (negsuc 0)))) (q
+  skips_empty {i} {s} p h g q = test (skip_empty s n) p (is_filled (place_of (get_or k.slots s (negsuc 0)))) (q
       ∙ ap is_filled (slot_there k s h g)) refl
 
-  pub skips-full : {i : Instr} {s : ℕ} {f : Bool} → i ≡ skip-full s n → s < STATES → Slotted k.slots → b ≡ not f
+  pub skips_full : {i : Instr} {s : ℕ} {f : Bool} → i ≡ skip_full s n → s < STATES → Slotted k.slots → b ≡ not f
       → f ≡ is_filled (place_of (get_or k.slots s (pos 0))) → Execs vs a i k at r k
   unfolding exec_now slot ctx tracing
-  skips-full {i} {s} {f} p h g q u =
-      test (skip-full s n) p (is_empty (place_of (get_or k.slots s (negsuc 0))))
+  skips_full {i} {s} {f} p h g q u =
+      test (skip_full s n) p (is_empty (place_of (get_or k.slots s (negsuc 0))))
       (q ∙ ap not (u ∙ ap is_filled (slot_there k s h g)) ∙ not_filled (place_of (get_or k.slots s (negsuc 0)))) refl
 
-  pub skips-not : {i : Instr} {s d : ℕ} → i ≡ skip-not s d n → s < STATES → Slotted k.slots
+  pub skips_not : {i : Instr} {s d : ℕ} → i ≡ skip_not s d n → s < STATES → Slotted k.slots
       → b ≡ holds_it d (place_of (get_or k.slots s (pos 0)))
       → Execs vs a i k at r k
   unfolding exec_now slot ctx tracing
-  skips-not {i} {s} {d} p h g q =
-      test (skip-not s d n) p (holds_it d (place_of (get_or k.slots s (negsuc 0)))) (q ∙ ap (holds_it d) (slot_there k s h g)) refl
+  skips_not {i} {s} {d} p h g q =
+      test (skip_not s d n) p (holds_it d (place_of (get_or k.slots s (negsuc 0)))) (q ∙ ap (holds_it d) (slot_there k s h g)) refl
 
 -- ---- slots
 
@@ -217,12 +217,12 @@ holds_at d e = rw e
 
 -- the row of a variable of the plan
 module _ (ns : List ℤ) (v : ℕ) (h : Varied ns v) where
-  pub row-there : SIX + (v + 1) * VAR_ROW ≤ length ns
-  row-there = var-there ns (counts_of ns) (passes (record { formed = h.0; counted = refl })).whole v h.1
+  pub row_there : SIX + (v + 1) * VAR_ROW ≤ length ns
+  row_there = var_there ns (counts_of ns) (passes (record { formed = h.0; counted = refl })).whole v h.1
 
   pub row_is : {r : VarRow} → r ≡ var_by (row VAR_ROW SIX v ns) → r ≡ var_row (plan_by ns).vars v
   unfolding var_row
-  row_is q = q ∙ sym (var-of-plan ns v no_var h.1)
+  row_is q = q ∙ sym (var_of_plan ns v no_var h.1)
 
-  pub var-below : v < VARIABLES
-  var-below = omega (arith, (sized ns).vars, h.1)
+  pub var_below : v < VARIABLES
+  var_below = omega (arith, (sized ns).vars, h.1)

@@ -14,7 +14,7 @@ use lib.Dec.{leb, ltb}
 use borrow.Author.Tests.{leb-true, ltb-true}
 use Rattle.sizes.specs.Sizes.{EVENTS, INSTRUCTIONS, STATES, TRANSITIONS, VARIABLES}
 use Rattle.numbers.specs.Equal.{eq_z}
-use Rattle.numbers.specs.Place.{place_of as as-slot}
+use Rattle.numbers.specs.Place.{place_of as as_slot}
 use Rattle.numbers.specs.Reference.{NOWHERE, ref}
 use Rattle.laws.proofs.Lists.{and_left, and_right}
 use Rattle.meaning.specs.Lists.{concat_map}
@@ -27,12 +27,12 @@ use Rattle.meaning.specs.WellFormed.{head_by, instr_of, instr_act_by, instr_by, 
 use Rattle.meaning.specs.WellFormed.{all_blocks_fill, blocks_fill, operand_fits, shape_fits, instr_fits}
 use Rattle.meaning.specs.WellFormed.{left_after_each, left_in_blocks, code_fits, no_shape, well_formed}
 use Rattle.plan_rows.specs.Rows.{row, Sized}
-use Rattle.plan_rows.proofs.Rows.{code_length, head-rows-length, head-rows-at, instr-of-plan, instr-there}
-use Rattle.plan_rows.proofs.Blocks.{fills_within, fills_first, fills-rest, left_cons, code-next, code-first, code-block}
+use Rattle.plan_rows.proofs.Rows.{code_length, head_rows_length, head_rows_at, instr_of_plan, instr_there}
+use Rattle.plan_rows.proofs.Blocks.{fills_within, fills_first, fills_rest, left_cons, code_next, code_first, code_block}
 use Rattle.chart_rows.proofs.Rows.{num_at}
 use Rattle.widget.specs.Acts.{Below}
 use Rattle.plan_choice.specs.Heads.{Examined, head_of}
-use Rattle.plan_choice.proofs.Facts.{Passed, passes, counts-sized}
+use Rattle.plan_choice.proofs.Facts.{Passed, passes, counts_sized}
 use Rattle.plan_code.specs.Code.{Runs, instr_at, Block}
 
 -- ---- the numbers of one instruction
@@ -40,7 +40,7 @@ use Rattle.plan_code.specs.Code.{Runs, instr_at, Block}
 below : (n m : ℕ) (z : ℤ) → n ≤ m → ltb (ref z) n ≡ true → ref z < m
 below n m z l e = let q = ltb-true (ref z) n e in omega arith
 
-parent : (n : ℕ) (z : ℤ) → n ≤ STATES → (eq_z z (negsuc 0) || ltb (ref z) n) ≡ true → Below STATES (as-slot z)
+parent : (n : ℕ) (z : ℤ) → n ≤ STATES → (eq_z z (negsuc 0) || ltb (ref z) n) ≡ true → Below STATES (as_slot z)
 parent n (pos x) l e = let q = ltb-true x n e in omega arith
 parent n (negsuc x) l e = tt
 
@@ -72,37 +72,37 @@ module _ (k : Counts) (sized : Sized k) (left : ℕ) (near : left ≤ INSTRUCTIO
   unfolding operand_fits
   skips f e = skip left (num row 2) near (second f a_skip unused e)
 
-  code-named : (c : ℕ) → shape_fits k left (get_or SHAPES c no_shape) row ≡ true → Runs k.vars (says (pos c))
+  code_named : (c : ℕ) → shape_fits k left (get_or SHAPES c no_shape) row ≡ true → Runs k.vars (says (pos c))
   unfolding shape_fits operand_fits instr_of instr_act_by
-  code-named zero e = absurd (false≢true e)
-  code-named (suc zero) e = state (and_left _ _ e)
-  code-named (suc (suc zero)) e = (
+  code_named zero e = absurd (false≢true e)
+  code_named (suc zero) e = state (and_left _ _ e)
+  code_named (suc (suc zero)) e = (
     state (and_left _ _ e),
     parent k.states (num row 2) sized.states
         (second a_state a_parent unused e),
   )
-  code-named (suc (suc (suc zero))) e = (state (and_left _ _ e), skips a_state e)
-  code-named (suc (suc (suc (suc zero)))) e = (state (and_left _ _ e), skips a_state e)
-  code-named (suc (suc (suc (suc (suc zero))))) e = (state (and_left _ _ e), skips a_state e)
-  code-named (suc (suc (suc (suc (suc (suc zero)))))) e = (
+  code_named (suc (suc (suc zero))) e = (state (and_left _ _ e), skips a_state e)
+  code_named (suc (suc (suc (suc zero)))) e = (state (and_left _ _ e), skips a_state e)
+  code_named (suc (suc (suc (suc (suc zero))))) e = (state (and_left _ _ e), skips a_state e)
+  code_named (suc (suc (suc (suc (suc (suc zero)))))) e = (
     state (and_left _ _ e),
     below k.states STATES (num row 2) sized.states (second a_state a_state a_skip e),
     skip left (num row 3) near
         (third a_state a_state a_skip e),
   )
-  code-named (suc (suc (suc (suc (suc (suc (suc zero))))))) e = ltb-true (ref (num row 1)) k.vars (and_left _ _ e)
-  code-named (suc (suc (suc (suc (suc (suc (suc (suc zero)))))))) e = ltb-true (ref (num row 1)) k.vars (and_left _ _ e)
-  code-named (suc (suc (suc (suc (suc (suc (suc (suc (suc zero))))))))) e = ltb-true (ref (num row 1)) k.vars (and_left _ _ e)
-  code-named (suc (suc (suc (suc (suc (suc (suc (suc (suc (suc zero)))))))))) e = event k.events (num row 1) sized.events
+  code_named (suc (suc (suc (suc (suc (suc (suc zero))))))) e = ltb-true (ref (num row 1)) k.vars (and_left _ _ e)
+  code_named (suc (suc (suc (suc (suc (suc (suc (suc zero)))))))) e = ltb-true (ref (num row 1)) k.vars (and_left _ _ e)
+  code_named (suc (suc (suc (suc (suc (suc (suc (suc (suc zero))))))))) e = ltb-true (ref (num row 1)) k.vars (and_left _ _ e)
+  code_named (suc (suc (suc (suc (suc (suc (suc (suc (suc (suc zero)))))))))) e = event k.events (num row 1) sized.events
       (and_left _ _ e)
-  code-named (suc (suc (suc (suc (suc (suc (suc (suc (suc (suc (suc zero))))))))))) e = tt
-  code-named (suc (suc (suc (suc (suc (suc (suc (suc (suc (suc (suc (suc c)))))))))))) e = absurd (false≢true e)
+  code_named (suc (suc (suc (suc (suc (suc (suc (suc (suc (suc (suc zero))))))))))) e = tt
+  code_named (suc (suc (suc (suc (suc (suc (suc (suc (suc (suc (suc (suc c)))))))))))) e = absurd (false≢true e)
 
   -- a code below 0 has no form
-  any-code-named : (z : ℤ) → shape_fits k left (get_or SHAPES (ref z) no_shape) row ≡ true → Runs k.vars (says z)
+  any_code_named : (z : ℤ) → shape_fits k left (get_or SHAPES (ref z) no_shape) row ≡ true → Runs k.vars (says z)
   unfolding shape_fits
-  any-code-named (pos c) e = code-named c e
-  any-code-named (negsuc c) e =
+  any_code_named (pos c) e = code_named c e
+  any_code_named (negsuc c) e =
       let past : length SHAPES ≤ NOWHERE = omega arith in
       absurd (false≢true (subst (λ f. shape_fits k left f row ≡ true) (get_or-eq_default SHAPES no_shape past) e))
 
@@ -124,7 +124,7 @@ row_named k s left near l e =
           (omega arith),
       in_row INSTR_ROW 3 l (omega arith),
     )
-    (any-code-named k s left near l (num l 0) e)
+    (any_code_named k s left near l (num l 0) e)
 
 -- ---- the instructions of a block, one by one
 
@@ -133,11 +133,11 @@ in_block : (k : Counts) (n : ℕ) (l : List ℤ) → code_fits k (left_after_eac
     → instr_fits k (n - j - 1) (drop (j * INSTR_ROW) l) ≡ true
 unfolding left_after_each
 in_block k zero l e j h = absurd (omega arith)
-in_block k (suc n) l e zero h = let z : suc n - 0 - 1 ≡ n = omega arith in rw z (code-first k n (left_after_each n) l e)
+in_block k (suc n) l e zero h = let z : suc n - 0 - 1 ≡ n = omega arith in rw z (code_first k n (left_after_each n) l e)
 in_block k (suc n) l e (suc j) h =
     let z : suc n - suc j - 1 ≡ n - j - 1 = omega arith in
     let y : INSTR_ROW + j * INSTR_ROW ≡ suc j * INSTR_ROW = omega arith in
-    let f = sym (code-next k n (left_after_each n) l (code-first k n (left_after_each n) l e)) ∙ e in
+    let f = sym (code_next k n (left_after_each n) l (code_first k n (left_after_each n) l e)) ∙ e in
     rw z (subst (λ m. instr_fits k (n - j - 1) m ≡ true) (drop-drop (j * INSTR_ROW) INSTR_ROW l ∙ ap (λ m. drop m l) y)
     (in_block k n (drop INSTR_ROW l) f j (omega arith)))
 
@@ -146,14 +146,14 @@ pub block_near : {ns : List ℤ} {k : Counts} {start len : ℕ} → Block ns k s
     → base + (start + len) * INSTR_ROW ≤ SIX + VARIABLES * VAR_ROW + TRANSITIONS * HEAD_ROW + INSTRUCTIONS * INSTR_ROW
 unfolding code_at heads_at
 block_near b p =
-    let s = counts-sized b.examined in
+    let s = counts_sized b.examined in
     omega (arith, s.vars, s.heads, s.instructions, b.within, p)
 
 module _ {ns : List ℤ} {k : Counts} {start len : ℕ} (b : Block ns k start len) {base : ℕ} (p : base ≡ code_at k) (i : ℕ) (l : start ≤ i)
     (h : i < start + len) where
-  pub instr-whole : base + (i + 1) * INSTR_ROW ≤ length ns
-  instr-whole = subst (λ a. a + (i + 1) * INSTR_ROW ≤ length ns) (sym p)
-      (instr-there ns k (passes b.examined).whole i (omega (arith, b.within, h)))
+  pub instr_whole : base + (i + 1) * INSTR_ROW ≤ length ns
+  instr_whole = subst (λ a. a + (i + 1) * INSTR_ROW ≤ length ns) (sym p)
+      (instr_there ns k (passes b.examined).whole i (omega (arith, b.within, h)))
 
   pub in_code : i < length (plan_by ns).code
   in_code =
@@ -161,14 +161,14 @@ module _ {ns : List ℤ} {k : Counts} {start len : ℕ} (b : Block ns k start le
       subst (λ c. length (plan_by ns).code ≡ c.instructions) (sym b.examined.counted) (code_length ns) in
       omega (arith, q, b.within, h)
 
-  pub instr-is : {ins : Instr} → ins ≡ instr_at ns base i → get_or (plan_by ns).code i ins ≡ ins
-  instr-is {ins} e =
+  pub instr_is : {ins : Instr} → ins ≡ instr_at ns base i → get_or (plan_by ns).code i ins ≡ ins
+  instr_is {ins} e =
       subst (λ c. i < c.instructions → get_or (plan_by ns).code i ins ≡ instr_at ns (code_at c) i) (sym b.examined.counted)
-      (instr-of-plan ns i ins) (omega (arith, b.within, h))
+      (instr_of_plan ns i ins) (omega (arith, b.within, h))
       ∙ ap (λ a. instr_at ns a i) (sym p) ∙ sym e
 
-  pub instr-runs : {ins : Instr} → ins ≡ instr_at ns base i → Runs (counts_of ns).vars ins
-  instr-runs {ins} e =
+  pub instr_runs : {ins : Instr} → ins ≡ instr_at ns base i → Runs (counts_of ns).vars ins
+  instr_runs {ins} e =
       let x = b.examined in
       let j = i - start in
       let q : j < len = omega arith in
@@ -178,8 +178,8 @@ module _ {ns : List ℤ} {k : Counts} {start len : ℕ} (b : Block ns k start le
       subst (λ m. instr_fits k (len - j - 1) m ≡ true) (drop-drop (j * INSTR_ROW) (code_at k + start * INSTR_ROW) ns
       ∙ ap (λ m. drop m ns) z) f in
       subst (λ c. Runs c.vars ins) x.counted
-      (subst (Runs k.vars) (sym e) (row_named k (counts-sized x) (len - j - 1) (omega
-      (arith, b.within, (counts-sized x).instructions)) _ g))
+      (subst (Runs k.vars) (sym e) (row_named k (counts_sized x) (len - j - 1) (omega
+      (arith, b.within, (counts_sized x).instructions)) _ g))
 
 -- ---- the blocks of a plan
 
@@ -195,13 +195,13 @@ unfolding lengths concat_map
 heads_blocks k ns n at [] e f h l = absurd (omega arith)
 heads_blocks k ns n at (r ∷ rows) e f zero l =
     let q = fills_first n at r rows e in
-    let g = sym (code-block k (code_at k) at (ref (num r 9)) (lengths rows) ns) ∙ f in (
+    let g = sym (code_block k (code_at k) at (ref (num r 9)) (lengths rows) ns) ∙ f in (
       rw q (and_left (code_fits k (left_after_each (ref (num r 9))) (drop (code_at k + at * INSTR_ROW) ns)) _ g),
-      rw q (fills_within n (at + ref (num r 9)) rows (fills-rest n at r rows e)),
+      rw q (fills_within n (at + ref (num r 9)) rows (fills_rest n at r rows e)),
     )
 heads_blocks k ns n at (r ∷ rows) e f (suc h) l =
-    let g = sym (code-block k (code_at k) at (ref (num r 9)) (lengths rows) ns) ∙ f in
-    heads_blocks k ns n (at + ref (num r 9)) rows (fills-rest n at r rows e)
+    let g = sym (code_block k (code_at k) at (ref (num r 9)) (lengths rows) ns) ∙ f in
+    heads_blocks k ns n (at + ref (num r 9)) rows (fills_rest n at r rows e)
     (and_right (code_fits k (left_after_each (ref (num r 9))) (drop (code_at k + at * INSTR_ROW) ns)) _ g) h (omega arith)
 
 module _ {ns : List ℤ} {k : Counts} (x : Examined ns k) where
@@ -217,7 +217,7 @@ module _ {ns : List ℤ} {k : Counts} (x : Examined ns k) where
       let y : 0 + k.start ≡ k.start = omega arith in
       ap (λ n. code_fits k (left_after_each k.start) (drop (code_at k + 0 * INSTR_ROW) ns)
       && code_fits k (lengths (head_rows ns k)) (drop (code_at k + n * INSTR_ROW) ns)) (sym y)
-      ∙ sym (code-block k (code_at k) 0 k.start (lengths (head_rows ns k)) ns)
+      ∙ sym (code_block k (code_at k) 0 k.start (lengths (head_rows ns k)) ns)
       ∙ subst (λ a. code_fits k (left_after_each k.start ++ lengths (head_rows ns k)) (drop a ns) ≡ true) z (passes x).code
 
   -- "the start block" comes first
@@ -234,7 +234,7 @@ module _ {ns : List ℤ} {k : Counts} (x : Examined ns k) where
   head_block h l =
       let f = heads_blocks k ns k.instructions k.start (head_rows ns k) filled
       (and_right (code_fits k (left_after_each k.start) (drop (code_at k + 0 * INSTR_ROW) ns)) _ both) h
-      (subst (λ n. h < n) (sym (head-rows-length ns k)) l) in
+      (subst (λ n. h < n) (sym (head_rows_length ns k)) l) in
       let g = subst (λ r. (code_fits k (left_after_each (ref (num r 9))) (drop (code_at k + ref (num r 8) * INSTR_ROW) ns) ≡ true)
-      × (ref (num r 8) + ref (num r 9) ≤ k.instructions)) (head-rows-at ns k h l) f in
+      × (ref (num r 8) + ref (num r 9) ≤ k.instructions)) (head_rows_at ns k h l) f in
       record { examined = x; within = g.1; fits = g.0 }

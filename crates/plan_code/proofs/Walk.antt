@@ -24,22 +24,22 @@ use Rattle.plan_code.specs.Code.{moved_by, moved, Execs, Ran, Same, Passed}
 -- ---- passing over
 
 module _ (vs : List VarRow) (a : ℤ) where
-  over-drops : (n : ℕ) (code : List Instr) (k : Ctx) → end_code (run_code vs a code (passing n k)) ≡ run_block vs a (drop n code) k
+  over_drops : (n : ℕ) (code : List Instr) (k : Ctx) → end_code (run_code vs a code (passing n k)) ≡ run_block vs a (drop n code) k
   unfolding run_block run_code end_code each exec exec_at passing bind
-  over-drops zero code k = refl
-  over-drops (suc n) [] k = refl
-  over-drops (suc n) (i ∷ code) k = over-drops n code k
+  over_drops zero code k = refl
+  over_drops (suc n) [] k = refl
+  over_drops (suc n) (i ∷ code) k = over_drops n code k
 
   -- the first instruction, then what stands so far on as it says
-  unfoldable pub go-further : List Instr → Mach → Res Ctx
-  go-further code m = run_block vs a (drop m.over code) m.ctx
+  unfoldable pub go_further : List Instr → Mach → Res Ctx
+  go_further code m = run_block vs a (drop m.over code) m.ctx
 
-  pub block-first : (i : Instr) (code : List Instr) (k : Ctx) → run_block vs a (i ∷ code) k ≡ bind (exec_now vs a i k) (go-further code)
-  unfolding run_block run_code end_code each exec exec_at passing bind go-further
-  block-first i code k = go (exec_now vs a i k)
+  pub block_first : (i : Instr) (code : List Instr) (k : Ctx) → run_block vs a (i ∷ code) k ≡ bind (exec_now vs a i k) (go_further code)
+  unfolding run_block run_code end_code each exec exec_at passing bind go_further
+  block_first i code k = go (exec_now vs a i k)
     where
-      go : (r : Res Mach) → end_code (bind r (each (exec vs a) code)) ≡ bind r (go-further code)
-      go (ok m) = over-drops m.over code m.ctx
+      go : (r : Res Mach) → end_code (bind r (each (exec vs a) code)) ≡ bind r (go_further code)
+      go (ok m) = over_drops m.over code m.ctx
       go (refuse n) = refl
 
   pub block_none : (k : Ctx) → run_block vs a [] k ≡ ok k
@@ -60,19 +60,19 @@ drop_take (suc n) (suc m) (x ∷ xs) = let q : suc m - suc n ≡ m - n = omega a
 
 module _ {A : Type 0} (code : List A) (end i : ℕ) where
   -- the instructions from i up to the block's end
-  pub left-first : (d : A) → i < end → i < length code
+  pub left_first : (d : A) → i < end → i < length code
       → take (end - i) (drop i code) ≡ get_or code i d ∷ take (end - (i + 1)) (drop (i + 1) code)
-  left-first d l m =
+  left_first d l m =
       let q : end - i ≡ suc (end - (i + 1)) = omega arith in
       rw (q, drop-cons code i d m, add-one i)
 
-  pub left-further : (n : ℕ) → drop n (take (end - (i + 1)) (drop (i + 1) code)) ≡ take (end - (i + 1 + n)) (drop (i + 1 + n) code)
-  left-further n =
+  pub left_further : (n : ℕ) → drop n (take (end - (i + 1)) (drop (i + 1) code)) ≡ take (end - (i + 1 + n)) (drop (i + 1 + n) code)
+  left_further n =
       let q : end - (i + 1) - n ≡ end - (i + 1 + n) = omega arith in
       drop_take n (end - (i + 1)) (drop (i + 1) code) ∙ rw (q, drop-drop n (i + 1) code)
 
-  pub left-none : end ≤ i → take (end - i) (drop i code) ≡ []
-  left-none l = let q : end - i ≡ 0 = omega arith in rw q
+  pub left_none : end ≤ i → take (end - i) (drop i code) ≡ []
+  left_none l = let q : end - i ≡ 0 = omega arith in rw q
 
 -- ---- the walk, turn by turn
 
@@ -87,21 +87,21 @@ pub record Walking (vs : List VarRow) (a : ℤ) (code : List Instr) (end from : 
   pub slotted : length after.slots ≡ length before.slots
 
 module _ {vs : List VarRow} {a : ℤ} {code : List Instr} {end from : ℕ} {before : Lent} {at : ℕ} where
-  pub walking-begin : at ≤ length before.trace → Walking vs a code end from before at from before at
-  walking-begin l = record { owes = going.owes-all l; onward = omega arith; slotted = refl }
+  pub walking_begin : at ≤ length before.trace → Walking vs a code end from before at from before at
+  walking_begin l = record { owes = going.owes_all l; onward = omega arith; slotted = refl }
 
   module _ {i : ℕ} {after : Lent} {next : ℕ} (w : Walking vs a code end from before at i after next) where
-    pub walking-end : end ≤ i → Ran (rest vs a code end from) before at (record { number = 0; at = next }) after
-    walking-end l = record {
-      did = going.owes_none w.owes (ap (λ is. run_block vs a is (ctx after next)) (left-none code end i l)
+    pub walking_end : end ≤ i → Ran (rest vs a code end from) before at (record { number = 0; at = next }) after
+    walking_end l = record {
+      did = going.owes_none w.owes (ap (λ is. run_block vs a is (ctx after next)) (left_none code end i l)
           ∙ block_none vs a (ctx after next));
       slotted = λ z. w.slotted;
     }
 
     -- past instructions that act on nothing
-    pub walking-past : {j : ℕ} → i ≤ j → Same code end after.active i j → Walking vs a code end from before at j after next
+    pub walking_past : {j : ℕ} → i ≤ j → Same code end after.active i j → Walking vs a code end from before at j after next
     unfolding ctx tracing
-    walking-past l s = record {
+    walking_past l s = record {
       owes = record {
         gives = λ h. sym (s vs a (ctx after next) refl) ∙ w.owes.gives h;
         fits = w.owes.fits;
@@ -119,28 +119,28 @@ module _ {vs : List VarRow} {a : ℤ} {code : List Instr} {end from : ℕ} {befo
       moved_on zero o k z F = refl
       moved_on (suc n) o k z F = absurd (omega arith)
 
-      moved-no : (n o : ℕ) (k : Ctx) → (n ≡ 0 → ⊥) → (F : Mach → Res Ctx) → bind (moved_by n o k) F ≡ said n k
+      moved_no : (n o : ℕ) (k : Ctx) → (n ≡ 0 → ⊥) → (F : Mach → Res Ctx) → bind (moved_by n o k) F ≡ said n k
       unfolding moved_by bind said
-      moved-no zero o k z F = absurd (z refl)
-      moved-no (suc n) o k z F = refl
+      moved_no zero o k z F = absurd (z refl)
+      moved_no (suc n) o k z F = refl
 
       further : Mach → Res Ctx
-      further = go-further vs a (take (end - (i + 1)) (drop (i + 1) code))
+      further = go_further vs a (take (end - (i + 1)) (drop (i + 1) code))
 
       -- what is owed at i, by way of what the instruction gave
       turn : rest vs a code end i (ctx after next) ≡ bind (exec_now vs a ins (ctx after next)) further
-      unfolding go-further further bind
+      unfolding go_further further bind
       turn =
-          ap (λ is. run_block vs a is (ctx after next)) (left-first code end i ins l m)
-          ∙ block-first vs a (get_or code i ins) (take (end - (i + 1)) (drop (i + 1) code)) (ctx after next)
+          ap (λ is. run_block vs a is (ctx after next)) (left_first code end i ins l m)
+          ∙ block_first vs a (get_or code i ins) (take (end - (i + 1)) (drop (i + 1) code)) (ctx after next)
           ∙ ap (λ x. bind (exec_now vs a x (ctx after next)) further) q
 
-      pub walking-stop : (r.number ≡ 0 → ⊥) → Ran (rest vs a code end from) before at (record { number = r.number; at = r.at }) after₂
+      pub walking_stop : (r.number ≡ 0 → ⊥) → Ran (rest vs a code end from) before at (record { number = r.number; at = r.at }) after₂
       unfolding went moved
-      walking-stop z = record {
+      walking_stop z = record {
         did = record {
           does = λ h.
-              sym (moved-no r.number r.over (ctx after₂ r.at) z further)
+              sym (moved_no r.number r.over (ctx after₂ r.at) z further)
               ∙ ap (λ x. bind x further) (d.does (w.owes.whole ∙ h))
               ∙ sym turn ∙ w.owes.gives h;
           fits = d.fits;
@@ -152,8 +152,8 @@ module _ {vs : List VarRow} {a : ℤ} {code : List Instr} {end from : ℕ} {befo
 
       here : run_block vs a (take (end - (i + 1 + r.over)) (drop (i + 1 + r.over) code)) (ctx after₂ r.at)
           ≡ further (passing r.over (ctx after₂ r.at))
-      unfolding passing go-further further
-      here = ap (λ is. run_block vs a is (ctx after₂ r.at)) (sym (left-further code end i r.over))
+      unfolding passing go_further further
+      here = ap (λ is. run_block vs a is (ctx after₂ r.at)) (sym (left_further code end i r.over))
 
       pub walking_on : r.number ≡ 0 → Walking vs a code end from before at (i + 1 + r.over) after₂ r.at
       unfolding moved
@@ -189,12 +189,12 @@ module _ {vs : List VarRow} {a : ℤ} {code : List Instr} {base end from : ℕ} 
     walking = walking_on s.walking l m q d z;
   }
 
-  pub standing-past : {ns : List ℤ} {to : ℕ} → code ≡ (plan_by ns).code → base ≡ code_at (counts_of ns)
+  pub standing_past : {ns : List ℤ} {to : ℕ} → code ≡ (plan_by ns).code → base ≡ code_at (counts_of ns)
       → Passed ns (base + end * INSTR_ROW) row after.active to → Standing vs a code base end from before at to after next
-  standing-past e b p = record {
+  standing_past e b p = record {
     i = s.i + p.over;
     here = omega (arith, s.here, p.there);
-    walking = walking-past s.walking (omega arith)
+    walking = walking_past s.walking (omega arith)
         (subst (λ c. Same c end after.active s.i (s.i + p.over)) (sym e)
         (p.same s.i end (omega (arith, s.here, b)) (omega (arith, b))));
   }

@@ -5,12 +5,12 @@ use Rattle.std.specs.Prelude.{◌≡◌, ℕ, zero, suc, ◌+◌, ◌-◌, ◌*�
 use Rattle.sizes.specs.Sizes.{STATES, INSTRUCTIONS}
 use Rattle.numbers.specs.Reference.{ref, NOWHERE}
 use Rattle.meaning.specs.declared.chart.Act.{Act}
-use Rattle.meaning.specs.declared.chart.Act.TheVariants.{SetTo as set_to, AddTo as add_to, TakeTo as take-to, Send as send, Tell as tell}
+use Rattle.meaning.specs.declared.chart.Act.TheVariants.{SetTo as set_to, AddTo as add_to, TakeTo as take_to, Send as send, Tell as tell}
 use Rattle.meaning.specs.declared.chart.VarRow.{VarRow}
 use Rattle.meaning.specs.declared.plan.Counts.{Counts}
 use Rattle.meaning.specs.declared.plan.Instr.{Instr}
-use Rattle.meaning.specs.declared.plan.Instr.TheVariants.{In as go-in, Out as go-out, SkipOut as skip-out, SkipEmpty as skip-empty}
-use Rattle.meaning.specs.declared.plan.Instr.TheVariants.{SkipFull as skip-full, SkipNot as skip-not, Does as does}
+use Rattle.meaning.specs.declared.plan.Instr.TheVariants.{In as go_in, Out as go_out, SkipOut as skip_out, SkipEmpty as skip_empty}
+use Rattle.meaning.specs.declared.plan.Instr.TheVariants.{SkipFull as skip_full, SkipNot as skip_not, Does as does}
 use Rattle.meaning.specs.Steps.{Res, ok, refuse, Step}
 use Rattle.meaning.specs.Widget.{Ctx}
 use Rattle.meaning.specs.Machine.{Mach, passing, exec_now, run_block}
@@ -27,18 +27,18 @@ use Rattle.plan_code.specs.declared.Moved.{Moved}
 abbrev pub Acts : ℕ → Act → Type 0
 Acts vars (set_to v x) = v < vars
 Acts vars (add_to v x) = v < vars
-Acts vars (take-to v) = v < vars
+Acts vars (take_to v) = v < vars
 Acts vars (send e x) = e < NOWHERE
 Acts vars (tell x) = Unit {0}
 
 -- an instruction of such a plan
 abbrev pub Runs : ℕ → Instr → Type 0
-Runs vars (go-in s) = s < STATES
-Runs vars (go-out s p) = (s < STATES) × Below STATES p
-Runs vars (skip-out s n) = (s < STATES) × (n ≤ INSTRUCTIONS)
-Runs vars (skip-empty s n) = (s < STATES) × (n ≤ INSTRUCTIONS)
-Runs vars (skip-full s n) = (s < STATES) × (n ≤ INSTRUCTIONS)
-Runs vars (skip-not s d n) = (s < STATES) × (d < STATES) × (n ≤ INSTRUCTIONS)
+Runs vars (go_in s) = s < STATES
+Runs vars (go_out s p) = (s < STATES) × Below STATES p
+Runs vars (skip_out s n) = (s < STATES) × (n ≤ INSTRUCTIONS)
+Runs vars (skip_empty s n) = (s < STATES) × (n ≤ INSTRUCTIONS)
+Runs vars (skip_full s n) = (s < STATES) × (n ≤ INSTRUCTIONS)
+Runs vars (skip_not s d n) = (s < STATES) × (d < STATES) × (n ≤ INSTRUCTIONS)
 Runs vars (does x) = Acts vars x
 
 -- ---- the row of an instruction

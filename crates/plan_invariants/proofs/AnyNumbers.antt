@@ -18,45 +18,45 @@ use Rattle.meaning.specs.Plan.{Plan}
 use Rattle.meaning.specs.WellFormed.{plan_by, well_formed}
 use Rattle.meaning.specs.declared.State.{State}
 use Rattle.plan_invariants.proofs.Answering.{formed, unformed}
-use Rattle.plan_invariants.proofs.Calls.{CallFacts, plan-discard-facts, plan-post-facts, plan-run-facts, plan-start-facts}
+use Rattle.plan_invariants.proofs.Calls.{CallFacts, plan_discard_facts, plan_post_facts, plan_run_facts, plan_start_facts}
 use Rattle.plan_invariants.proofs.Well.{Well, well}
 use Rattle.invariants.specs.Named.{all_named}
 use Rattle.plan_invariants.specs.Names.{of_plan}
 
 pub plan_facts : (p : Plan) → Well p → (x : Call) (u : State) → Sized u → CallFacts p u (plan_make p x u)
 unfolding plan_make
-plan_facts p w (to_start n) u z = plan-start-facts p w u n
-plan_facts p w (to_run n) u z = plan-run-facts p w u z n
-plan_facts p w (to_post e a) u z = plan-post-facts p w u z e a
-plan_facts p w to_discard u z = plan-discard-facts p w u z
+plan_facts p w (to_start n) u z = plan_start_facts p w u n
+plan_facts p w (to_run n) u z = plan_run_facts p w u z n
+plan_facts p w (to_post e a) u z = plan_post_facts p w u z e a
+plan_facts p w to_discard u z = plan_discard_facts p w u z
 
 module _ (ns : List ℤ) where
   -- every call from any lent state whatsoever over a well-formed plan: `Sized` says only that the arrays have their declared sizes
-  pub formed-facts : well_formed ns ≡ true → (x : Call) (u : State) → Sized u → CallFacts (plan_by ns) u (machine_make ns x u)
-  formed-facts e x u z = subst (CallFacts (plan_by ns) u) (sym (formed ns e x u)) (plan_facts (plan_by ns) (well ns e) x u z)
+  pub formed_facts : well_formed ns ≡ true → (x : Call) (u : State) → Sized u → CallFacts (plan_by ns) u (machine_make ns x u)
+  formed_facts e x u z = subst (CallFacts (plan_by ns) u) (sym (formed ns e x u)) (plan_facts (plan_by ns) (well ns e) x u z)
 
-  refused-5 : (u : State) → CallFacts (plan_by ns) u (as_found 5 0 u)
+  refused_5 : (u : State) → CallFacts (plan_by ns) u (as_found 5 0 u)
   unfolding as_found all_named
-  refused-5 u = record { done = λ e. absurd (omega arith); rolled_back = λ e. (refl, refl); named = refl }
+  refused_5 u = record { done = λ e. absurd (omega arith); rolled_back = λ e. (refl, refl); named = refl }
 
   -- over any numbers
-  pub machine-facts : (x : Call) (u : State) → Sized u → CallFacts (plan_by ns) u (machine_make ns x u)
-  machine-facts x u z = go (well_formed ns) refl
+  pub machine_facts : (x : Call) (u : State) → Sized u → CallFacts (plan_by ns) u (machine_make ns x u)
+  machine_facts x u z = go (well_formed ns) refl
     where
       go : (b : Bool) → well_formed ns ≡ b → CallFacts (plan_by ns) u (machine_make ns x u)
-      go true e = formed-facts e x u z
-      go false e = subst (CallFacts (plan_by ns) u) (sym (unformed ns e x u)) (refused-5 u)
+      go true e = formed_facts e x u z
+      go false e = subst (CallFacts (plan_by ns) u) (sym (unformed ns e x u)) (refused_5 u)
 
   -- ---- lists of calls, each from the state that the one before left
 
-  pub stays-sized : (x : Call) (u : State) → Sized u → Sized (machine_make ns x u).after
-  stays-sized x u z =
-      let f = machine-facts x u z in
+  pub stays_sized : (x : Call) (u : State) → Sized u → Sized (machine_make ns x u).after
+  stays_sized x u z =
+      let f = machine_facts x u z in
       ⊎_elim (λ e. (f.done e).sized) (λ e. subst Sized (sym (f.rolled_back e).0) z) (same_or (machine_make ns x u).number 0)
 
-  pub every-trace-named : (xs : List Call) (u : State) → Sized u
+  pub every_trace_named : (xs : List Call) (u : State) → Sized u
       → every (λ o. all_named (of_plan (plan_by ns)) o.trace) (outcomes (machine_make ns) xs u) ≡ true
   unfolding every outcomes
-  every-trace-named [] u z = refl
-  every-trace-named (x ∷ xs) u z =
-      and_both _ _ (machine-facts x u z).named (every-trace-named xs (machine_make ns x u).after (stays-sized x u z))
+  every_trace_named [] u z = refl
+  every_trace_named (x ∷ xs) u z =
+      and_both _ _ (machine_facts x u z).named (every_trace_named xs (machine_make ns x u).after (stays_sized x u z))

@@ -10,8 +10,8 @@ use lib.ListN.{drop, length, length-append, length-map, length-replicate, replic
 use lib.IntN.{negsuc, pos, ℤ}
 use lib.Signed.{le_z}
 use Rattle.invariants.specs.Good.{Sized}
-use Rattle.invariants.proofs.Values.{empty_fits, fits-len, removed-fits}
-use Rattle.laws.proofs.Lists.{and_both, and_left, and_right, every-replicate, same_or}
+use Rattle.invariants.proofs.Values.{empty_fits, fits_len, removed_fits}
+use Rattle.laws.proofs.Lists.{and_both, and_left, and_right, every_replicate, same_or}
 use Rattle.laws.specs.Facts.{Each, none_left, one_more}
 use Rattle.meaning.specs.Calls.{Outcome, fresh_by, outcome, as_found, take_front}
 use Rattle.meaning.specs.Effects.{enqueue}
@@ -27,14 +27,14 @@ use Rattle.meaning.specs.declared.State.{State}
 use Rattle.meaning.specs.declared.chart.VarRow.{VarRow}
 use Rattle.numbers.specs.Equal.{eq_z}
 use Rattle.numbers.specs.Reference.{ref}
-use Rattle.plan_invariants.proofs.Good.{Fit, Good, enqueue-good, good-effects, queue-fit}
-use Rattle.plan_invariants.proofs.Walk.{Ends, Refusal, Runs, block_runs, each-taken, ends_bind, settle-runs, step-runs, then_runs}
-use Rattle.plan_invariants.proofs.Well.{Well, well-code, well-rows}
+use Rattle.plan_invariants.proofs.Good.{Fit, Good, enqueue_good, good_effects, queue_fit}
+use Rattle.plan_invariants.proofs.Walk.{Ends, Refusal, Runs, block_runs, each_taken, ends_bind, settle_runs, step_runs, then_runs}
+use Rattle.plan_invariants.proofs.Well.{Well, well_code, well_rows}
 use Rattle.invariants.specs.Named.{all_named}
 use Rattle.plan_invariants.specs.Names.{of_plan}
-use Rattle.queue.proofs.Tidy.{removed-long}
-use Rattle.queue.proofs.Waiting.{removed-front, removed-none}
-use Rattle.queue.specs.Queue.{empty_queue, no_item as none-item, removed}
+use Rattle.queue.proofs.Tidy.{removed_long}
+use Rattle.queue.proofs.Waiting.{removed_front, removed_none}
+use Rattle.queue.specs.Queue.{empty_queue, no_item as none_item, removed}
 use Rattle.queue.specs.declared.Removed.{Removed}
 use Rattle.sizes.specs.Sizes.{QUEUE, STATES, VARIABLES}
 
@@ -50,9 +50,9 @@ pub record CallFacts (p : Plan) (u : State) (o : Outcome) : Type 0 where
 -- ---- the test for 6, and the facts that it tests
 
 module _ (p : Plan) (u : State) where
-  pub own-fit : Sized u → u.started ≡ true → plan_own p.states p.vars p.events u ≡ true → Fit p u
+  pub own_fit : Sized u → u.started ≡ true → plan_own p.states p.vars p.events u ≡ true → Fit p u
   unfolding plan_own
-  own-fit z s e =
+  own_fit z s e =
       let q = queue_fits p.events u.queue in
       let l = plan_slots_fit p.states u.slots && q in
       let v = values_fit p.vars u.vars && l in
@@ -70,13 +70,13 @@ module _ (p : Plan) (u : State) where
       }
 
   -- of a state that is fit the test for 6 asks only the root's mark
-  pub fit-own : Fit p u → plan_own p.states p.vars p.events u ≡ is_active u 0
+  pub fit_own : Fit p u → plan_own p.states p.vars p.events u ≡ is_active u 0
   unfolding plan_own
-  fit-own f = rw (f.marks, f.values, f.slots, f.queue) (and-true (is_active u 0))
+  fit_own f = rw (f.marks, f.values, f.slots, f.queue) (and_true (is_active u 0))
     where
-      and-true : (b : Bool) → (b && true) ≡ b
-      and-true true = refl
-      and-true false = refl
+      and_true : (b : Bool) → (b && true) ≡ b
+      and_true true = refl
+      and_true false = refl
 
   pub own_root : plan_own p.states p.vars p.events u ≡ true → is_active u 0 ≡ true
   unfolding plan_own
@@ -99,7 +99,7 @@ every_taken p (suc n) (x ∷ xs) e = and_both (p x) _ (and_left (p x) (every p x
 first_fit : (vs : List VarRow) (m : ℕ) → Each (λ r. row_fits r ≡ true) vs
     → values_fit vs (map (λ r. r.first) vs ++ replicate m (pos 0)) ≡ true
 unfolding values_fit row_fits within_row
-first_fit [] m none_left = every-replicate (eq_z (pos 0)) m (pos 0) refl
+first_fit [] m none_left = every_replicate (eq_z (pos 0)) m (pos 0) refl
 first_fit (r ∷ vs) m (one_more h hs) = and_both (le_z r.low r.first && le_z r.first r.high) _ h (first_fit vs m hs)
 
 padded_long : (xs : List ℤ) (n : ℕ) → length xs ≤ n → length (padded n (pos 0) xs) ≡ n
@@ -118,14 +118,14 @@ fresh_fit p w = record {
     active = length-replicate STATES false;
     slots = length-replicate STATES (negsuc 0);
     vars = padded_long (map (λ r. r.first) p.vars) VARIABLES (omega (arith, w.sayable.vars, length-map p.vars (λ r. r.first)));
-    items = length-replicate QUEUE none-item;
+    items = length-replicate QUEUE none_item;
   };
-  marks = every_dropped not p.states (replicate STATES false) (every-replicate not STATES false refl);
-  values = first_fit p.vars (VARIABLES - length (map (λ r. r.first) p.vars)) (well-rows p w);
+  marks = every_dropped not p.states (replicate STATES false) (every_replicate not STATES false refl);
+  values = first_fit p.vars (VARIABLES - length (map (λ r. r.first) p.vars)) (well_rows p w);
   slots = and_both (every (plan_slot_fits p.states) (take p.states (replicate STATES (negsuc 0)))) _
       (every_taken (plan_slot_fits p.states) p.states (replicate STATES (negsuc 0))
-      (every-replicate (plan_slot_fits p.states) STATES (negsuc 0) refl))
-      (every_dropped (eq_z (negsuc 0)) p.states (replicate STATES (negsuc 0)) (every-replicate (eq_z (negsuc 0)) STATES (negsuc 0) refl));
+      (every_replicate (plan_slot_fits p.states) STATES (negsuc 0) refl))
+      (every_dropped (eq_z (negsuc 0)) p.states (replicate STATES (negsuc 0)) (every_replicate (eq_z (negsuc 0)) STATES (negsuc 0) refl));
   queue = empty_fits p.events;
 }
 
@@ -146,11 +146,11 @@ module _ (p : Plan) where
           → Ends Refusal (bind (bind (require 7 a k) (require 6 b)) F) P
       go false b s e = λ x. omega arith
       go true false s e = λ x. omega arith
-      go true true s e = h (own-fit p u z s e)
+      go true true s e = h (own_fit p u z s e)
 
-  front-good : (u : State) (n : ℕ) → Fit p u → Ends Refusal (take_front (removed u.queue) (begin u n)) (Good p)
+  front_good : (u : State) (n : ℕ) → Fit p u → Ends Refusal (take_front (removed u.queue) (begin u n)) (Good p)
   unfolding take_front ◌then◌ require bind change begin
-  front-good u n f = ⊎_elim none some (same_or u.queue.len 0)
+  front_good u n f = ⊎_elim none some (same_or u.queue.len 0)
     where
       r : Removed
       r = removed u.queue
@@ -159,46 +159,46 @@ module _ (p : Plan) where
       Done x = Ends Refusal (bind (require 8 x.done (begin u n)) (change (set_queue x.queue))) (Good p)
 
       none : u.queue.len ≡ 0 → Done r
-      none e = subst Done (sym (removed-none u.queue e)) (λ x. omega arith)
+      none e = subst Done (sym (removed_none u.queue e)) (λ x. omega arith)
 
       fits : 0 < u.queue.len → Fit p (set_queue r.queue u)
-      fits l = queue-fit p r.queue u (removed-fits p.events u.queue f.queue f.sized.items l)
-          (removed-long u.queue (omega (arith, f.sized.items)) ∙ f.sized.items) f
+      fits l = queue_fit p r.queue u (removed_fits p.events u.queue f.queue f.sized.items l)
+          (removed_long u.queue (omega (arith, f.sized.items)) ∙ f.sized.items) f
 
       some : (u.queue.len ≡ 0 → ⊥) → Done r
       some e = subst (λ b. Ends Refusal (bind (require 8 b (begin u n)) (change (set_queue r.queue))) (Good p))
-          (sym (ap (λ x. x.done) (removed-front u.queue (omega arith) (fits-len p.events u.queue f.queue))))
+          (sym (ap (λ x. x.done) (removed_front u.queue (omega arith) (fits_len p.events u.queue f.queue))))
           (begin_good p (set_queue r.queue u) n (fits (omega arith)))
 
-  append-good : (u : State) (e a : ℤ) → Fit p u
+  append_good : (u : State) (e a : ℤ) → Fit p u
       → Ends Refusal ((require 10 (event_fits p.events e a) then enqueue e a) (begin u 0)) (Good p)
   unfolding ◌then◌ require bind
-  append-good u e a f = go (event_fits p.events e a) refl
+  append_good u e a f = go (event_fits p.events e a) refl
     where
       go : (b : Bool) → event_fits p.events e a ≡ b → Ends Refusal (bind (require 10 b (begin u 0)) (enqueue e a)) (Good p)
-      go true q = enqueue-good p e a q (begin u 0) (begin_good p u 0 f)
+      go true q = enqueue_good p e a q (begin u 0) (begin_good p u 0 f)
       go false q = λ x. omega arith
 
   module _ (w : Well p) where
-    settle-good : Runs Refusal (Good p) (plan_settle p)
-    settle-good = settle-runs p Refusal _ (Good p) (good-effects p w) (well-code p w)
+    settle_good : Runs Refusal (Good p) (plan_settle p)
+    settle_good = settle_runs p Refusal _ (Good p) (good_effects p w) (well_code p w)
 
-    start-good : (n : ℕ) → Ends Refusal (plan_start_steps p (begin (fresh_by p.vars) n)) (Good p)
+    start_good : (n : ℕ) → Ends Refusal (plan_start_steps p (begin (fresh_by p.vars) n)) (Good p)
     unfolding plan_start_steps
-    start-good n =
+    start_good n =
         let first = take p.start_length p.code in
         then_runs Refusal (Good p) (run_block p.vars (pos 0) first) (plan_settle p)
-        (block_runs p Refusal _ (Good p) (good-effects p w) (pos 0) first
-        (each-taken _ p.start_length p.code (well-code p w))) settle-good
+        (block_runs p Refusal _ (Good p) (good_effects p w) (pos 0) first
+        (each_taken _ p.start_length p.code (well_code p w))) settle_good
         (begin (fresh_by p.vars) n) (begin_good p (fresh_by p.vars) n (fresh_fit p w))
 
-    react-good : (u : State) (n : ℕ) → Fit p u → Ends Refusal (plan_react p (removed u.queue) (begin u n)) (Good p)
+    react_good : (u : State) (n : ℕ) → Fit p u → Ends Refusal (plan_react p (removed u.queue) (begin u n)) (Good p)
     unfolding plan_react ◌then◌
-    react-good u n f =
+    react_good u n f =
         let r = removed u.queue in
-        ends_bind Refusal (Good p) (Good p) (take_front r (begin u n)) _ (front-good u n f)
+        ends_bind Refusal (Good p) (Good p) (take_front r (begin u n)) _ (front_good u n f)
         (then_runs Refusal (Good p) (plan_step p (ref r.front.event) r.front.arg) (plan_settle p)
-        (step-runs p Refusal _ (Good p) (good-effects p w) (well-code p w) (ref r.front.event) r.front.arg) settle-good)
+        (step_runs p Refusal _ (Good p) (good_effects p w) (well_code p w) (ref r.front.event) r.front.arg) settle_good)
 
 -- ---- over a plan that is well formed
 
@@ -208,23 +208,23 @@ outcome_facts p u (ok k) g = record { done = λ e. g.state; rolled_back = λ n. 
 outcome_facts p u (refuse n) h = record { done = λ e. absurd (h e); rolled_back = λ e. (refl, refl); named = refl }
 
 module _ (p : Plan) (w : Well p) (u : State) where
-  pub plan-start-facts : (n : ℕ) → CallFacts p u (plan_start p u n)
+  pub plan_start_facts : (n : ℕ) → CallFacts p u (plan_start p u n)
   unfolding plan_start
-  plan-start-facts n = outcome_facts p u (plan_start_steps p (begin (fresh_by p.vars) n)) (start-good p w n)
+  plan_start_facts n = outcome_facts p u (plan_start_steps p (begin (fresh_by p.vars) n)) (start_good p w n)
 
   module _ (z : Sized u) where
-    tested-facts : (F : Step Ctx) (n : ℕ) → (Fit p u → Ends Refusal (F (begin u n)) (Good p))
+    tested_facts : (F : Step Ctx) (n : ℕ) → (Fit p u → Ends Refusal (F (begin u n)) (Good p))
         → CallFacts p u (outcome u ((plan_tests p u then F) (begin u n)))
-    tested-facts F n h = outcome_facts p u ((plan_tests p u then F) (begin u n)) (tested p u z (Good p) F (begin u n) h)
+    tested_facts F n h = outcome_facts p u ((plan_tests p u then F) (begin u n)) (tested p u z (Good p) F (begin u n) h)
 
-    pub plan-run-facts : (n : ℕ) → CallFacts p u (plan_run p u n)
+    pub plan_run_facts : (n : ℕ) → CallFacts p u (plan_run p u n)
     unfolding plan_run
-    plan-run-facts n = tested-facts (plan_react p (removed u.queue)) n (react-good p w u n)
+    plan_run_facts n = tested_facts (plan_react p (removed u.queue)) n (react_good p w u n)
 
-    pub plan-post-facts : (e a : ℤ) → CallFacts p u (plan_post p u e a)
+    pub plan_post_facts : (e a : ℤ) → CallFacts p u (plan_post p u e a)
     unfolding plan_post
-    plan-post-facts e a = tested-facts (require 10 (event_fits p.events e a) then enqueue e a) 0 (append-good p u e a)
+    plan_post_facts e a = tested_facts (require 10 (event_fits p.events e a) then enqueue e a) 0 (append_good p u e a)
 
-    pub plan-discard-facts : CallFacts p u (plan_discard p u)
+    pub plan_discard_facts : CallFacts p u (plan_discard p u)
     unfolding plan_discard
-    plan-discard-facts = tested-facts (take_front (removed u.queue)) 0 (front-good p u 0)
+    plan_discard_facts = tested_facts (take_front (removed u.queue)) 0 (front_good p u 0)

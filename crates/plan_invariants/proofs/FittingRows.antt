@@ -26,7 +26,7 @@ use Rattle.meaning.specs.declared.plan.Counts.{Counts}
 use Rattle.meaning.specs.declared.plan.Instr.{Instr}
 use Rattle.numbers.proofs.Laws.{eq_z_true}
 use Rattle.numbers.specs.Equal.{eq_z}
-use Rattle.numbers.specs.Place.{place_of as as-slot}
+use Rattle.numbers.specs.Place.{place_of as as_slot}
 use Rattle.numbers.specs.Range.{in_range}
 use Rattle.numbers.specs.Reference.{NOWHERE, ref}
 use Rattle.plan_laws.proofs.Fits.{GuardFits, HeadFits, InstrFits, SlotFits, VarFits}
@@ -37,7 +37,7 @@ use Rattle.sizes.specs.Sizes.{TRANSITIONS}
 below_of : (n : ℕ) (z : ℤ) → ltb (ref z) n ≡ true → ref z < n
 below_of n z e = ltb-true (ref z) n e
 
-slot_of : (k : Counts) (z : ℤ) → (eq_z z (negsuc 0) || ltb (ref z) k.states) ≡ true → SlotFits k (as-slot z)
+slot_of : (k : Counts) (z : ℤ) → (eq_z z (negsuc 0) || ltb (ref z) k.states) ≡ true → SlotFits k (as_slot z)
 slot_of k (pos x) e = ltb-true x k.states e
 slot_of k (negsuc x) e = tt
 
@@ -71,36 +71,36 @@ module _ (k : Counts) (left : ℕ) (row : List ℤ) where
   unfolding shape_fits operand_fits
   skips e = (below_of k.states (num row 1) (and_left _ _ e), (count_of 0 left (num row 2) (second a_state a_skip unused e)).1)
 
-  code-fitting : (c : ℕ) → shape_fits k left (get_or SHAPES c no_shape) row ≡ true → InstrFits k left (says (pos c))
+  code_fitting : (c : ℕ) → shape_fits k left (get_or SHAPES c no_shape) row ≡ true → InstrFits k left (says (pos c))
   unfolding shape_fits operand_fits instr_of instr_act_by
-  code-fitting zero e = absurd (false≢true e)
-  code-fitting (suc zero) e = below_of k.states (num row 1) (and_left _ _ e)
-  code-fitting (suc (suc zero)) e =
+  code_fitting zero e = absurd (false≢true e)
+  code_fitting (suc zero) e = below_of k.states (num row 1) (and_left _ _ e)
+  code_fitting (suc (suc zero)) e =
       (below_of k.states (num row 1) (and_left _ _ e), slot_of k (num row 2) (second a_state a_parent unused e))
-  code-fitting (suc (suc (suc zero))) e = skips e
-  code-fitting (suc (suc (suc (suc zero)))) e = skips e
-  code-fitting (suc (suc (suc (suc (suc zero))))) e = skips e
-  code-fitting (suc (suc (suc (suc (suc (suc zero)))))) e = (
+  code_fitting (suc (suc (suc zero))) e = skips e
+  code_fitting (suc (suc (suc (suc zero)))) e = skips e
+  code_fitting (suc (suc (suc (suc (suc zero))))) e = skips e
+  code_fitting (suc (suc (suc (suc (suc (suc zero)))))) e = (
     below_of k.states (num row 1) (and_left _ _ e),
     below_of k.states (num row 2) (second a_state a_state a_skip e),
     (count_of 0 left (num row 3) (third a_state a_state a_skip e)).1,
   )
-  code-fitting (suc (suc (suc (suc (suc (suc (suc zero))))))) e =
+  code_fitting (suc (suc (suc (suc (suc (suc (suc zero))))))) e =
       (below_of k.vars (num row 1) (and_left _ _ e), second a_variable a_constant unused e)
-  code-fitting (suc (suc (suc (suc (suc (suc (suc (suc zero)))))))) e =
+  code_fitting (suc (suc (suc (suc (suc (suc (suc (suc zero)))))))) e =
       (below_of k.vars (num row 1) (and_left _ _ e), second a_variable a_constant unused e)
-  code-fitting (suc (suc (suc (suc (suc (suc (suc (suc (suc zero))))))))) e = below_of k.vars (num row 1) (and_left _ _ e)
-  code-fitting (suc (suc (suc (suc (suc (suc (suc (suc (suc (suc zero)))))))))) e =
+  code_fitting (suc (suc (suc (suc (suc (suc (suc (suc (suc zero))))))))) e = below_of k.vars (num row 1) (and_left _ _ e)
+  code_fitting (suc (suc (suc (suc (suc (suc (suc (suc (suc (suc zero)))))))))) e =
       let f = count_of 1 k.events (num row 1) (and_left _ _ e) in
       (f.0, f.1, second an_event a_constant unused e)
-  code-fitting (suc (suc (suc (suc (suc (suc (suc (suc (suc (suc (suc zero))))))))))) e = and_left _ _ e
-  code-fitting (suc (suc (suc (suc (suc (suc (suc (suc (suc (suc (suc (suc c)))))))))))) e = absurd (false≢true e)
+  code_fitting (suc (suc (suc (suc (suc (suc (suc (suc (suc (suc (suc zero))))))))))) e = and_left _ _ e
+  code_fitting (suc (suc (suc (suc (suc (suc (suc (suc (suc (suc (suc (suc c)))))))))))) e = absurd (false≢true e)
 
   -- a code below 0 has no form
-  any-code-fitting : (z : ℤ) → shape_fits k left (get_or SHAPES (ref z) no_shape) row ≡ true → InstrFits k left (says z)
+  any_code_fitting : (z : ℤ) → shape_fits k left (get_or SHAPES (ref z) no_shape) row ≡ true → InstrFits k left (says z)
   unfolding shape_fits
-  any-code-fitting (pos c) e = code-fitting c e
-  any-code-fitting (negsuc c) e =
+  any_code_fitting (pos c) e = code_fitting c e
+  any_code_fitting (negsuc c) e =
       let past : length SHAPES ≤ NOWHERE = omega arith in
       absurd (false≢true (subst (λ f. shape_fits k left f row ≡ true) (get_or-eq_default SHAPES no_shape past) e))
 
@@ -120,7 +120,7 @@ instr_fitting k left l e =
       in_row INSTR_ROW 2 l (omega arith),
       in_row INSTR_ROW 3 l (omega arith),
     )
-    (any-code-fitting k left l (num l 0) e)
+    (any_code_fitting k left l (num l 0) e)
 
 -- ---- heads
 

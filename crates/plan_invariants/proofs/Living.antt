@@ -23,10 +23,10 @@ use Rattle.meaning.specs.Steps.{Step, ◌then◌, bind, refuse, require}
 use Rattle.meaning.specs.WellFormed.{plan_by, well_formed}
 use Rattle.meaning.specs.Widget.{Ctx, begin}
 use Rattle.meaning.specs.declared.State.{State}
-use Rattle.plan_invariants.proofs.Answering.{AnyInstr, OneOf, Whatever, answer_of, each_any, formed, marking, plan-answer}
-use Rattle.plan_invariants.proofs.AnyNumbers.{machine-facts, stays-sized}
-use Rattle.plan_invariants.proofs.Marks.{On, append-marked, front-marked, react-marked}
-use Rattle.plan_invariants.proofs.Root.{Owned, machine-own}
+use Rattle.plan_invariants.proofs.Answering.{AnyInstr, OneOf, Whatever, answer_of, each_any, formed, marking, plan_answer}
+use Rattle.plan_invariants.proofs.AnyNumbers.{machine_facts, stays_sized}
+use Rattle.plan_invariants.proofs.Marks.{On, append_marked, front_marked, react_marked}
+use Rattle.plan_invariants.proofs.Root.{Owned, machine_own}
 use Rattle.plan_invariants.proofs.Walk.{Runs}
 use Rattle.plan_invariants.specs.Answers.{may_give}
 use Rattle.plan_invariants.specs.Root.{never_leaves_root, starts_in_root}
@@ -43,53 +43,53 @@ abbrev LEFT : List ℕ
 LEFT = 0 ∷ 8 ∷ 9 ∷ 10 ∷ 11 ∷ 12 ∷ []
 
 module _ (p : Plan) (u : State) (F : Step Ctx) (k : Ctx) where
-  tests-pass : Owned p u → (plan_tests p u then F) k ≡ F k
+  tests_pass : Owned p u → (plan_tests p u then F) k ≡ F k
   unfolding plan_tests ◌then◌ require bind
-  tests-pass h =
+  tests_pass h =
       ap (λ b. bind (bind (require 7 b k) (require 6 (plan_own p.states p.vars p.events u))) F) h.0
       ∙ ap (λ b. bind (require 6 b k) F) h.1
 
-  tests-7 : u.started ≡ false → (plan_tests p u then F) k ≡ refuse 7
+  tests_7 : u.started ≡ false → (plan_tests p u then F) k ≡ refuse 7
   unfolding plan_tests ◌then◌ require bind
-  tests-7 e = ap (λ b. bind (bind (require 7 b k) (require 6 (plan_own p.states p.vars p.events u))) F) e
+  tests_7 e = ap (λ b. bind (bind (require 7 b k) (require 6 (plan_own p.states p.vars p.events u))) F) e
 
-  tested-not-6 : On Whatever k → Runs (OneOf LEFT) (On Whatever) F → Lived p u → (outcome u ((plan_tests p u then F) k)).number ≡ 6 → ⊥
+  tested_not_6 : On Whatever k → Runs (OneOf LEFT) (On Whatever) F → Lived p u → (outcome u ((plan_tests p u then F) k)).number ≡ 6 → ⊥
   unfolding outcome as_found has
-  tested-not-6 t f (inl e) q = let z : ◌≡◌ {A = ℕ} 7 6 = sym (ap (λ r. (outcome u r).number) (tests-7 e)) ∙ q in omega (arith, z)
-  tested-not-6 t f (inr h) q =
+  tested_not_6 t f (inl e) q = let z : ◌≡◌ {A = ℕ} 7 6 = sym (ap (λ r. (outcome u r).number) (tests_7 e)) ∙ q in omega (arith, z)
+  tested_not_6 t f (inr h) q =
       let a : has (outcome u (F k)).number LEFT ≡ true = answer_of LEFT u (F k) refl (f k t) in
-      true≢false (sym a ∙ ap (λ r. has (outcome u r).number LEFT) (sym (tests-pass h)) ∙ ap (λ n. has n LEFT) q)
+      true≢false (sym a ∙ ap (λ r. has (outcome u r).number LEFT) (sym (tests_pass h)) ∙ ap (λ n. has n LEFT) q)
 
 plan_not_6 : (p : Plan) (u : State) → Lived p u → (x : Call) → (plan_make p x u).number ≡ 6 → ⊥
 unfolding plan_make plan_run plan_post plan_discard has may_give
-plan_not_6 p u l (to_start n) q = true≢false (sym (plan-answer p u (to_start n)) ∙ ap (λ m. has m (may_give (to_start n))) q)
-plan_not_6 p u l (to_run n) q = tested-not-6 p u (plan_react p (removed u.queue)) (begin u n) tt
-    (react-marked p (OneOf LEFT) AnyInstr Whatever (marking LEFT refl refl refl) (each_any p.code) (removed u.queue)
-    (front-marked (OneOf LEFT) Whatever refl (removed u.queue))) l q
-plan_not_6 p u l (to_post e a) q = tested-not-6 p u (require 10 (event_fits p.events e a) then enqueue e a) (begin u 0) tt
-    (append-marked (OneOf LEFT) Whatever refl refl (event_fits p.events e a) e a) l q
+plan_not_6 p u l (to_start n) q = true≢false (sym (plan_answer p u (to_start n)) ∙ ap (λ m. has m (may_give (to_start n))) q)
+plan_not_6 p u l (to_run n) q = tested_not_6 p u (plan_react p (removed u.queue)) (begin u n) tt
+    (react_marked p (OneOf LEFT) AnyInstr Whatever (marking LEFT refl refl refl) (each_any p.code) (removed u.queue)
+    (front_marked (OneOf LEFT) Whatever refl (removed u.queue))) l q
+plan_not_6 p u l (to_post e a) q = tested_not_6 p u (require 10 (event_fits p.events e a) then enqueue e a) (begin u 0) tt
+    (append_marked (OneOf LEFT) Whatever refl refl (event_fits p.events e a) e a) l q
 plan_not_6 p u l to_discard q =
-    tested-not-6 p u (take_front (removed u.queue)) (begin u 0) tt (front-marked (OneOf LEFT) Whatever refl (removed u.queue)) l q
+    tested_not_6 p u (take_front (removed u.queue)) (begin u 0) tt (front_marked (OneOf LEFT) Whatever refl (removed u.queue)) l q
 
 -- ---- lists of calls
 
 module _ (ns : List ℤ) (w : well_formed ns ≡ true) (never : never_leaves_root (plan_by ns) ≡ true)
     (starts : starts_in_root (plan_by ns) ≡ true) where
-  machine-not-6 : (x : Call) (u : State) → Lived (plan_by ns) u → (machine_make ns x u).number ≡ 6 → ⊥
-  machine-not-6 x u l q = plan_not_6 (plan_by ns) u l x (ap (λ o. o.number) (sym (formed ns w x u)) ∙ q)
+  machine_not_6 : (x : Call) (u : State) → Lived (plan_by ns) u → (machine_make ns x u).number ≡ 6 → ⊥
+  machine_not_6 x u l q = plan_not_6 (plan_by ns) u l x (ap (λ o. o.number) (sym (formed ns w x u)) ∙ q)
 
-  machine-lives : (x : Call) (u : State) → Sized u → Lived (plan_by ns) u → Lived (plan_by ns) (machine_make ns x u).after
-  machine-lives x u z l =
-      ⊎_elim (λ e. inr (machine-own ns w never starts x u z e))
-      (λ e. subst (Lived (plan_by ns)) (sym ((machine-facts ns x u z).rolled_back e).0) l)
+  machine_lives : (x : Call) (u : State) → Sized u → Lived (plan_by ns) u → Lived (plan_by ns) (machine_make ns x u).after
+  machine_lives x u z l =
+      ⊎_elim (λ e. inr (machine_own ns w never starts x u z e))
+      (λ e. subst (Lived (plan_by ns)) (sym ((machine_facts ns x u z).rolled_back e).0) l)
       (same_or (machine_make ns x u).number 0)
 
-  pub lived-never-6 : (xs : List Call) (u : State) → Sized u → Lived (plan_by ns) u → Each (λ n. n ≡ 6 → ⊥) (answers (machine_make ns) xs u)
+  pub lived_never_6 : (xs : List Call) (u : State) → Sized u → Lived (plan_by ns) u → Each (λ n. n ≡ 6 → ⊥) (answers (machine_make ns) xs u)
   unfolding answers
-  lived-never-6 [] u z l = none_left
-  lived-never-6 (x ∷ xs) u z l =
-      one_more (machine-not-6 x u l) (lived-never-6 xs (machine_make ns x u).after (stays-sized ns x u z) (machine-lives x u z l))
+  lived_never_6 [] u z l = none_left
+  lived_never_6 (x ∷ xs) u z l =
+      one_more (machine_not_6 x u l) (lived_never_6 xs (machine_make ns x u).after (stays_sized ns x u z) (machine_lives x u z l))
 
   -- from a widget not yet started
   pub never_6 : (xs : List Call) (u : State) → Sized u → u.started ≡ false → Each (λ n. n ≡ 6 → ⊥) (answers (machine_make ns) xs u)
-  never_6 xs u z e = lived-never-6 xs u z (inl e)
+  never_6 xs u z e = lived_never_6 xs u z (inl e)

@@ -17,15 +17,15 @@ use Rattle.meaning.specs.Widget.{Ctx, ENTRY, Entry, change, emit, entered, is_ac
 use Rattle.meaning.specs.Widget.{set_queue, set_slot, set_value, slot, value_at, add_numbers}
 use Rattle.meaning.specs.declared.State.{State}
 use Rattle.meaning.specs.declared.chart.Act.{Act}
-use Rattle.meaning.specs.declared.chart.Act.TheVariants.{AddTo as add_to, Send as send, SetTo as set_to, TakeTo as take-to, Tell as tell}
+use Rattle.meaning.specs.declared.chart.Act.TheVariants.{AddTo as add_to, Send as send, SetTo as set_to, TakeTo as take_to, Tell as tell}
 use Rattle.meaning.specs.declared.chart.VarRow.{VarRow}
 use Rattle.meaning.specs.declared.plan.Instr.{Instr}
-use Rattle.meaning.specs.declared.plan.Instr.TheVariants.{Does as does, In as go-in, Out as go-out, SkipEmpty as skip-empty}
-use Rattle.meaning.specs.declared.plan.Instr.TheVariants.{SkipFull as skip-full, SkipNot as skip-not, SkipOut as skip-out}
+use Rattle.meaning.specs.declared.plan.Instr.TheVariants.{Does as does, In as go_in, Out as go_out, SkipEmpty as skip_empty}
+use Rattle.meaning.specs.declared.plan.Instr.TheVariants.{SkipFull as skip_full, SkipNot as skip_not, SkipOut as skip_out}
 use Rattle.numbers.specs.Reference.{ref}
 use Rattle.numbers.specs.declared.Place.{Place as Slot}
 use Rattle.numbers.specs.declared.Place.TheVariants.{At as holds, Empty as empty}
-use Rattle.plan_invariants.proofs.Walk.{Effects, Ends, Runs, either_way, gone-on, look-runs, settle-runs, step-runs, then_runs}
+use Rattle.plan_invariants.proofs.Walk.{Effects, Ends, Runs, either_way, gone_on, look_runs, settle_runs, step_runs, then_runs}
 use Rattle.queue.specs.Queue.{appended}
 use Rattle.queue.specs.declared.Queue.{Queue}
 use Rattle.queue.specs.declared.Removed.{Removed}
@@ -37,48 +37,48 @@ On M k = M k.state.active
 -- ---- entries, queue and acts, which leave the marks
 
 module _ (R : ℕ → Type 0) (M : List Bool → Type 0) where
-  pub emit-marked : R 11 → (e : Entry) → Runs R (On M) (emit e)
+  pub emit_marked : R 11 → (e : Entry) → Runs R (On M) (emit e)
   unfolding emit add_numbers ◌then◌ require bind
-  emit-marked no_room e k h = go (leb ENTRY k.room)
+  emit_marked no_room e k h = go (leb ENTRY k.room)
     where
       go : (b : Bool) → Ends R (bind (require 11 b k) (add_numbers (numbers e))) (On M)
       go true = h
       go false = no_room
 
-  queue-marked : (n : ℕ) → R n → (b : Bool) (q : Queue) → Runs R (On M) (require n b then change (set_queue q))
+  queue_marked : (n : ℕ) → R n → (b : Bool) (q : Queue) → Runs R (On M) (require n b then change (set_queue q))
   unfolding ◌then◌ require bind change set_queue
-  queue-marked n r true q k h = h
-  queue-marked n r false q k h = r
+  queue_marked n r true q k h = h
+  queue_marked n r false q k h = r
 
-  enqueue-marked : R 9 → (e x : ℤ) → Runs R (On M) (enqueue e x)
+  enqueue_marked : R 9 → (e x : ℤ) → Runs R (On M) (enqueue e x)
   unfolding enqueue look take_queue
-  enqueue-marked full e x k h = queue-marked 9 full (appended k.state.queue e x).done (appended k.state.queue e x).queue k h
+  enqueue_marked full e x k h = queue_marked 9 full (appended k.state.queue e x).done (appended k.state.queue e x).queue k h
 
-  pub front-marked : R 8 → (r : Removed) → Runs R (On M) (take_front r)
+  pub front_marked : R 8 → (r : Removed) → Runs R (On M) (take_front r)
   unfolding take_front
-  front-marked none r = queue-marked 8 none r.done r.queue
+  front_marked none r = queue_marked 8 none r.done r.queue
 
-  pub append-marked : R 9 → R 10 → (b : Bool) (e a : ℤ) → Runs R (On M) (require 10 b then enqueue e a)
+  pub append_marked : R 9 → R 10 → (b : Bool) (e a : ℤ) → Runs R (On M) (require 10 b then enqueue e a)
   unfolding ◌then◌ require bind
-  append-marked full wrong true e a k h = enqueue-marked full e a k h
-  append-marked full wrong false e a k h = wrong
+  append_marked full wrong true e a k h = enqueue_marked full e a k h
+  append_marked full wrong false e a k h = wrong
 
-  assign-marked : R 11 → (r : VarRow) (v : ℕ) (x : ℤ) → Runs R (On M) (assign r v x)
+  assign_marked : R 11 → (r : VarRow) (v : ℕ) (x : ℤ) → Runs R (On M) (assign r v x)
   unfolding assign change set_value
-  assign-marked no_room r v x = then_runs R (On M) _ _ (emit-marked no_room _) (λ k h. h)
+  assign_marked no_room r v x = then_runs R (On M) _ _ (emit_marked no_room _) (λ k h. h)
 
-  act-marked : R 9 → R 11 → (r : VarRow) (a : ℤ) (x : Act) → Runs R (On M) (act_on r a x)
+  act_marked : R 9 → R 11 → (r : VarRow) (a : ℤ) (x : Act) → Runs R (On M) (act_on r a x)
   unfolding act_on
-  act-marked full no_room r a (set_to v x) = assign-marked no_room r v x
-  act-marked full no_room r a (add_to v x) = look-runs R (On M) _ (λ k h. assign-marked no_room r v (value_at k.state v +ℤ x))
-  act-marked full no_room r a (take-to v) = assign-marked no_room r v a
-  act-marked full no_room r a (send e x) = then_runs R (On M) _ _ (emit-marked no_room _) (enqueue-marked full (pos e) x)
-  act-marked full no_room r a (tell x) = emit-marked no_room _
+  act_marked full no_room r a (set_to v x) = assign_marked no_room r v x
+  act_marked full no_room r a (add_to v x) = look_runs R (On M) _ (λ k h. assign_marked no_room r v (value_at k.state v +ℤ x))
+  act_marked full no_room r a (take_to v) = assign_marked no_room r v a
+  act_marked full no_room r a (send e x) = then_runs R (On M) _ _ (emit_marked no_room _) (enqueue_marked full (pos e) x)
+  act_marked full no_room r a (tell x) = emit_marked no_room _
 
-  store-marked : (q : Slot) (s : ℕ) (u : State) → M u.active → M (store_in q s u).active
+  store_marked : (q : Slot) (s : ℕ) (u : State) → M u.active → M (store_in q s u).active
   unfolding store_in set_slot
-  store-marked empty s u h = h
-  store-marked (holds q) s u h = h
+  store_marked empty s u h = h
+  store_marked (holds q) s u h = h
 
 -- ---- instructions
 
@@ -87,31 +87,31 @@ pub record Marking (R : ℕ → Type 0) (C : Instr → Type 0) (M : List Bool �
   pub full : R 9
   pub no_room : R 11
   pub unsettled : R 12
-  pub enters : (s : ℕ) → C (go-in s) → (l : List Bool) → M l → M (set l s true)
-  pub leaves : (s : ℕ) (q : Slot) → C (go-out s q) → (l : List Bool) → M l → M (set l s false)
+  pub enters : (s : ℕ) → C (go_in s) → (l : List Bool) → M l → M (set l s true)
+  pub leaves : (s : ℕ) (q : Slot) → C (go_out s q) → (l : List Bool) → M l → M (set l s false)
 
 module _ (p : Plan) (R : ℕ → Type 0) (C : Instr → Type 0) (M : List Bool → Type 0) (w : Marking R C M) where
-  pub instr-marked : (a : ℤ) (i : Instr) → C i → (k : Ctx) → On M k → Ends R (exec_now p.vars a i k) (λ m. On M m.ctx)
+  pub instr_marked : (a : ℤ) (i : Instr) → C i → (k : Ctx) → On M k → Ends R (exec_now p.vars a i k) (λ m. On M m.ctx)
   unfolding exec_now mark_entered mark_left perform set_active change
-  instr-marked a (go-in s) c k h = gone-on R (On M) (mark_entered s k)
-      (then_runs R (On M) _ _ (emit-marked R M w.no_room (entered s)) (λ j g. w.enters s c j.state.active g) k h)
-  instr-marked a (go-out s q) c k h = gone-on R (On M) (mark_left q s k)
-      (then_runs R (On M) _ _ (emit-marked R M w.no_room (left s))
-      (λ j g. store-marked R M q s (set_active s false j.state) (w.leaves s q c j.state.active g)) k h)
-  instr-marked a (skip-out s n) c k h = either_way R (On M) (is_active k.state s) n k h
-  instr-marked a (skip-empty s n) c k h = either_way R (On M) (is_filled (slot k.state s)) n k h
-  instr-marked a (skip-full s n) c k h = either_way R (On M) (is_empty (slot k.state s)) n k h
-  instr-marked a (skip-not s d n) c k h = either_way R (On M) (holds_it d (slot k.state s)) n k h
-  instr-marked a (does x) c k h =
-      gone-on R (On M) (perform p.vars a x k) (act-marked R M w.full w.no_room (var_row p.vars (act_var x)) a x k h)
+  instr_marked a (go_in s) c k h = gone_on R (On M) (mark_entered s k)
+      (then_runs R (On M) _ _ (emit_marked R M w.no_room (entered s)) (λ j g. w.enters s c j.state.active g) k h)
+  instr_marked a (go_out s q) c k h = gone_on R (On M) (mark_left q s k)
+      (then_runs R (On M) _ _ (emit_marked R M w.no_room (left s))
+      (λ j g. store_marked R M q s (set_active s false j.state) (w.leaves s q c j.state.active g)) k h)
+  instr_marked a (skip_out s n) c k h = either_way R (On M) (is_active k.state s) n k h
+  instr_marked a (skip_empty s n) c k h = either_way R (On M) (is_filled (slot k.state s)) n k h
+  instr_marked a (skip_full s n) c k h = either_way R (On M) (is_empty (slot k.state s)) n k h
+  instr_marked a (skip_not s d n) c k h = either_way R (On M) (holds_it d (slot k.state s)) n k h
+  instr_marked a (does x) c k h =
+      gone_on R (On M) (perform p.vars a x k) (act_marked R M w.full w.no_room (var_row p.vars (act_var x)) a x k h)
 
-  pub marked-effects : Effects p R C (On M)
-  marked-effects = record { unsettled = w.unsettled; takes = λ h n. emit-marked R M w.no_room _; does = instr-marked }
+  pub marked_effects : Effects p R C (On M)
+  marked_effects = record { unsettled = w.unsettled; takes = λ h n. emit_marked R M w.no_room _; does = instr_marked }
 
   -- ---- what follows the tests of a run
 
-  pub react-marked : Each C p.code → (r : Removed) → Runs R (On M) (take_front r) → Runs R (On M) (plan_react p r)
+  pub react_marked : Each C p.code → (r : Removed) → Runs R (On M) (take_front r) → Runs R (On M) (plan_react p r)
   unfolding plan_react
-  react-marked c r f = then_runs R (On M) _ _ f
+  react_marked c r f = then_runs R (On M) _ _ f
       (then_runs R (On M) (plan_step p (ref r.front.event) r.front.arg) (plan_settle p)
-      (step-runs p R C (On M) marked-effects c (ref r.front.event) r.front.arg) (settle-runs p R C (On M) marked-effects c))
+      (step_runs p R C (On M) marked_effects c (ref r.front.event) r.front.arg) (settle_runs p R C (On M) marked_effects c))

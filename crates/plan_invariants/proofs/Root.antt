@@ -28,14 +28,14 @@ use Rattle.meaning.specs.WellFormed.{plan_by, well_formed}
 use Rattle.meaning.specs.Widget.{Ctx, begin, change, emit, entered, is_active, set_active}
 use Rattle.meaning.specs.declared.State.{State}
 use Rattle.meaning.specs.declared.plan.Instr.{Instr}
-use Rattle.meaning.specs.declared.plan.Instr.TheVariants.{Does as does, In as go-in, Out as go-out, SkipEmpty as skip-empty}
-use Rattle.meaning.specs.declared.plan.Instr.TheVariants.{SkipFull as skip-full, SkipNot as skip-not, SkipOut as skip-out}
-use Rattle.plan_invariants.proofs.AnyNumbers.{formed-facts}
+use Rattle.meaning.specs.declared.plan.Instr.TheVariants.{Does as does, In as go_in, Out as go_out, SkipEmpty as skip_empty}
+use Rattle.meaning.specs.declared.plan.Instr.TheVariants.{SkipFull as skip_full, SkipNot as skip_not, SkipOut as skip_out}
+use Rattle.plan_invariants.proofs.AnyNumbers.{formed_facts}
 use Rattle.plan_invariants.proofs.Answering.{formed}
-use Rattle.plan_invariants.proofs.Calls.{fit-own, own_root}
-use Rattle.plan_invariants.proofs.Marks.{Marking, On, append-marked, emit-marked, front-marked, instr-marked, marked-effects}
-use Rattle.plan_invariants.proofs.Marks.{react-marked}
-use Rattle.plan_invariants.proofs.Walk.{Ends, Refusal, Runs, code-ends, code_runs, each-taken, ends_bind, gone-on, settle-runs}
+use Rattle.plan_invariants.proofs.Calls.{fit_own, own_root}
+use Rattle.plan_invariants.proofs.Marks.{Marking, On, append_marked, emit_marked, front_marked, instr_marked, marked_effects}
+use Rattle.plan_invariants.proofs.Marks.{react_marked}
+use Rattle.plan_invariants.proofs.Walk.{Ends, Refusal, Runs, code_ends, code_runs, each_taken, ends_bind, gone_on, settle_runs}
 use Rattle.plan_invariants.specs.Root.{begins_in_root, enters_root, leaves_root, never_leaves_root, starts_in_root}
 use Rattle.queue.specs.Queue.{removed}
 use Rattle.queue.specs.declared.Removed.{Removed}
@@ -73,56 +73,56 @@ root_marking = record {
 stay_each : (is : List Instr) → every (λ i. not (leaves_root i)) is ≡ true → Each Stays is
 unfolding every
 stay_each [] e = none_left
-stay_each (i ∷ is) e = one_more (is-not (leaves_root i) (and_left (not (leaves_root i)) _ e))
+stay_each (i ∷ is) e = one_more (is_not (leaves_root i) (and_left (not (leaves_root i)) _ e))
     (stay_each is (and_right (not (leaves_root i)) _ e))
   where
-    is-not : (b : Bool) → not b ≡ true → b ≡ false
-    is-not true q = absurd (false≢true q)
-    is-not false q = refl
+    is_not : (b : Bool) → not b ≡ true → b ≡ false
+    is_not true q = absurd (false≢true q)
+    is_not false q = refl
 
 module _ (p : Plan) (never : never_leaves_root p ≡ true) where
   code_stays : Each Stays p.code
   unfolding never_leaves_root
   code_stays = stay_each p.code never
 
-  react-rooted : (r : Removed) → Runs Refusal (On Marked) (plan_react p r)
-  react-rooted r = react-marked p Refusal Stays Marked root_marking code_stays r (front-marked Refusal Marked (λ e. omega arith) r)
+  react_rooted : (r : Removed) → Runs Refusal (On Marked) (plan_react p r)
+  react_rooted r = react_marked p Refusal Stays Marked root_marking code_stays r (front_marked Refusal Marked (λ e. omega arith) r)
 
   -- IN 0, from any marks of 01's size
-  first-rooted : (s : ℕ) → eqb s 0 ≡ true → (k : Ctx) → length k.state.active ≡ STATES → Ends Refusal (mark_entered s k) (On Marked)
+  first_rooted : (s : ℕ) → eqb s 0 ≡ true → (k : Ctx) → length k.state.active ≡ STATES → Ends Refusal (mark_entered s k) (On Marked)
   unfolding mark_entered ◌then◌ set_active change
-  first-rooted s e k l = ends_bind Refusal (λ j. length j.state.active ≡ STATES) (On Marked) (emit (entered s) k)
+  first_rooted s e k l = ends_bind Refusal (λ j. length j.state.active ≡ STATES) (On Marked) (emit (entered s) k)
       (change (set_active s true))
-      (emit-marked Refusal (λ x. length x ≡ STATES) (λ z. omega arith) (entered s) k l)
+      (emit_marked Refusal (λ x. length x ≡ STATES) (λ z. omega arith) (entered s) k l)
       (λ j m. subst (λ i. Marked (set j.state.active i true)) (sym (eqb-true s 0 e))
       (get_or-set_same j.state.active 0 true false (omega (arith, m))))
 
   -- a block that begins so
-  block-rooted : (is : List Instr) → begins_in_root is ≡ true → Each Stays is → (k : Ctx) → length k.state.active ≡ STATES
+  block_rooted : (is : List Instr) → begins_in_root is ≡ true → Each Stays is → (k : Ctx) → length k.state.active ≡ STATES
       → Ends Refusal (run_block p.vars (pos 0) is k) (On Marked)
   unfolding begins_in_root enters_root run_block run_code each passing exec exec_at exec_now
-  block-rooted [] e c k l = absurd (false≢true e)
-  block-rooted (go-in s ∷ is) e (one_more c cs) k l =
+  block_rooted [] e c k l = absurd (false≢true e)
+  block_rooted (go_in s ∷ is) e (one_more c cs) k l =
       let rest = each (exec p.vars (pos 0)) is in
-      code-ends Refusal (On Marked) (bind (go_on (mark_entered s k)) rest)
+      code_ends Refusal (On Marked) (bind (go_on (mark_entered s k)) rest)
       (ends_bind Refusal (λ j. On Marked j.ctx) (λ j. On Marked j.ctx) (go_on (mark_entered s k)) rest
-      (gone-on Refusal (On Marked) (mark_entered s k) (first-rooted s e k l))
-      (code_runs Refusal (On Marked) p.vars (pos 0) Stays (instr-marked p Refusal Stays Marked root_marking (pos 0)) is cs))
-  block-rooted (go-out s q ∷ is) e c k l = absurd (false≢true e)
-  block-rooted (skip-out s n ∷ is) e c k l = absurd (false≢true e)
-  block-rooted (skip-empty s n ∷ is) e c k l = absurd (false≢true e)
-  block-rooted (skip-full s n ∷ is) e c k l = absurd (false≢true e)
-  block-rooted (skip-not s d n ∷ is) e c k l = absurd (false≢true e)
-  block-rooted (does x ∷ is) e c k l = absurd (false≢true e)
+      (gone_on Refusal (On Marked) (mark_entered s k) (first_rooted s e k l))
+      (code_runs Refusal (On Marked) p.vars (pos 0) Stays (instr_marked p Refusal Stays Marked root_marking (pos 0)) is cs))
+  block_rooted (go_out s q ∷ is) e c k l = absurd (false≢true e)
+  block_rooted (skip_out s n ∷ is) e c k l = absurd (false≢true e)
+  block_rooted (skip_empty s n ∷ is) e c k l = absurd (false≢true e)
+  block_rooted (skip_full s n ∷ is) e c k l = absurd (false≢true e)
+  block_rooted (skip_not s d n ∷ is) e c k l = absurd (false≢true e)
+  block_rooted (does x ∷ is) e c k l = absurd (false≢true e)
 
-  start-rooted : starts_in_root p ≡ true → (n : ℕ) → Ends Refusal (plan_start_steps p (begin (fresh_by p.vars) n)) (On Marked)
+  start_rooted : starts_in_root p ≡ true → (n : ℕ) → Ends Refusal (plan_start_steps p (begin (fresh_by p.vars) n)) (On Marked)
   unfolding starts_in_root plan_start_steps ◌then◌ begin fresh_by
-  start-rooted e n =
+  start_rooted e n =
       let first = take p.start_length p.code in
       ends_bind Refusal (On Marked) (On Marked) (run_block p.vars (pos 0) first (begin (fresh_by p.vars) n)) (plan_settle p)
-      (block-rooted first e (each-taken Stays p.start_length p.code code_stays) (begin (fresh_by p.vars) n)
+      (block_rooted first e (each_taken Stays p.start_length p.code code_stays) (begin (fresh_by p.vars) n)
       (length-replicate STATES false))
-      (settle-runs p Refusal Stays (On Marked) (marked-effects p Refusal Stays Marked root_marking) code_stays)
+      (settle_runs p Refusal Stays (On Marked) (marked_effects p Refusal Stays Marked root_marking) code_stays)
 
 -- ---- calls: one that is done leaves the root active
 
@@ -144,28 +144,28 @@ tested_rooted p u F k q f = go u.started (plan_own p.states p.vars p.events u) r
     go true true e = f k (subst Marked (sym q) (own_root p u e))
 
 module _ (p : Plan) (u : State) where
-  pub root-after-start : never_leaves_root p ≡ true → starts_in_root p ≡ true → (n : ℕ) → (plan_start p u n).number ≡ 0
+  pub root_after_start : never_leaves_root p ≡ true → starts_in_root p ≡ true → (n : ℕ) → (plan_start p u n).number ≡ 0
       → is_active (plan_start p u n).after 0 ≡ true
   unfolding plan_start
-  root-after-start l s n = done_rooted u (plan_start_steps p (begin (fresh_by p.vars) n)) (start-rooted p l s n)
+  root_after_start l s n = done_rooted u (plan_start_steps p (begin (fresh_by p.vars) n)) (start_rooted p l s n)
 
-  pub root-after-run : never_leaves_root p ≡ true → (n : ℕ) → (plan_run p u n).number ≡ 0 → is_active (plan_run p u n).after 0 ≡ true
+  pub root_after_run : never_leaves_root p ≡ true → (n : ℕ) → (plan_run p u n).number ≡ 0 → is_active (plan_run p u n).after 0 ≡ true
   unfolding plan_run begin
-  root-after-run l n = done_rooted u ((plan_tests p u then plan_react p (removed u.queue)) (begin u n))
-      (tested_rooted p u (plan_react p (removed u.queue)) (begin u n) refl (react-rooted p l (removed u.queue)))
+  root_after_run l n = done_rooted u ((plan_tests p u then plan_react p (removed u.queue)) (begin u n))
+      (tested_rooted p u (plan_react p (removed u.queue)) (begin u n) refl (react_rooted p l (removed u.queue)))
 
   -- post and discard touch no mark, whatever the plan
-  pub root-after-post : (e a : ℤ) → (plan_post p u e a).number ≡ 0 → is_active (plan_post p u e a).after 0 ≡ true
+  pub root_after_post : (e a : ℤ) → (plan_post p u e a).number ≡ 0 → is_active (plan_post p u e a).after 0 ≡ true
   unfolding plan_post begin
-  root-after-post e a = done_rooted u ((plan_tests p u then require 10 (event_fits p.events e a) then enqueue e a) (begin u 0))
+  root_after_post e a = done_rooted u ((plan_tests p u then require 10 (event_fits p.events e a) then enqueue e a) (begin u 0))
       (tested_rooted p u (require 10 (event_fits p.events e a) then enqueue e a) (begin u 0) refl
-      (append-marked Refusal Marked (λ z. omega arith) (λ z. omega arith) (event_fits p.events e a) e a))
+      (append_marked Refusal Marked (λ z. omega arith) (λ z. omega arith) (event_fits p.events e a) e a))
 
-  pub root-after-discard : (plan_discard p u).number ≡ 0 → is_active (plan_discard p u).after 0 ≡ true
+  pub root_after_discard : (plan_discard p u).number ≡ 0 → is_active (plan_discard p u).after 0 ≡ true
   unfolding plan_discard begin
-  root-after-discard = done_rooted u ((plan_tests p u then take_front (removed u.queue)) (begin u 0))
+  root_after_discard = done_rooted u ((plan_tests p u then take_front (removed u.queue)) (begin u 0))
       (tested_rooted p u (take_front (removed u.queue)) (begin u 0) refl
-      (front-marked Refusal Marked (λ z. omega arith) (removed u.queue)))
+      (front_marked Refusal Marked (λ z. omega arith) (removed u.queue)))
 
 -- ---- over any well-formed numbers: all of the machine's test
 
@@ -175,18 +175,18 @@ Owned p v = (v.started ≡ true) × (plan_own p.states p.vars p.events v ≡ tru
 
 module _ (ns : List ℤ) (w : well_formed ns ≡ true) (never : never_leaves_root (plan_by ns) ≡ true)
     (starts : starts_in_root (plan_by ns) ≡ true) where
-  root-after : (x : Call) (u : State) → (plan_make (plan_by ns) x u).number ≡ 0 → is_active (plan_make (plan_by ns) x u).after 0 ≡ true
+  root_after : (x : Call) (u : State) → (plan_make (plan_by ns) x u).number ≡ 0 → is_active (plan_make (plan_by ns) x u).after 0 ≡ true
   unfolding plan_make
-  root-after (to_start n) u e = root-after-start (plan_by ns) u never starts n e
-  root-after (to_run n) u e = root-after-run (plan_by ns) u never n e
-  root-after (to_post i a) u e = root-after-post (plan_by ns) u i a e
-  root-after to_discard u e = root-after-discard (plan_by ns) u e
+  root_after (to_start n) u e = root_after_start (plan_by ns) u never starts n e
+  root_after (to_run n) u e = root_after_run (plan_by ns) u never n e
+  root_after (to_post i a) u e = root_after_post (plan_by ns) u i a e
+  root_after to_discard u e = root_after_discard (plan_by ns) u e
 
-  pub machine-root : (x : Call) (u : State) → (machine_make ns x u).number ≡ 0 → is_active (machine_make ns x u).after 0 ≡ true
-  machine-root x u = subst (λ o. o.number ≡ 0 → is_active o.after 0 ≡ true) (sym (formed ns w x u)) (root-after x u)
+  pub machine_root : (x : Call) (u : State) → (machine_make ns x u).number ≡ 0 → is_active (machine_make ns x u).after 0 ≡ true
+  machine_root x u = subst (λ o. o.number ≡ 0 → is_active o.after 0 ≡ true) (sym (formed ns w x u)) (root_after x u)
 
   -- a call that is done leaves a started state that passes the machine's whole test for 6
-  pub machine-own : (x : Call) (u : State) → Sized u → (machine_make ns x u).number ≡ 0 → Owned (plan_by ns) (machine_make ns x u).after
-  machine-own x u z e =
-      let f = (formed-facts ns w x u z).done e in
-      (f.started, fit-own (plan_by ns) (machine_make ns x u).after f ∙ machine-root x u e)
+  pub machine_own : (x : Call) (u : State) → Sized u → (machine_make ns x u).number ≡ 0 → Owned (plan_by ns) (machine_make ns x u).after
+  machine_own x u z e =
+      let f = (formed_facts ns w x u z).done e in
+      (f.started, fit_own (plan_by ns) (machine_make ns x u).after f ∙ machine_root x u e)

@@ -10,7 +10,7 @@ use lib.IntN.{pos, ℤ}
 use lib.Dec.{eqb}
 use borrow.Author.Tests.{eq-eqb}
 use Rattle.plan_invariants.specs.Names.{of_plan}
-use Rattle.laws.proofs.Lists.{each-kept, each-weaker, or_left, or_right}
+use Rattle.laws.proofs.Lists.{each_kept, each_weaker, or_left, or_right}
 use Rattle.laws.specs.Facts.{Each, none_left, one_more}
 use Rattle.meaning.specs.Lists.{exists, keep}
 use Rattle.meaning.specs.Machine.{Mach, chosen_heads, end_code, exec, exec_at, exec_now, fire_head, go_on, head_block, head_enabled, on_if}
@@ -50,27 +50,27 @@ module _ (R : ℕ → Type 0) (P : Ctx → Type 0) where
   unfolding ◌then◌
   then_runs F G f g k h = ends_bind R P P (F k) G (f k h) g
 
-  pub each-runs : {A : Type 0} (F : A → Step Ctx) (C : A → Type 0) → ((x : A) → C x → Runs R P (F x)) → (xs : List A) → Each C xs
+  pub each_runs : {A : Type 0} (F : A → Step Ctx) (C : A → Type 0) → ((x : A) → C x → Runs R P (F x)) → (xs : List A) → Each C xs
       → Runs R P (each F xs)
   unfolding each
-  each-runs F C f [] none_left k h = h
-  each-runs F C f (x ∷ xs) (one_more c cs) k h = ends_bind R P P (F x k) (each F xs) (f x c k h) (each-runs F C f xs cs)
+  each_runs F C f [] none_left k h = h
+  each_runs F C f (x ∷ xs) (one_more c cs) k h = ends_bind R P P (F x k) (each F xs) (f x c k h) (each_runs F C f xs cs)
 
-  pub look-runs : (F : Ctx → Step Ctx) → ((k : Ctx) → P k → Runs R P (F k)) → Runs R P (look F)
+  pub look_runs : (F : Ctx → Step Ctx) → ((k : Ctx) → P k → Runs R P (F k)) → Runs R P (look F)
   unfolding look
-  look-runs F f k h = f k h k h
+  look_runs F f k h = f k h k h
 
-  pub if-any-runs : {A : Type 0} (xs : List A) (F : Step Ctx) → Runs R P F → Runs R P (if_any xs F)
+  pub if_any_runs : {A : Type 0} (xs : List A) (F : Step Ctx) → Runs R P F → Runs R P (if_any xs F)
   unfolding if_any skip
-  if-any-runs [] F f k h = h
-  if-any-runs (x ∷ xs) F f k h = f k h
+  if_any_runs [] F f k h = h
+  if_any_runs (x ∷ xs) F f k h = f k h
 
   -- ---- one instruction: after an effect nothing is passed over, and a skip changes nothing
 
-  pub gone-on : (r : Res Ctx) → Ends R r P → Ends R (go_on r) (λ m. P m.ctx)
+  pub gone_on : (r : Res Ctx) → Ends R r P → Ends R (go_on r) (λ m. P m.ctx)
   unfolding go_on passing
-  gone-on (ok k) h = h
-  gone-on (refuse n) h = h
+  gone_on (ok k) h = h
+  gone_on (refuse n) h = h
 
   pub either_way : (b : Bool) (n : ℕ) (k : Ctx) → P k → Ends R (on_if b n k) (λ m. P m.ctx)
   unfolding on_if passing
@@ -81,9 +81,9 @@ module _ (R : ℕ → Type 0) (P : Ctx → Type 0) where
 
   module _ (vs : List VarRow) (a : ℤ) (C : Instr → Type 0)
       (f : (i : Instr) → C i → (k : Ctx) → P k → Ends R (exec_now vs a i k) (λ m. P m.ctx)) where
-    pub exec-runs : (i : Instr) → C i → (m : Mach) → P m.ctx → Ends R (exec vs a i m) (λ j. P j.ctx)
+    pub exec_runs : (i : Instr) → C i → (m : Mach) → P m.ctx → Ends R (exec vs a i m) (λ j. P j.ctx)
     unfolding exec exec_at passing
-    exec-runs i c m h = at m.over
+    exec_runs i c m h = at m.over
       where
         at : (n : ℕ) → Ends R (exec_at vs a n i m.ctx) (λ j. P j.ctx)
         at zero = f i c m.ctx h
@@ -93,25 +93,25 @@ module _ (R : ℕ → Type 0) (P : Ctx → Type 0) where
     unfolding run_code each
     code_runs [] none_left m h = h
     code_runs (i ∷ is) (one_more c cs) m h = ends_bind R (λ j. P j.ctx) (λ j. P j.ctx) (exec vs a i m) (each (exec vs a) is)
-        (exec-runs i c m h) (code_runs is cs)
+        (exec_runs i c m h) (code_runs is cs)
 
-  pub code-ends : (r : Res Mach) → Ends R r (λ j. P j.ctx) → Ends R (end_code r) P
+  pub code_ends : (r : Res Mach) → Ends R r (λ j. P j.ctx) → Ends R (end_code r) P
   unfolding end_code
-  code-ends (ok m) h = h
-  code-ends (refuse n) h = h
+  code_ends (ok m) h = h
+  code_ends (refuse n) h = h
 
 -- ---- lists
 
 module _ {A : Type 0} (P : A → Type 0) where
-  pub each-taken : (n : ℕ) (xs : List A) → Each P xs → Each P (take n xs)
-  each-taken zero xs h = none_left
-  each-taken (suc n) [] none_left = none_left
-  each-taken (suc n) (x ∷ xs) (one_more p ps) = one_more p (each-taken n xs ps)
+  pub each_taken : (n : ℕ) (xs : List A) → Each P xs → Each P (take n xs)
+  each_taken zero xs h = none_left
+  each_taken (suc n) [] none_left = none_left
+  each_taken (suc n) (x ∷ xs) (one_more p ps) = one_more p (each_taken n xs ps)
 
-  pub each-dropped : (n : ℕ) (xs : List A) → Each P xs → Each P (drop n xs)
-  each-dropped zero xs h = h
-  each-dropped (suc n) [] none_left = none_left
-  each-dropped (suc n) (x ∷ xs) (one_more p ps) = each-dropped n xs ps
+  pub each_dropped : (n : ℕ) (xs : List A) → Each P xs → Each P (drop n xs)
+  each_dropped zero xs h = h
+  each_dropped (suc n) [] none_left = none_left
+  each_dropped (suc n) (x ∷ xs) (one_more p ps) = each_dropped n xs ps
 
 -- the heads that are chosen are heads of the plan
 thinned : (H : Head → Type 0) (gone hs : List Head) → Each H hs → Each H (thin_heads gone hs)
@@ -126,7 +126,7 @@ thinned H gone (h ∷ hs) (one_more p ps) = go (exists (spans_meet h) gone) (thi
 
 pub chosen_each : (H : Head → Type 0) (p : Plan) (e : ℕ) (u : State) → Each H p.heads → Each H (chosen_heads p e u)
 unfolding chosen_heads
-chosen_each H p e u h = thinned H [] (keep (head_enabled e u) p.heads) (each-kept H (head_enabled e u) p.heads h)
+chosen_each H p e u h = thinned H [] (keep (head_enabled e u) p.heads) (each_kept H (head_enabled e u) p.heads h)
 
 -- each head of a plan names a transition of the plan
 abbrev pub HeadNamed : Plan → Head → Type 0
@@ -136,7 +136,7 @@ found_in : (hs : List Head) → Each (λ h. exists (λ g. eqb g.transition h.tra
 unfolding exists
 found_in [] = none_left
 found_in (h ∷ hs) = one_more (or_left _ _ (eq-eqb h.transition h.transition refl))
-    (each-weaker (λ x. exists (λ g. eqb g.transition x.transition) hs ≡ true)
+    (each_weaker (λ x. exists (λ g. eqb g.transition x.transition) hs ≡ true)
     (λ x. exists (λ g. eqb g.transition x.transition) (h ∷ hs) ≡ true) hs
     (λ x e. or_right (eqb h.transition x.transition) _ e) (found_in hs))
 
@@ -155,26 +155,26 @@ pub record Effects (p : Plan) (R : ℕ → Type 0) (C : Instr → Type 0) (P : C
 module _ (p : Plan) (R : ℕ → Type 0) (C : Instr → Type 0) (P : Ctx → Type 0) (w : Effects p R C P) where
   pub block_runs : (a : ℤ) (is : List Instr) → Each C is → Runs R P (run_block p.vars a is)
   unfolding run_block passing
-  block_runs a is c k h = code-ends R P (run_code p.vars a is (passing 0 k))
+  block_runs a is c k h = code_ends R P (run_code p.vars a is (passing 0 k))
       (code_runs R P p.vars a C (w.does a) is c (passing 0 k) h)
 
   module _ (c : Each C p.code) where
-    pub head-runs : (a : ℤ) (h : Head) → HeadNamed p h → Runs R P (fire_head p a h)
+    pub head_runs : (a : ℤ) (h : Head) → HeadNamed p h → Runs R P (fire_head p a h)
     unfolding fire_head head_block
-    head-runs a h n = then_runs R P _ _ (w.takes h n)
-        (block_runs a (take h.length (drop h.start p.code)) (each-taken C h.length _ (each-dropped C h.start p.code c)))
+    head_runs a h n = then_runs R P _ _ (w.takes h n)
+        (block_runs a (take h.length (drop h.start p.code)) (each_taken C h.length _ (each_dropped C h.start p.code c)))
 
-    pub step-runs : (e : ℕ) (a : ℤ) → Runs R P (plan_step p e a)
+    pub step_runs : (e : ℕ) (a : ℤ) → Runs R P (plan_step p e a)
     unfolding plan_step
-    step-runs e a = look-runs R P _ (λ k h. each-runs R P (fire_head p a) (HeadNamed p) (head-runs a) (chosen_heads p e k.state)
+    step_runs e a = look_runs R P _ (λ k h. each_runs R P (fire_head p a) (HeadNamed p) (head_runs a) (chosen_heads p e k.state)
         (chosen_each (HeadNamed p) p e k.state (heads_named p)))
 
-    settle-in-runs : (n : ℕ) → Runs R P (plan_settle_in p n)
+    settle_in_runs : (n : ℕ) → Runs R P (plan_settle_in p n)
     unfolding plan_settle_in
-    settle-in-runs zero = look-runs R P _ (λ k h. if-any-runs R P (chosen_heads p 0 k.state) _ (λ j g. w.unsettled))
-    settle-in-runs (suc n) = look-runs R P _ (λ k h. if-any-runs R P (chosen_heads p 0 k.state) _
-        (then_runs R P _ _ (step-runs 0 (pos 0)) (settle-in-runs n)))
+    settle_in_runs zero = look_runs R P _ (λ k h. if_any_runs R P (chosen_heads p 0 k.state) _ (λ j g. w.unsettled))
+    settle_in_runs (suc n) = look_runs R P _ (λ k h. if_any_runs R P (chosen_heads p 0 k.state) _
+        (then_runs R P _ _ (step_runs 0 (pos 0)) (settle_in_runs n)))
 
-    pub settle-runs : Runs R P (plan_settle p)
+    pub settle_runs : Runs R P (plan_settle p)
     unfolding plan_settle
-    settle-runs = settle-in-runs NULL_STEPS
+    settle_runs = settle_in_runs NULL_STEPS

@@ -1,5 +1,5 @@
 -- A well-formed plan fits: what the test of the numbers says of the plan that they state, in the plain facts of crate plan_laws, where
--- the converse is (`fits-well-formed`). In the order: blocks; the plan; what each instruction names. Assumes nothing.
+-- the converse is (`fits_well_formed`). In the order: blocks; the plan; what each instruction names. Assumes nothing.
 use mathlib.Core.Path.{◌∙◌, ◌≡◌, ap, refl, subst, sym}
 use Prim.Native.Nat.{◌+◌, ◌≤◌, suc, zero, ℕ}
 use native.Mathlib.Omega.{arith}
@@ -11,7 +11,7 @@ use lib.IntN.{negsuc, pos, ℤ}
 use lib.Signed.{le_z}
 use lib.Dec.{leb}
 use borrow.Author.Tests.{eqb-true, leb-true}
-use Rattle.laws.proofs.Lists.{and_left, and_right, each-joined, each-weaker}
+use Rattle.laws.proofs.Lists.{and_left, and_right, each_joined, each_weaker}
 use Rattle.laws.specs.Facts.{Each, none_left, one_more}
 use Rattle.laws.proofs.Value.{length_chunks, size_by_most}
 use Rattle.meaning.specs.Lists.{chunks, concat_map, every}
@@ -158,31 +158,31 @@ module _ (ns : List ℤ) where
   abbrev kept : Counts
   kept = counts_of ns
 
-  vars-long : length (map var_by (var_rows ns kept)) ≡ kept.vars
+  vars_long : length (map var_by (var_rows ns kept)) ≡ kept.vars
   unfolding var_rows
-  vars-long = length-map (var_rows ns kept) var_by ∙ length_chunks kept.vars VAR_ROW _
+  vars_long = length-map (var_rows ns kept) var_by ∙ length_chunks kept.vars VAR_ROW _
 
-  heads-long : length (map head_by (head_rows ns kept)) ≡ kept.heads
+  heads_long : length (map head_by (head_rows ns kept)) ≡ kept.heads
   unfolding head_rows
-  heads-long = length-map (head_rows ns kept) head_by ∙ length_chunks kept.heads HEAD_ROW _
+  heads_long = length-map (head_rows ns kept) head_by ∙ length_chunks kept.heads HEAD_ROW _
 
-  code-long : length (map instr_by (code_rows ns kept)) ≡ kept.instructions
+  code_long : length (map instr_by (code_rows ns kept)) ≡ kept.instructions
   unfolding code_rows
-  code-long = length-map (code_rows ns kept) instr_by ∙ length_chunks kept.instructions INSTR_ROW _
+  code_long = length-map (code_rows ns kept) instr_by ∙ length_chunks kept.instructions INSTR_ROW _
 
   -- the counts of the plan that numbers state are those of the numbers
   counts_same : counts (plan_by ns) ≡ counts_of ns
   unfolding counts plan_by counts_of
-  counts_same = rw (vars-long, heads-long, code-long)
+  counts_same = rw (vars_long, heads_long, code_long)
 
-  sizes-kept : Sayable (plan_by ns)
+  sizes_kept : Sayable (plan_by ns)
   unfolding plan_by counts_of
-  sizes-kept = record {
+  sizes_kept = record {
     states = size_by_most STATES (num ns 0);
-    vars = subst (λ n. n ≤ VARIABLES) (sym vars-long) (size_by_most VARIABLES (num ns 1));
+    vars = subst (λ n. n ≤ VARIABLES) (sym vars_long) (size_by_most VARIABLES (num ns 1));
     events = size_by_most EVENTS (num ns 2);
-    heads = subst (λ n. n ≤ TRANSITIONS) (sym heads-long) (size_by_most TRANSITIONS (num ns 3));
-    code = subst (λ n. n ≤ INSTRUCTIONS) (sym code-long) (size_by_most INSTRUCTIONS (num ns 4));
+    heads = subst (λ n. n ≤ TRANSITIONS) (sym heads_long) (size_by_most TRANSITIONS (num ns 3));
+    code = subst (λ n. n ≤ INSTRUCTIONS) (sym code_long) (size_by_most INSTRUCTIONS (num ns 4));
   }
 
   module _ (e : well_formed ns ≡ true) where
@@ -193,35 +193,35 @@ module _ (ns : List ℤ) where
     lengths : List ℕ
     lengths = kept.start ∷ map block_length (head_rows ns kept)
 
-    all-code : List ℤ
-    all-code = drop (code_at kept) ns
+    all_code : List ℤ
+    all_code = drop (code_at kept) ns
 
-    blocks-total : total lengths ≡ kept.instructions
+    blocks_total : total lengths ≡ kept.instructions
     unfolding total lengths
-    blocks-total = (heads_fill kept.instructions kept.start (head_rows ns kept) test.blocks).1
+    blocks_total = (heads_fill kept.instructions kept.start (head_rows ns kept) test.blocks).1
 
-    few-states : kept.states ≤ NOWHERE
+    few_states : kept.states ≤ NOWHERE
     unfolding counts_of
-    few-states = omega (arith, size_by_most STATES (num ns 0))
+    few_states = omega (arith, size_by_most STATES (num ns 0))
 
-    plan-fits : Fits (plan_by ns)
-    unfolding plan_by counts_of left_in_blocks lengths all-code code_rows
-    plan-fits = record {
+    plan_fits : Fits (plan_by ns)
+    unfolding plan_by counts_of left_in_blocks lengths all_code code_rows
+    plan_fits = record {
       two = two_of (num ns 0) test.states;
       vars = vars_fitting (var_rows ns kept) test.vars;
       heads = subst (λ k. Each (HeadFits k) (map head_by (head_rows ns kept))) (sym counts_same)
-          (heads_fitting kept (head_rows ns kept) few-states test.heads);
-      fills = subst (λ n. Fills n kept.start (map head_by (head_rows ns kept))) (sym code-long)
+          (heads_fitting kept (head_rows ns kept) few_states test.heads);
+      fills = subst (λ n. Fills n kept.start (map head_by (head_rows ns kept))) (sym code_long)
           (heads_fill kept.instructions kept.start (head_rows ns kept) test.blocks).0;
-      blocks = blocks_of lengths all-code;
-      code = ap (λ n. instrs n all-code) (sym blocks-total) ∙ blocks_joined lengths all-code;
-      lengths = ap (λ l. kept.start ∷ l) (lengths_same (head_rows ns kept)) ∙ blocks_long lengths all-code;
-      pieces = subst (λ k. Each (Piece k) (blocks_of lengths all-code)) (sym counts_same) (block_pieces kept lengths all-code test.code);
+      blocks = blocks_of lengths all_code;
+      code = ap (λ n. instrs n all_code) (sym blocks_total) ∙ blocks_joined lengths all_code;
+      lengths = ap (λ l. kept.start ∷ l) (lengths_same (head_rows ns kept)) ∙ blocks_long lengths all_code;
+      pieces = subst (λ k. Each (Piece k) (blocks_of lengths all_code)) (sym counts_same) (block_pieces kept lengths all_code test.code);
     }
 
     -- a well-formed plan fits
     pub well : Well (plan_by ns)
-    well = record { sayable = sizes-kept; fits = plan-fits }
+    well = record { sayable = sizes_kept; fits = plan_fits }
 
 -- ---- what each instruction and each variable row of such a plan says
 
@@ -236,11 +236,11 @@ piece_each p (i ∷ is) (one_instr h hs) = one_more (length is, h) (piece_each p
 pieces_each : (p : Plan) (bs : List (List Instr)) → Each (Piece (counts p)) bs → Each (InstrNamed p) (concat_map (λ b. b) bs)
 unfolding concat_map
 pieces_each p [] none_left = none_left
-pieces_each p (b ∷ bs) (one_more h hs) = each-joined (InstrNamed p) b (concat_map (λ x. x) bs) (piece_each p b h) (pieces_each p bs hs)
+pieces_each p (b ∷ bs) (one_more h hs) = each_joined (InstrNamed p) b (concat_map (λ x. x) bs) (piece_each p b h) (pieces_each p bs hs)
 
 module _ (p : Plan) (w : Well p) where
-  pub well-code : Each (InstrNamed p) p.code
-  well-code = subst (Each (InstrNamed p)) (sym w.fits.code) (pieces_each p w.fits.blocks w.fits.pieces)
+  pub well_code : Each (InstrNamed p) p.code
+  well_code = subst (Each (InstrNamed p)) (sym w.fits.code) (pieces_each p w.fits.blocks w.fits.pieces)
 
-  pub well-rows : Each (λ r. row_fits r ≡ true) p.vars
-  well-rows = each-weaker VarFits (λ r. row_fits r ≡ true) p.vars (λ r f. f.in_order) w.fits.vars
+  pub well_rows : Each (λ r. row_fits r ≡ true) p.vars
+  well_rows = each_weaker VarFits (λ r. row_fits r ≡ true) p.vars (λ r f. f.in_order) w.fits.vars

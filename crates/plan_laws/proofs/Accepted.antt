@@ -20,7 +20,7 @@ use Rattle.meaning.specs.WellFormed.{HEAD_ROW, INSTR_ROW, all_blocks_fill, block
 use Rattle.meaning.specs.WellFormed.{operand_fits, shape_fits, head_fits, head_guard_fits, head_rows, heads_at, instr_fits, is_whole}
 use Rattle.meaning.specs.WellFormed.{left_after_each, left_in_blocks, plan_end, rows_well_formed, span_fits, var_keeps, var_rows}
 use Rattle.meaning.specs.WellFormed.{well_formed}
-use Rattle.meaning.specs.declared.chart.Act.TheVariants.{AddTo as add_to, Send as send, SetTo as set_to, TakeTo as take-to, Tell as tell}
+use Rattle.meaning.specs.declared.chart.Act.TheVariants.{AddTo as add_to, Send as send, SetTo as set_to, TakeTo as take_to, Tell as tell}
 use Rattle.meaning.specs.declared.chart.Guard.{Guard}
 use Rattle.meaning.specs.declared.chart.Guard.TheVariants.{Always as always, Compares as compares}
 use Rattle.meaning.specs.declared.chart.Sign.TheVariants.{Equal as equal, Less as less, More as more}
@@ -28,14 +28,14 @@ use Rattle.meaning.specs.declared.chart.VarRow.{VarRow}
 use Rattle.meaning.specs.declared.plan.Counts.{Counts}
 use Rattle.meaning.specs.declared.plan.Head.{Head}
 use Rattle.meaning.specs.declared.plan.Instr.{Instr}
-use Rattle.meaning.specs.declared.plan.Instr.TheVariants.{Does as does, In as go-in, Out as go-out, SkipEmpty as skip-empty}
-use Rattle.meaning.specs.declared.plan.Instr.TheVariants.{SkipFull as skip-full, SkipNot as skip-not, SkipOut as skip-out}
+use Rattle.meaning.specs.declared.plan.Instr.TheVariants.{Does as does, In as go_in, Out as go_out, SkipEmpty as skip_empty}
+use Rattle.meaning.specs.declared.plan.Instr.TheVariants.{SkipFull as skip_full, SkipNot as skip_not, SkipOut as skip_out}
 use Rattle.numbers.specs.Reference.{ref}
 use Rattle.numbers.specs.declared.Place.TheVariants.{At as holds, Empty as empty}
 use Rattle.plan_laws.proofs.Fits.{Fills, Fits, GuardFits, HeadFits, InstrFits, Piece, VarFits, next_block, no_piece, one_instr}
 use Rattle.plan_laws.proofs.Fits.{to_the_end}
-use Rattle.plan_laws.proofs.ReadBack.{Sayable, after-heads, counts, counts-back, head_long, head-rows-back, instr_long, var_long}
-use Rattle.plan_laws.proofs.ReadBack.{var-rows-back}
+use Rattle.plan_laws.proofs.ReadBack.{Sayable, after_heads, counts, counts_back, head_long, head_rows_back, instr_long, var_long}
+use Rattle.plan_laws.proofs.ReadBack.{var_rows_back}
 use Rattle.plan_laws.proofs.Rows.{rows_long}
 use Rattle.sizes.specs.Sizes.{EVENTS, INSTRUCTIONS, STATES, TRANSITIONS, VARIABLES}
 
@@ -66,9 +66,9 @@ plan_long p =
     ) (omega arith)
 
 module _ (p : Plan) (rest : List ℤ) where
-  counts-pass : Sayable p → 2 ≤ p.states → counts_keep (plan_numbers p ++ rest) ≡ true
+  counts_pass : Sayable p → 2 ≤ p.states → counts_keep (plan_numbers p ++ rest) ≡ true
   unfolding counts_keep plan_numbers six
-  counts-pass h two =
+  counts_pass h two =
       rw (
         le-leb 2 p.states two,
         le-leb p.states STATES h.states,
@@ -114,27 +114,27 @@ module _ (h : Head) where
   ends : List ℤ
   ends = pos h.first ∷ pos h.last ∷ pos h.start ∷ pos h.length ∷ []
 
-  head-end : (i : ℕ) → num (head_numbers h) (suc (suc (suc (suc (suc (suc i)))))) ≡ num ends i
+  head_end : (i : ℕ) → num (head_numbers h) (suc (suc (suc (suc (suc (suc i)))))) ≡ num ends i
   unfolding head_numbers ends
-  head-end i = past_guard h.guard (pos h.transition) (pos h.source) (pos h.trigger) ends i
+  head_end i = past_guard h.guard (pos h.transition) (pos h.source) (pos h.trigger) ends i
 
-  span-passes : (k : Counts) → HeadFits k h → span_fits k (num (head_numbers h) 1) (num (head_numbers h) 6) (num (head_numbers h) 7) ≡ true
+  span_passes : (k : Counts) → HeadFits k h → span_fits k (num (head_numbers h) 1) (num (head_numbers h) 6) (num (head_numbers h) 7) ≡ true
   unfolding span_fits ends head_numbers
-  span-passes k f =
+  span_passes k f =
       rw (
-        head-end 0,
-        head-end 1,
+        head_end 0,
+        head_end 1,
         lt-ltb h.source k.states f.source,
         lt-ltb h.first k.states f.first,
         lt-ltb h.last k.states f.last,
         le-leb h.first h.last f.in_order,
       )
 
-  head-passes : (k : Counts) → HeadFits k h → head_fits k (head_numbers h) ≡ true
+  head_passes : (k : Counts) → HeadFits k h → head_fits k (head_numbers h) ≡ true
   unfolding head_fits head_numbers ends
-  head-passes k f =
+  head_passes k f =
       rw (
-        span-passes k f,
+        span_passes k f,
         guard_passes k h.guard (pos h.transition) (pos h.source) (pos h.trigger) ends f.guard,
         lt-ltb h.transition TRANSITIONS f.transition,
         le-leb 0 h.trigger (omega arith),
@@ -147,29 +147,29 @@ fills_pass : (n at : ℕ) (hs : List Head) → Fills n at hs → blocks_fill n a
 unfolding blocks_fill ends
 fills_pass n at [] to_the_end = eq-eqb n n refl
 fills_pass n at (h ∷ hs) (next_block e fs) =
-    rw (head-end h 2, head-end h 3, eq-eqb h.start at e, le-leb 0 h.length (omega arith)) (fills_pass n (at + h.length) hs fs)
+    rw (head_end h 2, head_end h 3, eq-eqb h.start at e, le-leb 0 h.length (omega arith)) (fills_pass n (at + h.length) hs fs)
 
 lengths_back : (hs : List Head) → map (λ row. ref (num row 9)) (map head_numbers hs) ≡ map (λ h. h.length) hs
 unfolding ends
 lengths_back [] = refl
-lengths_back (h ∷ hs) = rw (head-end h 3, lengths_back hs)
+lengths_back (h ∷ hs) = rw (head_end h 3, lengths_back hs)
 
 -- ---- instructions
 
 instr_passes : (k : Counts) (left : ℕ) (i : Instr) (rest : List ℤ) → InstrFits k left i
     → instr_fits k left (instr_numbers i ++ rest) ≡ true
 unfolding instr_fits shape_fits operand_fits instr_numbers act_numbers slot_number
-instr_passes k left (go-in s) rest h = rw (lt-ltb s k.states h)
-instr_passes k left (go-out s empty) rest h = rw (lt-ltb s k.states h.0)
-instr_passes k left (go-out s (holds p)) rest h = rw (lt-ltb s k.states h.0, lt-ltb p k.states h.1)
-instr_passes k left (skip-out s n) rest h = rw (lt-ltb s k.states h.0, le-leb 0 n (omega arith), le-leb n left h.1)
-instr_passes k left (skip-empty s n) rest h = rw (lt-ltb s k.states h.0, le-leb 0 n (omega arith), le-leb n left h.1)
-instr_passes k left (skip-full s n) rest h = rw (lt-ltb s k.states h.0, le-leb 0 n (omega arith), le-leb n left h.1)
-instr_passes k left (skip-not s d n) rest h =
+instr_passes k left (go_in s) rest h = rw (lt-ltb s k.states h)
+instr_passes k left (go_out s empty) rest h = rw (lt-ltb s k.states h.0)
+instr_passes k left (go_out s (holds p)) rest h = rw (lt-ltb s k.states h.0, lt-ltb p k.states h.1)
+instr_passes k left (skip_out s n) rest h = rw (lt-ltb s k.states h.0, le-leb 0 n (omega arith), le-leb n left h.1)
+instr_passes k left (skip_empty s n) rest h = rw (lt-ltb s k.states h.0, le-leb 0 n (omega arith), le-leb n left h.1)
+instr_passes k left (skip_full s n) rest h = rw (lt-ltb s k.states h.0, le-leb 0 n (omega arith), le-leb n left h.1)
+instr_passes k left (skip_not s d n) rest h =
     rw (lt-ltb s k.states h.0, lt-ltb d k.states h.1, le-leb 0 n (omega arith), le-leb n left h.2)
 instr_passes k left (does (set_to v x)) rest h = rw (lt-ltb v k.vars h.0, h.1)
 instr_passes k left (does (add_to v x)) rest h = rw (lt-ltb v k.vars h.0, h.1)
-instr_passes k left (does (take-to v)) rest h = rw (lt-ltb v k.vars h)
+instr_passes k left (does (take_to v)) rest h = rw (lt-ltb v k.vars h)
 instr_passes k left (does (send e x)) rest h = rw (le-leb 1 e h.0, le-leb e k.events h.1, h.2)
 instr_passes k left (does (tell x)) rest h = rw h
 
@@ -209,22 +209,22 @@ well_formed_by ns k e a b r =
     if_passed (counts_keep ns && is_whole ns (counts_of ns)) (rows_well_formed ns (counts_of ns)) (rw (e, a, b)) ∙ rw e r
 
 module _ (p : Plan) (rest : List ℤ) (f : Fits p) where
-  blocks-pass : all_blocks_fill (plan_numbers p ++ rest) (counts p) ≡ true
+  blocks_pass : all_blocks_fill (plan_numbers p ++ rest) (counts p) ≡ true
   unfolding all_blocks_fill plan_numbers six counts
-  blocks-pass =
-      rw (head-rows-back p rest, le-leb 0 p.start_length (omega arith))
+  blocks_pass =
+      rw (head_rows_back p rest, le-leb 0 p.start_length (omega arith))
       (fills_pass (length p.code) p.start_length p.heads f.fills)
 
-  lefts-back : left_in_blocks (plan_numbers p ++ rest) (counts p) ≡ concat_map left_after_each (map length f.blocks)
+  lefts_back : left_in_blocks (plan_numbers p ++ rest) (counts p) ≡ concat_map left_after_each (map length f.blocks)
   unfolding left_in_blocks counts
-  lefts-back =
-      ap (λ l. concat_map left_after_each (p.start_length ∷ l)) (rw (head-rows-back p rest) (lengths_back p.heads))
+  lefts_back =
+      ap (λ l. concat_map left_after_each (p.start_length ∷ l)) (rw (head_rows_back p rest) (lengths_back p.heads))
       ∙ ap (concat_map left_after_each) f.lengths
 
-  code-passes :
+  code_passes :
       code_fits (counts p) (left_in_blocks (plan_numbers p ++ rest) (counts p)) (drop (code_at (counts p)) (plan_numbers p ++ rest)) ≡ true
-  code-passes =
-      rw (lefts-back, after-heads p rest)
+  code_passes =
+      rw (lefts_back, after_heads p rest)
       (ap (λ l. code_fits (counts p) (concat_map left_after_each (map length f.blocks)) (concat_map instr_numbers l ++ rest)) f.code
       ∙ pieces_pass (counts p) f.blocks rest f.pieces)
 
@@ -236,18 +236,18 @@ module _ (p : Plan) (rest : List ℤ) (f : Fits p) where
       && (every (head_fits (counts p)) (head_rows ns (counts p)) && all_blocks_fill ns (counts p)))
       (code_fits (counts p) (left_in_blocks ns (counts p)) (drop (code_at (counts p)) ns))
       (rw (
-        var-rows-back p rest,
-        head-rows-back p rest,
+        var_rows_back p rest,
+        head_rows_back p rest,
         each_row var_keeps var_numbers VarFits var_passes p.vars f.vars,
-        each_row (head_fits (counts p)) head_numbers (HeadFits (counts p)) (λ h. head-passes h (counts p)) p.heads f.heads,
-        blocks-pass,
+        each_row (head_fits (counts p)) head_numbers (HeadFits (counts p)) (λ h. head_passes h (counts p)) p.heads f.heads,
+        blocks_pass,
       ))
-      ∙ code-passes
+      ∙ code_passes
     where
       ns : List ℤ
       ns = plan_numbers p ++ rest
 
   -- a plan that fits is well formed
-  pub fits-well-formed : Sayable p → well_formed (plan_numbers p ++ rest) ≡ true
-  fits-well-formed h =
-      well_formed_by (plan_numbers p ++ rest) (counts p) (counts-back p rest h) (counts-pass p rest h f.two) (whole p rest) rows_pass
+  pub fits_well_formed : Sayable p → well_formed (plan_numbers p ++ rest) ≡ true
+  fits_well_formed h =
+      well_formed_by (plan_numbers p ++ rest) (counts p) (counts_back p rest h) (counts_pass p rest h f.two) (whole p rest) rows_pass

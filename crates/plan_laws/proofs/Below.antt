@@ -4,8 +4,8 @@ use Prim.Native.Nat.{◌<◌, ◌≤◌, suc, zero, ℕ}
 use native.Mathlib.Omega.{arith}
 use lib.ListN.{length}
 use Rattle.laws.specs.Facts.{Each, Sound, none_left, one_more}
-use Rattle.laws.proofs.Lists.{each_both, each-kept, each-mapped, each_range, each-weaker}
-use Rattle.laws.proofs.Reach.{pass-states, reach}
+use Rattle.laws.proofs.Lists.{each_both, each_kept, each_mapped, each_range, each_weaker}
+use Rattle.laws.proofs.Reach.{pass_states, reach}
 use Rattle.laws.proofs.Sound.{SoundChart}
 use Rattle.laws.proofs.Ways.{descendants_range}
 use Rattle.meaning.specs.Chart.{Chart}
@@ -17,21 +17,21 @@ each_from : (a n : ℕ) → Each (λ x. a ≤ x) (from a n)
 unfolding from
 each_from a zero = none_left
 each_from a (suc n) = one_more {x = a} (omega arith)
-    (each-weaker (λ x. suc a ≤ x) (λ x. a ≤ x) (from (suc a) n) (λ x l. omega arith) (each_from (suc a) n))
+    (each_weaker (λ x. suc a ≤ x) (λ x. a ≤ x) (from (suc a) n) (λ x l. omega arith) (each_from (suc a) n))
 
 module _ (c : Chart) (h : SoundChart c) (b : ℕ) (l : b < length c.states) where
-  pub descendants-each : Each (λ d. (b < d) × (d < length c.states)) (descendants c b)
+  pub descendants_each : Each (λ d. (b < d) × (d < length c.states)) (descendants c b)
   unfolding descendants all_states
-  descendants-each = each_both (λ d. b < d) (λ d. d < length c.states) (descendants c b)
+  descendants_each = each_both (λ d. b < d) (λ d. d < length c.states) (descendants c b)
       (subst (Each (λ d. b < d)) (sym (descendants_range c h b l)) (each_from (suc b) (length (descendants c b))))
-      (each-kept (λ d. d < length c.states) (λ d. has b (ancestors c d)) (from 0 (length c.states))
+      (each_kept (λ d. d < length c.states) (λ d. has b (ancestors c d)) (from 0 (length c.states))
       (each_range 0 (length c.states) (length c.states) (omega arith)))
 
-  pub states-each : Each (λ d. d < length c.states) (descendants c b)
-  states-each =
-      each-weaker (λ d. (b < d) × (d < length c.states)) (λ d. d < length c.states) (descendants c b) (λ d q. q.1) descendants-each
+  pub states_each : Each (λ d. d < length c.states) (descendants c b)
+  states_each =
+      each_weaker (λ d. (b < d) × (d < length c.states)) (λ d. d < length c.states) (descendants c b) (λ d q. q.1) descendants_each
 
-  pub visits-each : (way : ℕ → Way) → Sound c way → Each (λ v. state_of v < length c.states) (all_below c way b)
-  visits-each way g = each-mapped (λ d. d < length c.states) state_of (all_below c way b)
-      (subst (Each (λ d. d < length c.states)) (sym (pass-states c way g b l))
-      (each-kept (λ d. d < length c.states) (λ x. reach c way b x x) (descendants c b) states-each))
+  pub visits_each : (way : ℕ → Way) → Sound c way → Each (λ v. state_of v < length c.states) (all_below c way b)
+  visits_each way g = each_mapped (λ d. d < length c.states) state_of (all_below c way b)
+      (subst (Each (λ d. d < length c.states)) (sym (pass_states c way g b l))
+      (each_kept (λ d. d < length c.states) (λ x. reach c way b x x) (descendants c b) states_each))

@@ -12,15 +12,15 @@ use Rattle.meaning.specs.Lists.{concat_map}
 use Rattle.meaning.specs.Plan.{Plan}
 use Rattle.meaning.specs.Rules.{row_fits}
 use Rattle.meaning.specs.declared.chart.Act.{Act}
-use Rattle.meaning.specs.declared.chart.Act.TheVariants.{AddTo as add_to, Send as send, SetTo as set_to, TakeTo as take-to, Tell as tell}
+use Rattle.meaning.specs.declared.chart.Act.TheVariants.{AddTo as add_to, Send as send, SetTo as set_to, TakeTo as take_to, Tell as tell}
 use Rattle.meaning.specs.declared.chart.Guard.{Guard}
 use Rattle.meaning.specs.declared.chart.Guard.TheVariants.{Always as always, Compares as compares}
 use Rattle.meaning.specs.declared.chart.VarRow.{VarRow}
 use Rattle.meaning.specs.declared.plan.Counts.{Counts}
 use Rattle.meaning.specs.declared.plan.Head.{Head}
 use Rattle.meaning.specs.declared.plan.Instr.{Instr}
-use Rattle.meaning.specs.declared.plan.Instr.TheVariants.{Does as does, In as go-in, Out as go-out, SkipEmpty as skip-empty}
-use Rattle.meaning.specs.declared.plan.Instr.TheVariants.{SkipFull as skip-full, SkipNot as skip-not, SkipOut as skip-out}
+use Rattle.meaning.specs.declared.plan.Instr.TheVariants.{Does as does, In as go_in, Out as go_out, SkipEmpty as skip_empty}
+use Rattle.meaning.specs.declared.plan.Instr.TheVariants.{SkipFull as skip_full, SkipNot as skip_not, SkipOut as skip_out}
 use Rattle.numbers.specs.Range.{in_range}
 use Rattle.numbers.specs.declared.Place.{Place as Slot}
 use Rattle.numbers.specs.declared.Place.TheVariants.{At as holds, Empty as empty}
@@ -38,18 +38,18 @@ SlotFits k (holds p) = p < k.states
 abbrev pub ActFits : Counts → Act → Type 0
 ActFits k (set_to v x) = (v < k.vars) × (in_range x ≡ true)
 ActFits k (add_to v x) = (v < k.vars) × (in_range x ≡ true)
-ActFits k (take-to v) = v < k.vars
+ActFits k (take_to v) = v < k.vars
 ActFits k (send e x) = (1 ≤ e) × (e ≤ k.events) × (in_range x ≡ true)
 ActFits k (tell x) = in_range x ≡ true
 
 -- an instruction that so many of its block follow: "states .. named exist", "a skip .. stays within its block"
 abbrev pub InstrFits : Counts → ℕ → Instr → Type 0
-InstrFits k left (go-in s) = s < k.states
-InstrFits k left (go-out s p) = (s < k.states) × SlotFits k p
-InstrFits k left (skip-out s n) = (s < k.states) × (n ≤ left)
-InstrFits k left (skip-empty s n) = (s < k.states) × (n ≤ left)
-InstrFits k left (skip-full s n) = (s < k.states) × (n ≤ left)
-InstrFits k left (skip-not s d n) = (s < k.states) × (d < k.states) × (n ≤ left)
+InstrFits k left (go_in s) = s < k.states
+InstrFits k left (go_out s p) = (s < k.states) × SlotFits k p
+InstrFits k left (skip_out s n) = (s < k.states) × (n ≤ left)
+InstrFits k left (skip_empty s n) = (s < k.states) × (n ≤ left)
+InstrFits k left (skip_full s n) = (s < k.states) × (n ≤ left)
+InstrFits k left (skip_not s d n) = (s < k.states) × (d < k.states) × (n ≤ left)
 InstrFits k left (does x) = ActFits k x
 
 -- a block, or a piece of one whose skips stay within the piece
@@ -59,26 +59,26 @@ pub data Piece (k : Counts) : List Instr → Type 0 where
 
 -- a skip over no more than what follows it in its piece
 module _ (k : Counts) (s n : ℕ) (is : List Instr) (l : s < k.states) (m : n ≤ length is) (p : Piece k is) where
-  pub skip-out-piece : Piece k (skip-out s n ∷ is)
-  skip-out-piece = one_instr {i = skip-out s n} (l, m) p
+  pub skip_out_piece : Piece k (skip_out s n ∷ is)
+  skip_out_piece = one_instr {i = skip_out s n} (l, m) p
 
-  pub skip-empty-piece : Piece k (skip-empty s n ∷ is)
-  skip-empty-piece = one_instr {i = skip-empty s n} (l, m) p
+  pub skip_empty_piece : Piece k (skip_empty s n ∷ is)
+  skip_empty_piece = one_instr {i = skip_empty s n} (l, m) p
 
-  pub skip-full-piece : Piece k (skip-full s n ∷ is)
-  skip-full-piece = one_instr {i = skip-full s n} (l, m) p
+  pub skip_full_piece : Piece k (skip_full s n ∷ is)
+  skip_full_piece = one_instr {i = skip_full s n} (l, m) p
 
-  pub skip-not-piece : (d : ℕ) → d < k.states → Piece k (skip-not s d n ∷ is)
-  skip-not-piece d j = one_instr {i = skip-not s d n} (l, j, m) p
+  pub skip_not_piece : (d : ℕ) → d < k.states → Piece k (skip_not s d n ∷ is)
+  skip_not_piece d j = one_instr {i = skip_not s d n} (l, j, m) p
 
 -- what stays within a piece stays within a longer one
 instr_wider : (k : Counts) (m n : ℕ) → m ≤ n → (i : Instr) → InstrFits k m i → InstrFits k n i
-instr_wider k m n l (go-in s) h = h
-instr_wider k m n l (go-out s p) h = h
-instr_wider k m n l (skip-out s j) h = (h.0, omega (arith, h.1))
-instr_wider k m n l (skip-empty s j) h = (h.0, omega (arith, h.1))
-instr_wider k m n l (skip-full s j) h = (h.0, omega (arith, h.1))
-instr_wider k m n l (skip-not s d j) h = (h.0, h.1, omega (arith, h.2))
+instr_wider k m n l (go_in s) h = h
+instr_wider k m n l (go_out s p) h = h
+instr_wider k m n l (skip_out s j) h = (h.0, omega (arith, h.1))
+instr_wider k m n l (skip_empty s j) h = (h.0, omega (arith, h.1))
+instr_wider k m n l (skip_full s j) h = (h.0, omega (arith, h.1))
+instr_wider k m n l (skip_not s d j) h = (h.0, h.1, omega (arith, h.2))
 instr_wider k m n l (does x) h = h
 
 -- pieces join

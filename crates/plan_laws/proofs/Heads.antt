@@ -59,15 +59,15 @@ module _ (c : Chart) where
       let next : ℕ = at + length (block c t) in
       next_block refl (subst (λ n. Fills n next (heads_from c next ts)) e (heads_fill next ts))
 
-  pub heads-lengths : (at : ℕ) (ts : List ℕ) → map (λ h. h.length) (heads_from c at ts) ≡ map length (map (block c) ts)
+  pub heads_lengths : (at : ℕ) (ts : List ℕ) → map (λ h. h.length) (heads_from c at ts) ≡ map length (map (block c) ts)
   unfolding heads_from head_of
-  heads-lengths at [] = refl
-  heads-lengths at (t ∷ ts) = ap (λ l. length (block c t) ∷ l) (heads-lengths (at + length (block c t)) ts)
+  heads_lengths at [] = refl
+  heads_lengths at (t ∷ ts) = ap (λ l. length (block c t) ∷ l) (heads_lengths (at + length (block c t)) ts)
 
-  pub heads-many : (at : ℕ) (ts : List ℕ) → length (heads_from c at ts) ≡ length ts
+  pub heads_many : (at : ℕ) (ts : List ℕ) → length (heads_from c at ts) ≡ length ts
   unfolding heads_from
-  heads-many at [] = refl
-  heads-many at (t ∷ ts) = ap suc (heads-many (at + length (block c t)) ts)
+  heads_many at [] = refl
+  heads_many at (t ∷ ts) = ap suc (heads_many (at + length (block c t)) ts)
 
   pub blocks_joined : (ts : List ℕ) → concat_map (block c) ts ≡ concat_map (λ b. b) (map (block c) ts)
   unfolding concat_map

@@ -14,9 +14,9 @@ use Rattle.meaning.specs.Lists.{from}
 use Rattle.meaning.specs.Tree.{all_states, all_transitions}
 use Rattle.meaning.specs.declared.chart.ActRow.{ActRow}
 use Rattle.meaning.specs.declared.chart.Owner.{Owner}
-use Rattle.meaning.specs.declared.chart.Owner.TheVariants.{DefaultOf as default-of, EntryOf as entry_of, ExitOf as exit-of}
-use Rattle.meaning.specs.declared.chart.Owner.TheVariants.{TransitionOf as transition-of}
-use Rattle.plan_laws.proofs.Totals.{total, total-most, total_when, total-same, total-sum}
+use Rattle.meaning.specs.declared.chart.Owner.TheVariants.{DefaultOf as default_of, EntryOf as entry_of, ExitOf as exit_of}
+use Rattle.meaning.specs.declared.chart.Owner.TheVariants.{TransitionOf as transition_of}
+use Rattle.plan_laws.proofs.Totals.{total, total_most, total_when, total_same, total_sum}
 
 -- how many actions an owner has
 unfoldable pub acts_many : Chart → Owner → ℕ
@@ -50,9 +50,9 @@ one_row : (r : ActRow) (rs : List ActRow) (kind : ℕ → Owner) (ns : List ℕ)
 unfolding of_kind hits acts_in
 one_row r rs kind ns = omega (
   arith,
-  total-most (λ n. length (acts_in (r ∷ rs) (kind n))) (λ n. bit (same_owner (kind n) r.owner) + length (acts_in rs (kind n)))
+  total_most (λ n. length (acts_in (r ∷ rs) (kind n))) (λ n. bit (same_owner (kind n) r.owner) + length (acts_in rs (kind n)))
       (λ n. bit_long (same_owner (kind n) r.owner) r.act (acts_in rs (kind n))) ns,
-  total-sum (λ n. bit (same_owner (kind n) r.owner)) (λ n. length (acts_in rs (kind n))) ns,
+  total_sum (λ n. bit (same_owner (kind n) r.owner)) (λ n. length (acts_in rs (kind n))) ns,
 )
 
 -- a number is its own once
@@ -62,33 +62,33 @@ hit_once m a n = total_when (λ x. eqb x m) m 1 a n (λ x e. ne_eqb x m e)
 
 no_hit : (ns : List ℕ) → total (λ n. bit false) ns ≡ 0
 unfolding bit
-no_hit ns = omega (arith, total-same 0 ns)
+no_hit ns = omega (arith, total_same 0 ns)
 
 module _ (n m : ℕ) where
-  one-owner : (o : Owner)
-      → hits o entry_of (from 0 n) + hits o exit-of (from 0 n) + hits o default-of (from 0 n) + hits o transition-of (from 0 m) ≤ 1
+  one_owner : (o : Owner)
+      → hits o entry_of (from 0 n) + hits o exit_of (from 0 n) + hits o default_of (from 0 n) + hits o transition_of (from 0 m) ≤ 1
   unfolding hits same_owner
-  one-owner (entry_of s) = omega (arith, hit_once s 0 n, no_hit (from 0 n), no_hit (from 0 m))
-  one-owner (exit-of s) = omega (arith, hit_once s 0 n, no_hit (from 0 n), no_hit (from 0 m))
-  one-owner (default-of s) = omega (arith, hit_once s 0 n, no_hit (from 0 n), no_hit (from 0 m))
-  one-owner (transition-of t) = omega (arith, hit_once t 0 m, no_hit (from 0 n))
+  one_owner (entry_of s) = omega (arith, hit_once s 0 n, no_hit (from 0 n), no_hit (from 0 m))
+  one_owner (exit_of s) = omega (arith, hit_once s 0 n, no_hit (from 0 n), no_hit (from 0 m))
+  one_owner (default_of s) = omega (arith, hit_once s 0 n, no_hit (from 0 n), no_hit (from 0 m))
+  one_owner (transition_of t) = omega (arith, hit_once t 0 m, no_hit (from 0 n))
 
   all_kinds : List ActRow → ℕ
   all_kinds rs =
-      of_kind rs entry_of (from 0 n) + of_kind rs exit-of (from 0 n) + of_kind rs default-of (from 0 n)
-      + of_kind rs transition-of (from 0 m)
+      of_kind rs entry_of (from 0 n) + of_kind rs exit_of (from 0 n) + of_kind rs default_of (from 0 n)
+      + of_kind rs transition_of (from 0 m)
 
-  rows-owned : (rs : List ActRow) → all_kinds rs ≤ length rs
+  rows_owned : (rs : List ActRow) → all_kinds rs ≤ length rs
   unfolding all_kinds of_kind acts_in
-  rows-owned [] = omega (arith, total-same {A = ℕ} 0 (from 0 n), total-same {A = ℕ} 0 (from 0 m))
-  rows-owned (r ∷ rs) = omega (
+  rows_owned [] = omega (arith, total_same {A = ℕ} 0 (from 0 n), total_same {A = ℕ} 0 (from 0 m))
+  rows_owned (r ∷ rs) = omega (
     arith,
-    rows-owned rs,
-    one-owner r.owner,
+    rows_owned rs,
+    one_owner r.owner,
     one_row r rs entry_of (from 0 n),
-    one_row r rs exit-of (from 0 n),
-    one_row r rs default-of (from 0 n),
-    one_row r rs transition-of (from 0 m),
+    one_row r rs exit_of (from 0 n),
+    one_row r rs default_of (from 0 n),
+    one_row r rs transition_of (from 0 m),
   )
 
 -- how many entry actions, exit actions and default actions a chart has
@@ -96,13 +96,13 @@ abbrev pub entries : Chart → ℕ
 entries c = owned c entry_of (all_states c)
 
 abbrev pub exits : Chart → ℕ
-exits c = owned c exit-of (all_states c)
+exits c = owned c exit_of (all_states c)
 
 abbrev pub defaults : Chart → ℕ
-defaults c = owned c default-of (all_states c)
+defaults c = owned c default_of (all_states c)
 
 -- the actions of all owners are no more than the chart's
 pub all_owned : (c : Chart)
-    → entries c + exits c + defaults c + owned c transition-of (all_transitions c) ≤ length c.actions
+    → entries c + exits c + defaults c + owned c transition_of (all_transitions c) ≤ length c.actions
 unfolding acts_many acts_of all_states all_transitions all_kinds of_kind
-all_owned c = rows-owned (length c.states) (length c.transitions) c.actions
+all_owned c = rows_owned (length c.states) (length c.transitions) c.actions

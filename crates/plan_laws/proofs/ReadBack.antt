@@ -13,7 +13,7 @@ use Rattle.meaning.specs.Plan.{var_numbers}
 use Rattle.meaning.specs.Value.{VAR_ROW, size_by, var_by}
 use Rattle.meaning.specs.WellFormed.{HEAD_ROW, INSTR_ROW, SIX, code_at, code_rows, counts_of, head_by, head_guard_by, head_rows, heads_at}
 use Rattle.meaning.specs.WellFormed.{instr_act_by, instr_by, instr_of, plan_by, var_rows}
-use Rattle.meaning.specs.declared.chart.Act.TheVariants.{AddTo as add_to, Send as send, SetTo as set_to, TakeTo as take-to, Tell as tell}
+use Rattle.meaning.specs.declared.chart.Act.TheVariants.{AddTo as add_to, Send as send, SetTo as set_to, TakeTo as take_to, Tell as tell}
 use Rattle.meaning.specs.declared.chart.Guard.{Guard}
 use Rattle.meaning.specs.declared.chart.Guard.TheVariants.{Always as always, Compares as compares}
 use Rattle.meaning.specs.declared.chart.Sign.TheVariants.{Equal as equal, Less as less, More as more}
@@ -21,12 +21,12 @@ use Rattle.meaning.specs.declared.chart.VarRow.{VarRow}
 use Rattle.meaning.specs.declared.plan.Counts.{Counts}
 use Rattle.meaning.specs.declared.plan.Head.{Head}
 use Rattle.meaning.specs.declared.plan.Instr.{Instr}
-use Rattle.meaning.specs.declared.plan.Instr.TheVariants.{Does as does, In as go-in, Out as go-out, SkipEmpty as skip-empty}
-use Rattle.meaning.specs.declared.plan.Instr.TheVariants.{SkipFull as skip-full, SkipNot as skip-not, SkipOut as skip-out}
-use Rattle.numbers.specs.Place.{place_of as as-slot}
+use Rattle.meaning.specs.declared.plan.Instr.TheVariants.{Does as does, In as go_in, Out as go_out, SkipEmpty as skip_empty}
+use Rattle.meaning.specs.declared.plan.Instr.TheVariants.{SkipFull as skip_full, SkipNot as skip_not, SkipOut as skip_out}
+use Rattle.numbers.specs.Place.{place_of as as_slot}
 use Rattle.numbers.specs.declared.Place.{Place as Slot}
 use Rattle.numbers.specs.declared.Place.TheVariants.{At as holds, Empty as empty}
-use Rattle.plan_laws.proofs.Rows.{map_back, rows_back, rows-past}
+use Rattle.plan_laws.proofs.Rows.{map_back, rows_back, rows_past}
 use Rattle.sizes.specs.Sizes.{EVENTS, INSTRUCTIONS, STATES, TRANSITIONS, VARIABLES}
 
 -- ---- rows
@@ -61,36 +61,36 @@ pub head_long : (h : Head) → length (head_numbers h) ≡ HEAD_ROW
 unfolding head_numbers
 head_long h = ap (λ n. suc (suc (suc n))) (guard_long h.guard (pos h.first ∷ pos h.last ∷ pos h.start ∷ pos h.length ∷ []))
 
-slot_back : (p : Slot) → as-slot (slot_number p) ≡ p
+slot_back : (p : Slot) → as_slot (slot_number p) ≡ p
 unfolding slot_number
 slot_back empty = refl
 slot_back (holds d) = refl
 
 pub instr_back : (i : Instr) → instr_by (instr_numbers i) ≡ i
 unfolding instr_by instr_of instr_act_by instr_numbers act_numbers
-instr_back (go-in s) = refl
-instr_back (go-out s p) = ap (go-out s) (slot_back p)
-instr_back (skip-out s n) = refl
-instr_back (skip-empty s n) = refl
-instr_back (skip-full s n) = refl
-instr_back (skip-not s d n) = refl
+instr_back (go_in s) = refl
+instr_back (go_out s p) = ap (go_out s) (slot_back p)
+instr_back (skip_out s n) = refl
+instr_back (skip_empty s n) = refl
+instr_back (skip_full s n) = refl
+instr_back (skip_not s d n) = refl
 instr_back (does (set_to v x)) = refl
 instr_back (does (add_to v x)) = refl
-instr_back (does (take-to v)) = refl
+instr_back (does (take_to v)) = refl
 instr_back (does (send e x)) = refl
 instr_back (does (tell x)) = refl
 
 pub instr_long : (i : Instr) → length (instr_numbers i) ≡ INSTR_ROW
 unfolding instr_numbers act_numbers
-instr_long (go-in s) = refl
-instr_long (go-out s p) = refl
-instr_long (skip-out s n) = refl
-instr_long (skip-empty s n) = refl
-instr_long (skip-full s n) = refl
-instr_long (skip-not s d n) = refl
+instr_long (go_in s) = refl
+instr_long (go_out s p) = refl
+instr_long (skip_out s n) = refl
+instr_long (skip_empty s n) = refl
+instr_long (skip_full s n) = refl
+instr_long (skip_not s d n) = refl
 instr_long (does (set_to v x)) = refl
 instr_long (does (add_to v x)) = refl
-instr_long (does (take-to v)) = refl
+instr_long (does (take_to v)) = refl
 instr_long (does (send e x)) = refl
 instr_long (does (tell x)) = refl
 
@@ -124,42 +124,42 @@ module _ (p : Plan) (rest : List ℤ) where
   tail : List ℤ
   tail = concat_map var_numbers p.vars ++ (concat_map head_numbers p.heads ++ (concat_map instr_numbers p.code ++ rest))
 
-  tail-is : (v h i : List ℤ) → (v ++ (h ++ i)) ++ rest ≡ v ++ (h ++ (i ++ rest))
-  tail-is v h i = append_assoc v (h ++ i) rest ∙ ap (λ l. v ++ l) (append_assoc h i rest)
+  tail_is : (v h i : List ℤ) → (v ++ (h ++ i)) ++ rest ≡ v ++ (h ++ (i ++ rest))
+  tail_is v h i = append_assoc v (h ++ i) rest ∙ ap (λ l. v ++ l) (append_assoc h i rest)
 
-  after-six : drop SIX (plan_numbers p ++ rest) ≡ tail
+  after_six : drop SIX (plan_numbers p ++ rest) ≡ tail
   unfolding plan_numbers six tail
-  after-six = tail-is (concat_map var_numbers p.vars) (concat_map head_numbers p.heads) (concat_map instr_numbers p.code)
+  after_six = tail_is (concat_map var_numbers p.vars) (concat_map head_numbers p.heads) (concat_map instr_numbers p.code)
 
-  after-vars :
+  after_vars :
       drop (heads_at (counts p)) (plan_numbers p ++ rest)
       ≡ concat_map head_numbers p.heads ++ (concat_map instr_numbers p.code ++ rest)
   unfolding heads_at counts tail
-  after-vars =
-      sym (drop-drop (length p.vars * VAR_ROW) SIX (plan_numbers p ++ rest)) ∙ ap (drop (length p.vars * VAR_ROW)) after-six
-      ∙ rows-past var_numbers VAR_ROW var_long p.vars _
+  after_vars =
+      sym (drop-drop (length p.vars * VAR_ROW) SIX (plan_numbers p ++ rest)) ∙ ap (drop (length p.vars * VAR_ROW)) after_six
+      ∙ rows_past var_numbers VAR_ROW var_long p.vars _
 
-  pub after-heads : drop (code_at (counts p)) (plan_numbers p ++ rest) ≡ concat_map instr_numbers p.code ++ rest
+  pub after_heads : drop (code_at (counts p)) (plan_numbers p ++ rest) ≡ concat_map instr_numbers p.code ++ rest
   unfolding code_at counts
-  after-heads =
+  after_heads =
       sym (drop-drop (length p.heads * HEAD_ROW) (heads_at (counts p)) (plan_numbers p ++ rest))
-      ∙ ap (drop (length p.heads * HEAD_ROW)) after-vars ∙ rows-past head_numbers HEAD_ROW head_long p.heads _
+      ∙ ap (drop (length p.heads * HEAD_ROW)) after_vars ∙ rows_past head_numbers HEAD_ROW head_long p.heads _
 
-  pub var-rows-back : var_rows (plan_numbers p ++ rest) (counts p) ≡ map var_numbers p.vars
+  pub var_rows_back : var_rows (plan_numbers p ++ rest) (counts p) ≡ map var_numbers p.vars
   unfolding var_rows counts tail
-  var-rows-back = rw after-six (rows_back var_numbers VAR_ROW var_long p.vars _)
+  var_rows_back = rw after_six (rows_back var_numbers VAR_ROW var_long p.vars _)
 
-  pub head-rows-back : head_rows (plan_numbers p ++ rest) (counts p) ≡ map head_numbers p.heads
+  pub head_rows_back : head_rows (plan_numbers p ++ rest) (counts p) ≡ map head_numbers p.heads
   unfolding head_rows counts
-  head-rows-back = rw after-vars (rows_back head_numbers HEAD_ROW head_long p.heads _)
+  head_rows_back = rw after_vars (rows_back head_numbers HEAD_ROW head_long p.heads _)
 
-  pub code-rows-back : code_rows (plan_numbers p ++ rest) (counts p) ≡ map instr_numbers p.code
+  pub code_rows_back : code_rows (plan_numbers p ++ rest) (counts p) ≡ map instr_numbers p.code
   unfolding code_rows counts
-  code-rows-back = rw after-heads (rows_back instr_numbers INSTR_ROW instr_long p.code rest)
+  code_rows_back = rw after_heads (rows_back instr_numbers INSTR_ROW instr_long p.code rest)
 
-  pub counts-back : Sayable p → counts_of (plan_numbers p ++ rest) ≡ counts p
+  pub counts_back : Sayable p → counts_of (plan_numbers p ++ rest) ≡ counts p
   unfolding counts_of counts plan_numbers six
-  counts-back h =
+  counts_back h =
       rw (
         size_back STATES p.states h.states,
         size_back VARIABLES (length p.vars) h.vars,
@@ -174,10 +174,10 @@ module _ (p : Plan) (rest : List ℤ) where
   unfolding plan_by counts
   read_back h =
       rw (
-        counts-back h,
-        var-rows-back,
-        head-rows-back,
-        code-rows-back,
+        counts_back h,
+        var_rows_back,
+        head_rows_back,
+        code_rows_back,
         map_back var_numbers var_by var_back p.vars,
         map_back head_numbers head_by head_back p.heads,
         map_back instr_numbers instr_by instr_back p.code,

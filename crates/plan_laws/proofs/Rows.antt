@@ -25,8 +25,8 @@ module _ {A B : Type 0} (f : A → List B) (k : ℕ) (h : (x : A) → length (f 
       (ap (λ l. f x ∷ l) (rows_back xs rest))
 
   -- and what follows comes after them
-  pub rows-past : (xs : List A) (rest : List B) → drop (length xs * k) (concat_map f xs ++ rest) ≡ rest
-  rows-past xs rest = drop_at (concat_map f xs) rest (length xs * k) (rows_long xs)
+  pub rows_past : (xs : List A) (rest : List B) → drop (length xs * k) (concat_map f xs ++ rest) ≡ rest
+  rows_past xs rest = drop_at (concat_map f xs) rest (length xs * k) (rows_long xs)
 
 -- a row that states x reads as x
 pub map_back : {A B : Type 0} (f : A → B) (g : B → A) → ((x : A) → g (f x) ≡ x) → (xs : List A) → map g (map f xs) ≡ xs

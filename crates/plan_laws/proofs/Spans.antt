@@ -6,7 +6,7 @@ use native.Mathlib.Omega.{arith}
 use mathlib.Core.Bool.{false, false≢true}
 use mathlib.Core.List.{List, [], ◌∷◌}
 use lib.ListN.{length}
-use Rattle.laws.proofs.Lists.{every-kept}
+use Rattle.laws.proofs.Lists.{every_kept}
 use Rattle.laws.specs.Facts.{Each, TargetFacts, Under, one_more}
 use Rattle.laws.proofs.Scope.{scope_facts}
 use Rattle.laws.proofs.Sound.{SoundChart}
@@ -18,7 +18,7 @@ use Rattle.meaning.specs.Lists.{every, from, has}
 use Rattle.meaning.specs.Tree.{all_states, ancestors, descendants, scope, span, span_of, trans_row}
 use Rattle.meaning.specs.declared.chart.Target.{Target}
 use Rattle.meaning.specs.declared.chart.Target.TheVariants.{History as history, InPlace as in_place, To as to}
-use Rattle.plan_laws.proofs.Below.{states-each}
+use Rattle.plan_laws.proofs.Below.{states_each}
 
 -- ---- ranges
 
@@ -50,59 +50,59 @@ pub record SpanFits (m : ℕ) (xs : List ℕ) : Type 0 where
 range_fits : (m a n : ℕ) → Each (λ x. x < m) (from a (suc n)) → SpanFits m (from a (suc n))
 unfolding from first_of
 range_fits m a n f = record {
-  first = first-each f;
+  first = first_each f;
   last = last_each (λ x. x < m) a (from (suc a) n) f;
   in_order = omega
       (arith, last_of_range a n);
 }
   where
-    first-each : Each (λ x. x < m) (a ∷ from (suc a) n) → a < m
-    first-each (one_more p ps) = p
+    first_each : Each (λ x. x < m) (a ∷ from (suc a) n) → a < m
+    first_each (one_more p ps) = p
 
 module _ (c : Chart) (h : SoundChart c) where
   -- ---- the span as a range
 
   -- a state that has a proper descendant
-  below-range : (s d : ℕ) → s < length c.states → d < length c.states → Under c s d → Range (descendants c s)
+  below_range : (s d : ℕ) → s < length c.states → d < length c.states → Under c s d → Range (descendants c s)
   unfolding descendants all_states every from
-  below-range s d l m u = go (length (descendants c s)) (descendants_range c h s l)
+  below_range s d l m u = go (length (descendants c s)) (descendants_range c h s l)
     where
-      empty-not : descendants c s ≡ [] → ⊥
-      empty-not e = false≢true (every-kept (λ x. false) (λ x. has s (ancestors c x)) 0 (length c.states) (ap (every (λ x. false)) e) d
+      empty_not : descendants c s ≡ [] → ⊥
+      empty_not e = false≢true (every_kept (λ x. false) (λ x. has s (ancestors c x)) 0 (length c.states) (ap (every (λ x. false)) e) d
           (omega arith) (omega arith) (under_has c h.ordered s d u))
 
       go : (k : ℕ) → descendants c s ≡ from (suc s) k → Range (descendants c s)
-      go zero e = absurd (empty-not e)
+      go zero e = absurd (empty_not e)
       go (suc k) e = record { first = suc s; more = k; is = e }
 
   -- the scope is a proper ancestor of the source
-  span-of-range : (s : ℕ) (x : Target) → s < length c.states → TargetFacts c s x → Range (span_of c s x)
+  span_of_range : (s : ℕ) (x : Target) → s < length c.states → TargetFacts c s x → Range (span_of c s x)
   unfolding span_of from
-  span-of-range s (to d) l f =
-      let g = scope_facts c h s d f.2 f.1 in below-range (scope c s d) s g.inside l g.above_source
-  span-of-range s (history b) l f =
-      let g = scope_facts c h s b f.3 f.1 in below-range (scope c s b) s g.inside l g.above_source
-  span-of-range s in_place l f =
+  span_of_range s (to d) l f =
+      let g = scope_facts c h s d f.2 f.1 in below_range (scope c s d) s g.inside l g.above_source
+  span_of_range s (history b) l f =
+      let g = scope_facts c h s b f.3 f.1 in below_range (scope c s b) s g.inside l g.above_source
+  span_of_range s in_place l f =
       record { first = s; more = length (descendants c s); is = ap (λ r. s ∷ r) (descendants_range c h s l) }
 
-  pub span-range : (t : ℕ) → t < length c.transitions → Range (span c t)
+  pub span_range : (t : ℕ) → t < length c.transitions → Range (span c t)
   unfolding span
-  span-range t l =
-      let f = h.transitions t l in span-of-range (trans_row c t).source (trans_row c t).target f.source f.target
+  span_range t l =
+      let f = h.transitions t l in span_of_range (trans_row c t).source (trans_row c t).target f.source f.target
 
   -- ---- its ends
 
-  span-of-each : (s : ℕ) (x : Target) → s < length c.states → TargetFacts c s x → Each (λ y. y < length c.states) (span_of c s x)
+  span_of_each : (s : ℕ) (x : Target) → s < length c.states → TargetFacts c s x → Each (λ y. y < length c.states) (span_of c s x)
   unfolding span_of
-  span-of-each s (to d) l f = states-each c h (scope c s d) (scope_facts c h s d f.2 f.1).inside
-  span-of-each s (history b) l f = states-each c h (scope c s b) (scope_facts c h s b f.3 f.1).inside
-  span-of-each s in_place l f = one_more l (states-each c h s l)
+  span_of_each s (to d) l f = states_each c h (scope c s d) (scope_facts c h s d f.2 f.1).inside
+  span_of_each s (history b) l f = states_each c h (scope c s b) (scope_facts c h s b f.3 f.1).inside
+  span_of_each s in_place l f = one_more l (states_each c h s l)
 
   pub span_fits : (t : ℕ) → t < length c.transitions → SpanFits (length c.states) (span c t)
   unfolding span
   span_fits t l =
       let n = length c.states in
       let f = h.transitions t l in
-      let r = span-range t l in
+      let r = span_range t l in
       subst (SpanFits n) (sym r.is) (range_fits n r.first r.more
-      (subst (Each (λ x. x < n)) r.is (span-of-each (trans_row c t).source (trans_row c t).target f.source f.target)))
+      (subst (Each (λ x. x < n)) r.is (span_of_each (trans_row c t).source (trans_row c t).target f.source f.target)))

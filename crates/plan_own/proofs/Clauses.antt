@@ -24,81 +24,81 @@ use Rattle.meaning.specs.Foreign.{marks_fit, values_fit, queue_fits}
 use Rattle.meaning.specs.Machine.{plan_slot_fits, plan_slots_fit, plan_own}
 use Rattle.meaning.specs.WellFormed.{SIX, counts_of, plan_by}
 use Rattle.plan_rows.specs.Rows.{row}
-use Rattle.plan_rows.proofs.Rows.{vars-length, var-of-plan, var-there}
+use Rattle.plan_rows.proofs.Rows.{vars_length, var_of_plan, var_there}
 use Rattle.plan_choice.specs.Heads.{Examined}
 use Rattle.plan_choice.proofs.Facts.{passes}
 
 -- ---- one slot
 
 module _ (n : ℕ) where
-  pub slot-empty : (z : ℤ) → eq_z z (negsuc 0) ≡ true → true ≡ plan_slot_fits n z
+  pub slot_empty : (z : ℤ) → eq_z z (negsuc 0) ≡ true → true ≡ plan_slot_fits n z
   unfolding plan_slot_fits
-  slot-empty z e = rw (eq_z_true z (negsuc 0) e)
+  slot_empty z e = rw (eq_z_true z (negsuc 0) e)
 
-  pub slot-state : (z : ℤ) → n ≤ STATES → eq_z z (negsuc 0) ≡ false → ltb (ref z) n ≡ plan_slot_fits n z
+  pub slot_state : (z : ℤ) → n ≤ STATES → eq_z z (negsuc 0) ≡ false → ltb (ref z) n ≡ plan_slot_fits n z
   unfolding plan_slot_fits
-  slot-state (pos d) l e = refl
-  slot-state (negsuc m) l e = le-ltb NOWHERE n (omega arith) ∙ sym e
+  slot_state (pos d) l e = refl
+  slot_state (negsuc m) l e = le-ltb NOWHERE n (omega arith) ∙ sym e
 
 -- ---- the variables of a plan
 
 module _ {ns : List ℤ} {k : Counts} (x : Examined ns k) where
-  pub vars-many : k.vars ≡ length (plan_by ns).vars
-  vars-many = subst (λ q. q.vars ≡ length (plan_by ns).vars) (sym x.counted) (sym (vars-length ns))
+  pub vars_many : k.vars ≡ length (plan_by ns).vars
+  vars_many = subst (λ q. q.vars ≡ length (plan_by ns).vars) (sym x.counted) (sym (vars_length ns))
 
-  pub row-there : (v : ℕ) → v < k.vars → SIX + (v + 1) * VAR_ROW ≤ length ns
-  row-there v l = var-there ns k (passes x).whole v l
+  pub row_there : (v : ℕ) → v < k.vars → SIX + (v + 1) * VAR_ROW ≤ length ns
+  row_there v l = var_there ns k (passes x).whole v l
 
   pub row_is : (v : ℕ) → v < k.vars → {r : VarRow} → r ≡ var_by (row VAR_ROW SIX v ns) → r ≡ var_row (plan_by ns).vars v
   unfolding var_row
-  row_is v l q = q ∙ sym (var-of-plan ns v no_var (subst (λ c. v < c.vars) x.counted l))
+  row_is v l q = q ∙ sym (var_of_plan ns v no_var (subst (λ c. v < c.vars) x.counted l))
 
-  pub states-is : k.states ≡ (plan_by ns).states
+  pub states_is : k.states ≡ (plan_by ns).states
   unfolding plan_by
-  states-is = ap (λ c. c.states) x.counted
+  states_is = ap (λ c. c.states) x.counted
 
-  pub events-is : k.events ≡ (plan_by ns).events
+  pub events_is : k.events ≡ (plan_by ns).events
   unfolding plan_by
-  events-is = ap (λ c. c.events) x.counted
+  events_is = ap (λ c. c.events) x.counted
 
 -- ---- the clauses
 
 module _ (n : ℕ) (vs : List VarRow) (e : ℕ) (u : State) where
-  pub own-rootless : get_or u.active 0 false ≡ false → false ≡ plan_own n vs e u
+  pub own_rootless : get_or u.active 0 false ≡ false → false ≡ plan_own n vs e u
   unfolding plan_own is_active
-  own-rootless a = rw a
+  own_rootless a = rw a
 
   module _ (a : get_or u.active 0 false ≡ true) {m : ℕ} (l : m ≡ n) where
-    marks-are : {b : Bool} → every not (drop m u.active) ≡ b → marks_fit n u ≡ b
+    marks_are : {b : Bool} → every not (drop m u.active) ≡ b → marks_fit n u ≡ b
     unfolding marks_fit
-    marks-are f = ap (λ i. every not (drop i u.active)) (sym l) ∙ f
+    marks_are f = ap (λ i. every not (drop i u.active)) (sym l) ∙ f
 
-    pub own-marked : every not (drop m u.active) ≡ false → false ≡ plan_own n vs e u
+    pub own_marked : every not (drop m u.active) ≡ false → false ≡ plan_own n vs e u
     unfolding plan_own is_active
-    own-marked f = rw (a, marks-are f)
+    own_marked f = rw (a, marks_are f)
 
     module _ (f : every not (drop m u.active) ≡ true) where
       pub own_out : values_fit vs u.vars ≡ false → false ≡ plan_own n vs e u
       unfolding plan_own is_active
-      own_out v = rw (a, marks-are f, v)
+      own_out v = rw (a, marks_are f, v)
 
       module _ (v : values_fit vs u.vars ≡ true) where
-        slots-are : {b : Bool} → every (plan_slot_fits m) (take m u.slots) ≡ b → every (plan_slot_fits n) (take n u.slots) ≡ b
-        slots-are g = ap (λ i. every (plan_slot_fits i) (take i u.slots)) (sym l) ∙ g
+        slots_are : {b : Bool} → every (plan_slot_fits m) (take m u.slots) ≡ b → every (plan_slot_fits n) (take n u.slots) ≡ b
+        slots_are g = ap (λ i. every (plan_slot_fits i) (take i u.slots)) (sym l) ∙ g
 
-        rest-are : {b : Bool} → every (eq_z (negsuc 0)) (drop m u.slots) ≡ b → every (eq_z (negsuc 0)) (drop n u.slots) ≡ b
-        rest-are g = ap (λ i. every (eq_z (negsuc 0)) (drop i u.slots)) (sym l) ∙ g
+        rest_are : {b : Bool} → every (eq_z (negsuc 0)) (drop m u.slots) ≡ b → every (eq_z (negsuc 0)) (drop n u.slots) ≡ b
+        rest_are g = ap (λ i. every (eq_z (negsuc 0)) (drop i u.slots)) (sym l) ∙ g
 
-        pub own-astray : every (plan_slot_fits m) (take m u.slots) ≡ false → false ≡ plan_own n vs e u
+        pub own_astray : every (plan_slot_fits m) (take m u.slots) ≡ false → false ≡ plan_own n vs e u
         unfolding plan_own plan_slots_fit is_active
-        own-astray s = rw (a, marks-are f, v, slots-are s)
+        own_astray s = rw (a, marks_are f, v, slots_are s)
 
         module _ (s : every (plan_slot_fits m) (take m u.slots) ≡ true) where
-          pub own-unused : every (eq_z (negsuc 0)) (drop m u.slots) ≡ false → false ≡ plan_own n vs e u
+          pub own_unused : every (eq_z (negsuc 0)) (drop m u.slots) ≡ false → false ≡ plan_own n vs e u
           unfolding plan_own plan_slots_fit is_active
-          own-unused r = rw (a, marks-are f, v, slots-are s, rest-are r)
+          own_unused r = rw (a, marks_are f, v, slots_are s, rest_are r)
 
-          pub own-rest : every (eq_z (negsuc 0)) (drop m u.slots) ≡ true → {b : Bool} {i : ℕ} → i ≡ e
+          pub own_rest : every (eq_z (negsuc 0)) (drop m u.slots) ≡ true → {b : Bool} {i : ℕ} → i ≡ e
               → b ≡ queue_fits i u.queue → b ≡ plan_own n vs e u
           unfolding plan_own plan_slots_fit is_active
-          own-rest r h q = rw (a, marks-are f, v, slots-are s, rest-are r) (q ∙ ap (λ x. queue_fits x u.queue) h)
+          own_rest r h q = rw (a, marks_are f, v, slots_are s, rest_are r) (q ∙ ap (λ x. queue_fits x u.queue) h)

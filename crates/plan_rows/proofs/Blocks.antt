@@ -57,29 +57,29 @@ fills_within n at rows e = go (le_or_lt at n)
 
 module _ (n at : ℕ) (row : List ℤ) (rows : List (List ℤ)) where
   -- a head whose block begins elsewhere
-  pub fills-gap : (ref (num row 8) ≡ at → ⊥) → blocks_fill n at (row ∷ rows) ≡ false
+  pub fills_gap : (ref (num row 8) ≡ at → ⊥) → blocks_fill n at (row ∷ rows) ≡ false
   unfolding blocks_fill
-  fills-gap h = rw (names_other (num row 8) at h)
+  fills_gap h = rw (names_other (num row 8) at h)
 
   -- a head whose block begins here: a length below 0 is past every count
-  length-test : (z : ℤ) → n < NOWHERE → le_z (pos 0) z && blocks_fill n (at + ref z) rows ≡ blocks_fill n (at + ref z) rows
-  length-test (pos m) h = rw (le-leb 0 m (omega arith))
-  length-test (negsuc m) h = sym (fills_past n (at + NOWHERE) rows (omega arith))
+  length_test : (z : ℤ) → n < NOWHERE → le_z (pos 0) z && blocks_fill n (at + ref z) rows ≡ blocks_fill n (at + ref z) rows
+  length_test (pos m) h = rw (le-leb 0 m (omega arith))
+  length_test (negsuc m) h = sym (fills_past n (at + NOWHERE) rows (omega arith))
 
-  pub fills-on : n < NOWHERE → at ≤ n → ref (num row 8) ≡ at → blocks_fill n at (row ∷ rows) ≡ blocks_fill n (at + ref (num row 9)) rows
+  pub fills_on : n < NOWHERE → at ≤ n → ref (num row 8) ≡ at → blocks_fill n at (row ∷ rows) ≡ blocks_fill n (at + ref (num row 9)) rows
   unfolding blocks_fill
-  fills-on h l e =
+  fills_on h l e =
       let z : eq_z (num row 8) (pos at) ≡ true = rw (names (num row 8) at (omega arith) e) (eq_z_refl (pos at)) in
-      rw z (length-test (num row 9) h)
+      rw z (length_test (num row 9) h)
 
   -- what a head whose block fills says
   pub fills_first : blocks_fill n at (row ∷ rows) ≡ true → ref (num row 8) ≡ at
   unfolding blocks_fill
   fills_first e = ap ref (eq_z_true (num row 8) (pos at) (and_left (eq_z (num row 8) (pos at)) _ e))
 
-  pub fills-rest : blocks_fill n at (row ∷ rows) ≡ true → blocks_fill n (at + ref (num row 9)) rows ≡ true
+  pub fills_rest : blocks_fill n at (row ∷ rows) ≡ true → blocks_fill n (at + ref (num row 9)) rows ≡ true
   unfolding blocks_fill
-  fills-rest e = and_right (le_z (pos 0) (num row 9)) _ (and_right (eq_z (num row 8) (pos at)) _ e)
+  fills_rest e = and_right (le_z (pos 0) (num row 9)) _ (and_right (eq_z (num row 8) (pos at)) _ e)
 
 -- a start block of a length below 0 is past every count, too
 pub fills_start : (ns : List ℤ) (k : Counts) → k.start ≡ ref (num ns 5) → k.instructions < NOWHERE
@@ -106,71 +106,71 @@ left_cons zero h = absurd (omega arith)
 left_cons (suc n) h = let z : suc n - 1 ≡ n = omega arith in rw z
 
 module _ (k : Counts) where
-  pub code-stop : (left : ℕ) (lefts : List ℕ) (l : List ℤ) → instr_fits k left l ≡ false → code_fits k (left ∷ lefts) l ≡ false
+  pub code_stop : (left : ℕ) (lefts : List ℕ) (l : List ℤ) → instr_fits k left l ≡ false → code_fits k (left ∷ lefts) l ≡ false
   unfolding code_fits
-  code-stop left lefts l e = rw (e, code_fits)
+  code_stop left lefts l e = rw (e, code_fits)
 
-  pub code-next : (left : ℕ) (lefts : List ℕ) (l : List ℤ) → instr_fits k left l ≡ true
+  pub code_next : (left : ℕ) (lefts : List ℕ) (l : List ℤ) → instr_fits k left l ≡ true
       → code_fits k (left ∷ lefts) l ≡ code_fits k lefts (drop INSTR_ROW l)
   unfolding code_fits
-  code-next left lefts l e = rw (e, code_fits)
+  code_next left lefts l e = rw (e, code_fits)
 
-  pub code-first : (left : ℕ) (lefts : List ℕ) (l : List ℤ) → code_fits k (left ∷ lefts) l ≡ true → instr_fits k left l ≡ true
-  code-first left lefts l e = go (instr_fits k left l) refl
+  pub code_first : (left : ℕ) (lefts : List ℕ) (l : List ℤ) → code_fits k (left ∷ lefts) l ≡ true → instr_fits k left l ≡ true
+  code_first left lefts l e = go (instr_fits k left l) refl
     where
       go : (b : Bool) → instr_fits k left l ≡ b → b ≡ true
       go true f = refl
-      go false f = absurd (false≢true (sym (code-stop left lefts l f) ∙ e))
+      go false f = absurd (false≢true (sym (code_stop left lefts l f) ∙ e))
 
   -- one block after another
-  pub code-joined : (xs ys : List ℕ) (l : List ℤ)
+  pub code_joined : (xs ys : List ℕ) (l : List ℤ)
       → code_fits k (xs ++ ys) l ≡ code_fits k xs l && code_fits k ys (drop (length xs * INSTR_ROW) l)
   unfolding code_fits
-  code-joined [] ys l = refl
-  code-joined (x ∷ xs) ys l = go (instr_fits k x l) refl (code-joined xs ys (drop INSTR_ROW l))
+  code_joined [] ys l = refl
+  code_joined (x ∷ xs) ys l = go (instr_fits k x l) refl (code_joined xs ys (drop INSTR_ROW l))
     where
       go : (b : Bool) → instr_fits k x l ≡ b
           → code_fits k (xs ++ ys) (drop INSTR_ROW l)
           ≡ code_fits k xs (drop INSTR_ROW l) && code_fits k ys (drop (length xs * INSTR_ROW) (drop INSTR_ROW l))
           → code_fits k (x ∷ (xs ++ ys)) l ≡ code_fits k (x ∷ xs) l && code_fits k ys (drop (length (x ∷ xs) * INSTR_ROW) l)
-      go false e rest = rw (code-stop x (xs ++ ys) l e, code-stop x xs l e)
+      go false e rest = rw (code_stop x (xs ++ ys) l e, code_stop x xs l e)
       go true e rest =
           let z : INSTR_ROW + length xs * INSTR_ROW ≡ length (x ∷ xs) * INSTR_ROW = omega arith in
-          rw (code-next x (xs ++ ys) l e, code-next x xs l e)
+          rw (code_next x (xs ++ ys) l e, code_next x xs l e)
           (rest
           ∙ ap (λ m. code_fits k xs (drop INSTR_ROW l) && code_fits k ys m)
           (drop-drop (length xs * INSTR_ROW) INSTR_ROW l ∙ ap (λ m. drop m l) z))
 
   -- a block of n instructions and what follows it, where b instructions from a place on are done
-  pub code-block : (base b n : ℕ) (ys : List ℕ) (ns : List ℤ)
+  pub code_block : (base b n : ℕ) (ys : List ℕ) (ns : List ℤ)
       → code_fits k (left_after_each n ++ ys) (drop (base + b * INSTR_ROW) ns)
       ≡ code_fits k (left_after_each n) (drop (base + b * INSTR_ROW) ns) && code_fits k ys (drop (base + (b + n) * INSTR_ROW) ns)
-  code-block base b n ys ns =
+  code_block base b n ys ns =
       let z : (base + b * INSTR_ROW) + n * INSTR_ROW ≡ base + (b + n) * INSTR_ROW = omega arith in
-      code-joined (left_after_each n) ys (drop (base + b * INSTR_ROW) ns)
+      code_joined (left_after_each n) ys (drop (base + b * INSTR_ROW) ns)
       ∙ ap (λ m. code_fits k (left_after_each n) (drop (base + b * INSTR_ROW) ns) && code_fits k ys m)
       (ap (λ m. drop (m * INSTR_ROW) (drop (base + b * INSTR_ROW) ns)) (left_length n)
       ∙ drop-drop (n * INSTR_ROW) (base + b * INSTR_ROW) ns ∙ ap (λ m. drop m ns) z)
 
   -- instruction j of a block of n that fits, where b instructions from a place on come before the block
-  pub block-instr : (n base b : ℕ) (ns : List ℤ) → code_fits k (left_after_each n) (drop (base + b * INSTR_ROW) ns) ≡ true → (j : ℕ)
+  pub block_instr : (n base b : ℕ) (ns : List ℤ) → code_fits k (left_after_each n) (drop (base + b * INSTR_ROW) ns) ≡ true → (j : ℕ)
       → j < n
       → instr_fits k (n - suc j) (drop (base + (b + j) * INSTR_ROW) ns) ≡ true
   unfolding left_after_each
-  block-instr zero base b ns e j h = absurd (omega arith)
-  block-instr (suc n) base b ns e zero h =
+  block_instr zero base b ns e j h = absurd (omega arith)
+  block_instr (suc n) base b ns e zero h =
       let z : suc n - 1 ≡ n = omega arith in
       let o : b + 0 ≡ b = omega arith in
-      rw (z, o) (code-first n (left_after_each n) (drop (base + b * INSTR_ROW) ns) e)
-  block-instr (suc n) base b ns e (suc j) h =
+      rw (z, o) (code_first n (left_after_each n) (drop (base + b * INSTR_ROW) ns) e)
+  block_instr (suc n) base b ns e (suc j) h =
       let z : suc n - suc (suc j) ≡ n - suc j = omega arith in
       let o : b + suc j ≡ (b + 1) + j = omega arith in
       let m : (base + b * INSTR_ROW) + INSTR_ROW ≡ base + (b + 1) * INSTR_ROW = omega arith in
       rw (z, o)
-      (block-instr n base (b + 1) ns
+      (block_instr n base (b + 1) ns
       (ap (code_fits k (left_after_each n)) (sym (drop-drop INSTR_ROW (base + b * INSTR_ROW) ns ∙ ap (λ q. drop q ns) m))
-      ∙ sym (code-next n (left_after_each n) (drop (base + b * INSTR_ROW) ns)
-      (code-first n (left_after_each n) (drop (base + b * INSTR_ROW) ns) e))
+      ∙ sym (code_next n (left_after_each n) (drop (base + b * INSTR_ROW) ns)
+      (code_first n (left_after_each n) (drop (base + b * INSTR_ROW) ns) e))
       ∙ e)
       j (omega arith))
 
@@ -182,9 +182,9 @@ pub block_within : (n at : ℕ) (rows : List (List ℤ)) → blocks_fill n at ro
 block_within n at [] e h l = absurd (omega arith)
 block_within n at (row ∷ rows) e zero l =
     let s = fills_first n at row rows e in
-    let w = fills_within n (at + ref (num row 9)) rows (fills-rest n at row rows e) in
+    let w = fills_within n (at + ref (num row 9)) rows (fills_rest n at row rows e) in
     omega arith
-block_within n at (row ∷ rows) e (suc h) l = block_within n (at + ref (num row 9)) rows (fills-rest n at row rows e) h (omega arith)
+block_within n at (row ∷ rows) e (suc h) l = block_within n (at + ref (num row 9)) rows (fills_rest n at row rows e) h (omega arith)
 
 -- and its instructions fit if all do
 pub block_fits : (k : Counts) (n base at : ℕ) (ns : List ℤ) (rows : List (List ℤ)) → blocks_fill n at rows ≡ true
@@ -197,10 +197,10 @@ block_fits k n base at ns (row ∷ rows) e f zero l =
     ap (λ m. code_fits k (left_after_each (ref (num row 9))) (drop (base + m * INSTR_ROW) ns)) (fills_first n at row rows e)
     ∙ and_left (code_fits k (left_after_each (ref (num row 9))) (drop (base + at * INSTR_ROW) ns))
     (code_fits k (concat_map left_after_each (map (λ r. ref (num r 9)) rows)) (drop (base + (at + ref (num row 9)) * INSTR_ROW) ns))
-    (sym (code-block k base at (ref (num row 9)) (concat_map left_after_each (map (λ r. ref (num r 9)) rows)) ns) ∙ f)
+    (sym (code_block k base at (ref (num row 9)) (concat_map left_after_each (map (λ r. ref (num r 9)) rows)) ns) ∙ f)
 block_fits k n base at ns (row ∷ rows) e f (suc h) l =
-    block_fits k n base (at + ref (num row 9)) ns rows (fills-rest n at row rows e)
+    block_fits k n base (at + ref (num row 9)) ns rows (fills_rest n at row rows e)
     (and_right (code_fits k (left_after_each (ref (num row 9))) (drop (base + at * INSTR_ROW) ns))
     (code_fits k (concat_map left_after_each (map (λ r. ref (num r 9)) rows)) (drop (base + (at + ref (num row 9)) * INSTR_ROW) ns))
-    (sym (code-block k base at (ref (num row 9)) (concat_map left_after_each (map (λ r. ref (num r 9)) rows)) ns) ∙ f))
+    (sym (code_block k base at (ref (num row 9)) (concat_map left_after_each (map (λ r. ref (num r 9)) rows)) ns) ∙ f))
     h (omega arith)

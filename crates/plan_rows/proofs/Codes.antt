@@ -12,9 +12,9 @@ use Rattle.numbers.specs.declared.Place.{Place}
 use Rattle.numbers.specs.Place.{place_of}
 use Rattle.meaning.specs.declared.chart.Sign.TheVariants.{Equal as equal, Less as less, More as more}
 use Rattle.meaning.specs.declared.chart.Guard.TheVariants.{Always as always, Compares as compares}
-use Rattle.meaning.specs.declared.chart.Act.TheVariants.{SetTo as set_to, AddTo as add_to, TakeTo as take-to, Send as send, Tell as tell}
-use Rattle.meaning.specs.declared.plan.Instr.TheVariants.{In as go-in, Out as go-out, SkipOut as skip-out, SkipEmpty as skip-empty}
-use Rattle.meaning.specs.declared.plan.Instr.TheVariants.{SkipFull as skip-full, SkipNot as skip-not, Does as does}
+use Rattle.meaning.specs.declared.chart.Act.TheVariants.{SetTo as set_to, AddTo as add_to, TakeTo as take_to, Send as send, Tell as tell}
+use Rattle.meaning.specs.declared.plan.Instr.TheVariants.{In as go_in, Out as go_out, SkipOut as skip_out, SkipEmpty as skip_empty}
+use Rattle.meaning.specs.declared.plan.Instr.TheVariants.{SkipFull as skip_full, SkipNot as skip_not, Does as does}
 use Rattle.meaning.specs.WellFormed.{head_guard_by, instr_of, instr_act_by}
 
 -- the number that names n, and one that does not
@@ -29,17 +29,17 @@ names_other (negsuc a) n h = refl
 -- ---- the sign of a guard
 
 module _ (v g x : ℤ) {u : ℕ} {c : ℤ} where
-  pub equal-said : ref g ≡ 1 → u ≡ ref v → c ≡ x → compares u equal c ≡ head_guard_by v g x
+  pub equal_said : ref g ≡ 1 → u ≡ ref v → c ≡ x → compares u equal c ≡ head_guard_by v g x
   unfolding head_guard_by
-  equal-said e p q = rw (names g 1 (omega arith) e, p, q)
+  equal_said e p q = rw (names g 1 (omega arith) e, p, q)
 
-  pub less-said : ref g ≡ 2 → u ≡ ref v → c ≡ x → compares u less c ≡ head_guard_by v g x
+  pub less_said : ref g ≡ 2 → u ≡ ref v → c ≡ x → compares u less c ≡ head_guard_by v g x
   unfolding head_guard_by
-  less-said e p q = rw (names g 2 (omega arith) e, p, q)
+  less_said e p q = rw (names g 2 (omega arith) e, p, q)
 
-  pub more-said : ref g ≡ 3 → u ≡ ref v → c ≡ x → compares u more c ≡ head_guard_by v g x
+  pub more_said : ref g ≡ 3 → u ≡ ref v → c ≡ x → compares u more c ≡ head_guard_by v g x
   unfolding head_guard_by
-  more-said e p q = rw (names g 3 (omega arith) e, p, q)
+  more_said e p q = rw (names g 3 (omega arith) e, p, q)
 
 pub always_said : (v g x : ℤ) → (ref g ≡ 1 → ⊥) → (ref g ≡ 2 → ⊥) → (ref g ≡ 3 → ⊥) → always ≡ head_guard_by v g x
 unfolding head_guard_by
@@ -48,45 +48,45 @@ always_said v g x n₁ n₂ n₃ = rw (names_other g 1 n₁, names_other g 2 n�
 -- ---- the code of an instruction
 
 module _ (k x y z : ℤ) {s : ℕ} where
-  pub in-said : ref k ≡ 1 → s ≡ ref x → go-in s ≡ instr_of k x y z
+  pub in_said : ref k ≡ 1 → s ≡ ref x → go_in s ≡ instr_of k x y z
   unfolding instr_of
-  in-said e f = rw (names k 1 (omega arith) e, f)
+  in_said e f = rw (names k 1 (omega arith) e, f)
 
-  pub out-said : {p : Place} → ref k ≡ 2 → s ≡ ref x → p ≡ place_of y → go-out s p ≡ instr_of k x y z
+  pub out_said : {p : Place} → ref k ≡ 2 → s ≡ ref x → p ≡ place_of y → go_out s p ≡ instr_of k x y z
   unfolding instr_of
-  out-said e f g = rw (names k 2 (omega arith) e, f, g)
+  out_said e f g = rw (names k 2 (omega arith) e, f, g)
 
-  pub skip-out-said : {n : ℕ} → ref k ≡ 3 → s ≡ ref x → n ≡ ref y → skip-out s n ≡ instr_of k x y z
+  pub skip_out_said : {n : ℕ} → ref k ≡ 3 → s ≡ ref x → n ≡ ref y → skip_out s n ≡ instr_of k x y z
   unfolding instr_of
-  skip-out-said e f g = rw (names k 3 (omega arith) e, f, g)
+  skip_out_said e f g = rw (names k 3 (omega arith) e, f, g)
 
-  pub skip-empty-said : {n : ℕ} → ref k ≡ 4 → s ≡ ref x → n ≡ ref y → skip-empty s n ≡ instr_of k x y z
+  pub skip_empty_said : {n : ℕ} → ref k ≡ 4 → s ≡ ref x → n ≡ ref y → skip_empty s n ≡ instr_of k x y z
   unfolding instr_of
-  skip-empty-said e f g = rw (names k 4 (omega arith) e, f, g)
+  skip_empty_said e f g = rw (names k 4 (omega arith) e, f, g)
 
-  pub skip-full-said : {n : ℕ} → ref k ≡ 5 → s ≡ ref x → n ≡ ref y → skip-full s n ≡ instr_of k x y z
+  pub skip_full_said : {n : ℕ} → ref k ≡ 5 → s ≡ ref x → n ≡ ref y → skip_full s n ≡ instr_of k x y z
   unfolding instr_of
-  skip-full-said e f g = rw (names k 5 (omega arith) e, f, g)
+  skip_full_said e f g = rw (names k 5 (omega arith) e, f, g)
 
-  pub skip-not-said : {n m : ℕ} → ref k ≡ 6 → s ≡ ref x → n ≡ ref y → m ≡ ref z → skip-not s n m ≡ instr_of k x y z
+  pub skip_not_said : {n m : ℕ} → ref k ≡ 6 → s ≡ ref x → n ≡ ref y → m ≡ ref z → skip_not s n m ≡ instr_of k x y z
   unfolding instr_of
-  skip-not-said e f g h = rw (names k 6 (omega arith) e, f, g, h)
+  skip_not_said e f g h = rw (names k 6 (omega arith) e, f, g, h)
 
-  pub set-said : {c : ℤ} → ref k ≡ 7 → s ≡ ref x → c ≡ y → does (set_to s c) ≡ instr_of k x y z
+  pub set_said : {c : ℤ} → ref k ≡ 7 → s ≡ ref x → c ≡ y → does (set_to s c) ≡ instr_of k x y z
   unfolding instr_of instr_act_by
-  set-said e f g = rw (names k 7 (omega arith) e, f, g)
+  set_said e f g = rw (names k 7 (omega arith) e, f, g)
 
-  pub add-said : {c : ℤ} → ref k ≡ 8 → s ≡ ref x → c ≡ y → does (add_to s c) ≡ instr_of k x y z
+  pub add_said : {c : ℤ} → ref k ≡ 8 → s ≡ ref x → c ≡ y → does (add_to s c) ≡ instr_of k x y z
   unfolding instr_of instr_act_by
-  add-said e f g = rw (names k 8 (omega arith) e, f, g)
+  add_said e f g = rw (names k 8 (omega arith) e, f, g)
 
-  pub take-said : ref k ≡ 9 → s ≡ ref x → does (take-to s) ≡ instr_of k x y z
+  pub take_said : ref k ≡ 9 → s ≡ ref x → does (take_to s) ≡ instr_of k x y z
   unfolding instr_of instr_act_by
-  take-said e f = rw (names k 9 (omega arith) e, f)
+  take_said e f = rw (names k 9 (omega arith) e, f)
 
-  pub send-said : {c : ℤ} → ref k ≡ 10 → s ≡ ref x → c ≡ y → does (send s c) ≡ instr_of k x y z
+  pub send_said : {c : ℤ} → ref k ≡ 10 → s ≡ ref x → c ≡ y → does (send s c) ≡ instr_of k x y z
   unfolding instr_of instr_act_by
-  send-said e f g = rw (names k 10 (omega arith) e, f, g)
+  send_said e f g = rw (names k 10 (omega arith) e, f, g)
 
 -- any other code
 pub tell_said : (k x y z : ℤ) {c : ℤ} → (ref k ≡ 1 → ⊥) → (ref k ≡ 2 → ⊥) → (ref k ≡ 3 → ⊥) → (ref k ≡ 4 → ⊥) → (ref k ≡ 5 → ⊥)

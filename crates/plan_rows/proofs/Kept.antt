@@ -22,15 +22,15 @@ use Rattle.numbers.specs.declared.Place.TheVariants.{Empty, At}
 use Rattle.numbers.proofs.Laws.{eq_z_true}
 use Rattle.laws.proofs.Lists.{and_left, and_right, or_cases}
 use Rattle.meaning.specs.declared.chart.Act.{Act}
-use Rattle.meaning.specs.declared.chart.Act.TheVariants.{SetTo as set_to, AddTo as add_to, TakeTo as take-to, Send as send, Tell as tell}
+use Rattle.meaning.specs.declared.chart.Act.TheVariants.{SetTo as set_to, AddTo as add_to, TakeTo as take_to, Send as send, Tell as tell}
 use Rattle.meaning.specs.declared.chart.Guard.{Guard}
 use Rattle.meaning.specs.declared.chart.Guard.TheVariants.{Always as always, Compares as compares}
 use Rattle.meaning.specs.declared.chart.Sign.TheVariants.{Equal as equal, Less as less, More as more}
 use Rattle.meaning.specs.declared.plan.Counts.{Counts}
 use Rattle.meaning.specs.declared.plan.Head.{Head}
 use Rattle.meaning.specs.declared.plan.Instr.{Instr}
-use Rattle.meaning.specs.declared.plan.Instr.TheVariants.{In as go-in, Out as go-out, SkipOut as skip-out, SkipEmpty as skip-empty}
-use Rattle.meaning.specs.declared.plan.Instr.TheVariants.{SkipFull as skip-full, SkipNot as skip-not, Does as does}
+use Rattle.meaning.specs.declared.plan.Instr.TheVariants.{In as go_in, Out as go_out, SkipOut as skip_out, SkipEmpty as skip_empty}
+use Rattle.meaning.specs.declared.plan.Instr.TheVariants.{SkipFull as skip_full, SkipNot as skip_not, Does as does}
 use Rattle.meaning.specs.Value.{num, size_by, count_fits}
 use Rattle.meaning.specs.WellFormed.{INSTR_ROW, head_guard_by, head_by, instr_act_by, instr_of, instr_by, one_of}
 use Rattle.meaning.specs.WellFormed.{head_guard_fits, span_fits, head_fits, Operand, a_state, a_parent, a_variable, an_event}
@@ -50,18 +50,18 @@ SlotKept k (At p) = p < k.states
 abbrev pub ActKept : Counts → Act → Type 0
 ActKept k (set_to v x) = (v < k.vars) × (in_range x ≡ true)
 ActKept k (add_to v x) = (v < k.vars) × (in_range x ≡ true)
-ActKept k (take-to v) = v < k.vars
+ActKept k (take_to v) = v < k.vars
 ActKept k (send e x) = (1 ≤ e) × (e ≤ k.events) × (in_range x ≡ true)
 ActKept k (tell x) = in_range x ≡ true
 
 -- an instruction that so many of its block follow
 abbrev pub InstrKept : Counts → ℕ → Instr → Type 0
-InstrKept k left (go-in s) = s < k.states
-InstrKept k left (go-out s p) = (s < k.states) × SlotKept k p
-InstrKept k left (skip-out s n) = (s < k.states) × (n ≤ left)
-InstrKept k left (skip-empty s n) = (s < k.states) × (n ≤ left)
-InstrKept k left (skip-full s n) = (s < k.states) × (n ≤ left)
-InstrKept k left (skip-not s d n) = (s < k.states) × (d < k.states) × (n ≤ left)
+InstrKept k left (go_in s) = s < k.states
+InstrKept k left (go_out s p) = (s < k.states) × SlotKept k p
+InstrKept k left (skip_out s n) = (s < k.states) × (n ≤ left)
+InstrKept k left (skip_empty s n) = (s < k.states) × (n ≤ left)
+InstrKept k left (skip_full s n) = (s < k.states) × (n ≤ left)
+InstrKept k left (skip_not s d n) = (s < k.states) × (d < k.states) × (n ≤ left)
 InstrKept k left (does x) = ActKept k x
 
 pub record HeadKept (k : Counts) (h : Head) : Type 0 where
@@ -109,9 +109,9 @@ module _ (k : Counts) where
   unfolding head_guard_by
   guard_none v g x e = rw e tt
 
-  guard-kept : (v g x : ℤ) → head_guard_fits k v g x ≡ true → GuardKept k (head_guard_by v g x)
+  guard_kept : (v g x : ℤ) → head_guard_fits k v g x ≡ true → GuardKept k (head_guard_by v g x)
   unfolding head_guard_fits
-  guard-kept v g x e =
+  guard_kept v g x e =
       go (or_cases (eq_z v (negsuc 0) && (eq_z g (pos 0) && eq_z x (pos 0))) (one_of k.vars v && (count_fits 1 3 g && in_range x)) e)
     where
       go : (eq_z v (negsuc 0) && (eq_z g (pos 0) && eq_z x (pos 0)) ≡ true) ⊎ (one_of k.vars v && (count_fits 1 3 g && in_range x) ≡ true)
@@ -124,9 +124,9 @@ module _ (k : Counts) where
           guard_named v g x (ltb-true (ref v) k.vars (and_left (one_of k.vars v) (count_fits 1 3 g && in_range x) f))
           (and_right (count_fits 1 3 g) (in_range x) (and_right (one_of k.vars v) (count_fits 1 3 g && in_range x) f))
 
-  pub head-kept : (row : List ℤ) → k.states ≤ STATES → head_fits k row ≡ true → HeadKept k (head_by row)
+  pub head_kept : (row : List ℤ) → k.states ≤ STATES → head_fits k row ≡ true → HeadKept k (head_by row)
   unfolding head_fits span_fits head_by
-  head-kept row l e =
+  head_kept row l e =
       let t = one_of TRANSITIONS (num row 0) in
       let u = count_fits 0 k.events (num row 2) in
       let s = one_of k.states (num row 1) in
@@ -145,7 +145,7 @@ module _ (k : Counts) where
         transition = ltb-true (ref (num row 0)) TRANSITIONS (and_left t (u && ((s && (a && (b && o))) && g)) e);
         source = ltb-true (ref (num row 1)) k.states (and_left s (a && (b && o)) e₃);
         trigger = (count_named 0 k.events (num row 2) (and_left u ((s && (a && (b && o))) && g) e₁)).1;
-        guard = guard-kept (num row 3) (num row 4) (num row 5) (and_right (s && (a && (b && o))) g e₂);
+        guard = guard_kept (num row 3) (num row 4) (num row 5) (and_right (s && (a && (b && o))) g e₂);
         first = f;
         last = m;
         ordered = order_named k.states (num row 6) (num row 7) (omega arith) f m (and_right b o e₅);
@@ -154,30 +154,30 @@ module _ (k : Counts) where
 -- ---- an instruction, by its code
 
 module _ (k : Counts) (left : ℕ) where
-  state-kept : (z : ℤ) → operand_fits k left a_state z ≡ true → ref z < k.states
+  state_kept : (z : ℤ) → operand_fits k left a_state z ≡ true → ref z < k.states
   unfolding operand_fits
-  state-kept z e = ltb-true (ref z) k.states e
+  state_kept z e = ltb-true (ref z) k.states e
 
-  parent-kept : (z : ℤ) → operand_fits k left a_parent z ≡ true → SlotKept k (place_of z)
+  parent_kept : (z : ℤ) → operand_fits k left a_parent z ≡ true → SlotKept k (place_of z)
   unfolding operand_fits
-  parent-kept (pos p) e = ltb-true p k.states e
-  parent-kept (negsuc p) e = tt
+  parent_kept (pos p) e = ltb-true p k.states e
+  parent_kept (negsuc p) e = tt
 
-  variable-kept : (z : ℤ) → operand_fits k left a_variable z ≡ true → ref z < k.vars
+  variable_kept : (z : ℤ) → operand_fits k left a_variable z ≡ true → ref z < k.vars
   unfolding operand_fits
-  variable-kept z e = ltb-true (ref z) k.vars e
+  variable_kept z e = ltb-true (ref z) k.vars e
 
-  event-kept : (z : ℤ) → operand_fits k left an_event z ≡ true → (1 ≤ ref z) × (ref z ≤ k.events)
+  event_kept : (z : ℤ) → operand_fits k left an_event z ≡ true → (1 ≤ ref z) × (ref z ≤ k.events)
   unfolding operand_fits
-  event-kept z e = count_named 1 k.events z e
+  event_kept z e = count_named 1 k.events z e
 
-  constant-kept : (z : ℤ) → operand_fits k left a_constant z ≡ true → in_range z ≡ true
+  constant_kept : (z : ℤ) → operand_fits k left a_constant z ≡ true → in_range z ≡ true
   unfolding operand_fits
-  constant-kept z e = e
+  constant_kept z e = e
 
-  skip-kept : (z : ℤ) → operand_fits k left a_skip z ≡ true → ref z ≤ left
+  skip_kept : (z : ℤ) → operand_fits k left a_skip z ≡ true → ref z ≤ left
   unfolding operand_fits
-  skip-kept z e = (count_named 0 left z e).1
+  skip_kept z e = (count_named 0 left z e).1
 
   -- the three numbers of a form
   abbrev fit : Shape → ℤ → ℤ → ℤ → Bool
@@ -198,48 +198,48 @@ module _ (k : Counts) (left : ℕ) where
         and_right (operand_fits k left g y) (operand_fits k left h z) r,
       )
 
-  code-kept : (c x y z : ℤ) → fit (get_or SHAPES (ref c) no_shape) x y z ≡ true → InstrKept k left (instr_of c x y z)
+  code_kept : (c x y z : ℤ) → fit (get_or SHAPES (ref c) no_shape) x y z ≡ true → InstrKept k left (instr_of c x y z)
   unfolding instr_of instr_act_by
-  code-kept (pos zero) x y z e = absurd (false≢true e)
-  code-kept (pos (suc zero)) x y z e = state-kept x (three a_state unused unused x y z e).0
-  code-kept (pos (suc (suc zero))) x y z e = let t = three a_state a_parent unused x y z e in (state-kept x t.0, parent-kept y t.1)
-  code-kept (pos (suc (suc (suc zero)))) x y z e =
+  code_kept (pos zero) x y z e = absurd (false≢true e)
+  code_kept (pos (suc zero)) x y z e = state_kept x (three a_state unused unused x y z e).0
+  code_kept (pos (suc (suc zero))) x y z e = let t = three a_state a_parent unused x y z e in (state_kept x t.0, parent_kept y t.1)
+  code_kept (pos (suc (suc (suc zero)))) x y z e =
       let t = three a_state a_skip unused x y z e in
-      (state-kept x t.0, skip-kept y t.1)
-  code-kept (pos (suc (suc (suc (suc zero))))) x y z e =
+      (state_kept x t.0, skip_kept y t.1)
+  code_kept (pos (suc (suc (suc (suc zero))))) x y z e =
       let t = three a_state a_skip unused x y z e in
-      (state-kept x t.0, skip-kept y t.1)
-  code-kept (pos (suc (suc (suc (suc (suc zero)))))) x y z e =
+      (state_kept x t.0, skip_kept y t.1)
+  code_kept (pos (suc (suc (suc (suc (suc zero)))))) x y z e =
       let t = three a_state a_skip unused x y z e in
-      (state-kept x t.0, skip-kept y t.1)
-  code-kept (pos (suc (suc (suc (suc (suc (suc zero))))))) x y z e =
+      (state_kept x t.0, skip_kept y t.1)
+  code_kept (pos (suc (suc (suc (suc (suc (suc zero))))))) x y z e =
       let t = three a_state a_state a_skip x y z e in
-      (state-kept x t.0, state-kept y t.1, skip-kept z t.2)
-  code-kept (pos (suc (suc (suc (suc (suc (suc (suc zero)))))))) x y z e =
+      (state_kept x t.0, state_kept y t.1, skip_kept z t.2)
+  code_kept (pos (suc (suc (suc (suc (suc (suc (suc zero)))))))) x y z e =
       let t = three a_variable a_constant unused x y z e in
-      (variable-kept x t.0, constant-kept y t.1)
-  code-kept (pos (suc (suc (suc (suc (suc (suc (suc (suc zero))))))))) x y z e =
+      (variable_kept x t.0, constant_kept y t.1)
+  code_kept (pos (suc (suc (suc (suc (suc (suc (suc (suc zero))))))))) x y z e =
       let t = three a_variable a_constant unused x y z e in
-      (variable-kept x t.0, constant-kept y t.1)
-  code-kept (pos (suc (suc (suc (suc (suc (suc (suc (suc (suc zero)))))))))) x y z e =
-      variable-kept x (three a_variable unused unused x y z e).0
-  code-kept (pos (suc (suc (suc (suc (suc (suc (suc (suc (suc (suc zero))))))))))) x y z e =
+      (variable_kept x t.0, constant_kept y t.1)
+  code_kept (pos (suc (suc (suc (suc (suc (suc (suc (suc (suc zero)))))))))) x y z e =
+      variable_kept x (three a_variable unused unused x y z e).0
+  code_kept (pos (suc (suc (suc (suc (suc (suc (suc (suc (suc (suc zero))))))))))) x y z e =
       let t = three an_event a_constant unused x y z e in
-      let v = event-kept x t.0 in
-      (v.0, v.1, constant-kept y t.1)
-  code-kept (pos (suc (suc (suc (suc (suc (suc (suc (suc (suc (suc (suc zero)))))))))))) x y z e =
-      constant-kept x (three a_constant unused unused x y z e).0
-  code-kept (pos (suc (suc (suc (suc (suc (suc (suc (suc (suc (suc (suc (suc n))))))))))))) x y z e = absurd (false≢true e)
-  code-kept (negsuc n) x y z e = absurd (false≢true e)
+      let v = event_kept x t.0 in
+      (v.0, v.1, constant_kept y t.1)
+  code_kept (pos (suc (suc (suc (suc (suc (suc (suc (suc (suc (suc (suc zero)))))))))))) x y z e =
+      constant_kept x (three a_constant unused unused x y z e).0
+  code_kept (pos (suc (suc (suc (suc (suc (suc (suc (suc (suc (suc (suc (suc n))))))))))))) x y z e = absurd (false≢true e)
+  code_kept (negsuc n) x y z e = absurd (false≢true e)
 
   -- the instruction that a list of numbers begins with
-  pub instr-kept : (l : List ℤ) → instr_fits k left l ≡ true → InstrKept k left (instr_by (take INSTR_ROW l))
+  pub instr_kept : (l : List ℤ) → instr_fits k left l ≡ true → InstrKept k left (instr_by (take INSTR_ROW l))
   unfolding instr_fits instr_by
-  instr-kept l e =
+  instr_kept l e =
       rw (
         get_or-take INSTR_ROW l 0 (pos 0) (omega arith),
         get_or-take INSTR_ROW l 1 (pos 0) (omega arith),
         get_or-take INSTR_ROW l 2 (pos 0) (omega arith),
         get_or-take INSTR_ROW l 3 (pos 0) (omega arith),
       )
-      (code-kept (num l 0) (num l 1) (num l 2) (num l 3) (sym (fit_row (get_or SHAPES (ref (num l 0)) no_shape) l) ∙ e))
+      (code_kept (num l 0) (num l 1) (num l 2) (num l 3) (sym (fit_row (get_or SHAPES (ref (num l 0)) no_shape) l) ∙ e))

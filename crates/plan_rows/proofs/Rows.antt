@@ -47,105 +47,105 @@ row_of : (n k a : ℕ) (ns : List ℤ) (i : ℕ) → i < n → get_or (chunks n 
 row_of n k a ns i h = chunk_at n k (drop a ns) i h ∙ ap (take k) (drop-drop (i * k) a ns)
 
 module _ (ns : List ℤ) (k : Counts) where
-  pub var-rows-length : length (var_rows ns k) ≡ k.vars
+  pub var_rows_length : length (var_rows ns k) ≡ k.vars
   unfolding var_rows
-  var-rows-length = length_chunks k.vars VAR_ROW (drop SIX ns)
+  var_rows_length = length_chunks k.vars VAR_ROW (drop SIX ns)
 
-  pub head-rows-length : length (head_rows ns k) ≡ k.heads
+  pub head_rows_length : length (head_rows ns k) ≡ k.heads
   unfolding head_rows
-  head-rows-length = length_chunks k.heads HEAD_ROW (drop (heads_at k) ns)
+  head_rows_length = length_chunks k.heads HEAD_ROW (drop (heads_at k) ns)
 
-  pub code-rows-length : length (code_rows ns k) ≡ k.instructions
+  pub code_rows_length : length (code_rows ns k) ≡ k.instructions
   unfolding code_rows
-  code-rows-length = length_chunks k.instructions INSTR_ROW (drop (code_at k) ns)
+  code_rows_length = length_chunks k.instructions INSTR_ROW (drop (code_at k) ns)
 
-  pub var-rows-at : (v : ℕ) → v < k.vars → get_or (var_rows ns k) v [] ≡ row VAR_ROW SIX v ns
+  pub var_rows_at : (v : ℕ) → v < k.vars → get_or (var_rows ns k) v [] ≡ row VAR_ROW SIX v ns
   unfolding var_rows
-  var-rows-at v h = row_of k.vars VAR_ROW SIX ns v h
+  var_rows_at v h = row_of k.vars VAR_ROW SIX ns v h
 
-  pub head-rows-at : (h : ℕ) → h < k.heads → get_or (head_rows ns k) h [] ≡ row HEAD_ROW (heads_at k) h ns
+  pub head_rows_at : (h : ℕ) → h < k.heads → get_or (head_rows ns k) h [] ≡ row HEAD_ROW (heads_at k) h ns
   unfolding head_rows
-  head-rows-at h l = row_of k.heads HEAD_ROW (heads_at k) ns h l
+  head_rows_at h l = row_of k.heads HEAD_ROW (heads_at k) ns h l
 
-  pub code-rows-at : (i : ℕ) → i < k.instructions → get_or (code_rows ns k) i [] ≡ row INSTR_ROW (code_at k) i ns
+  pub code_rows_at : (i : ℕ) → i < k.instructions → get_or (code_rows ns k) i [] ≡ row INSTR_ROW (code_at k) i ns
   unfolding code_rows
-  code-rows-at i h = row_of k.instructions INSTR_ROW (code_at k) ns i h
+  code_rows_at i h = row_of k.instructions INSTR_ROW (code_at k) ns i h
 
 -- the plan that the numbers state: its counts, and row by row what `var_row`, `head_row` and `instr` give
 module _ (ns : List ℤ) where
-  pub states-of-plan : (plan_by ns).states ≡ (counts_of ns).states
+  pub states_of_plan : (plan_by ns).states ≡ (counts_of ns).states
   unfolding plan_by
-  states-of-plan = refl
+  states_of_plan = refl
 
-  pub events-of-plan : (plan_by ns).events ≡ (counts_of ns).events
+  pub events_of_plan : (plan_by ns).events ≡ (counts_of ns).events
   unfolding plan_by
-  events-of-plan = refl
+  events_of_plan = refl
 
-  pub start-of-plan : (plan_by ns).start_length ≡ (counts_of ns).start
+  pub start_of_plan : (plan_by ns).start_length ≡ (counts_of ns).start
   unfolding plan_by
-  start-of-plan = refl
+  start_of_plan = refl
 
-  pub vars-length : length (plan_by ns).vars ≡ (counts_of ns).vars
+  pub vars_length : length (plan_by ns).vars ≡ (counts_of ns).vars
   unfolding plan_by var_rows
-  vars-length = length_rows var_by _ _ _
+  vars_length = length_rows var_by _ _ _
 
-  pub heads-length : length (plan_by ns).heads ≡ (counts_of ns).heads
+  pub heads_length : length (plan_by ns).heads ≡ (counts_of ns).heads
   unfolding plan_by head_rows
-  heads-length = length_rows head_by _ _ _
+  heads_length = length_rows head_by _ _ _
 
   pub code_length : length (plan_by ns).code ≡ (counts_of ns).instructions
   unfolding plan_by code_rows
   code_length = length_rows instr_by _ _ _
 
-  pub var-of-plan : (v : ℕ) (d : VarRow) → v < (counts_of ns).vars → get_or (plan_by ns).vars v d ≡ var_by (row VAR_ROW SIX v ns)
+  pub var_of_plan : (v : ℕ) (d : VarRow) → v < (counts_of ns).vars → get_or (plan_by ns).vars v d ≡ var_by (row VAR_ROW SIX v ns)
   unfolding plan_by var_rows
-  var-of-plan v d h = row_at var_by (counts_of ns).vars VAR_ROW SIX ns v d h
+  var_of_plan v d h = row_at var_by (counts_of ns).vars VAR_ROW SIX ns v d h
 
-  pub head-of-plan : (h : ℕ) (d : Head) → h < (counts_of ns).heads
+  pub head_of_plan : (h : ℕ) (d : Head) → h < (counts_of ns).heads
       → get_or (plan_by ns).heads h d ≡ head_by (row HEAD_ROW (heads_at (counts_of ns)) h ns)
   unfolding plan_by head_rows
-  head-of-plan h d l = row_at head_by (counts_of ns).heads HEAD_ROW (heads_at (counts_of ns)) ns h d l
+  head_of_plan h d l = row_at head_by (counts_of ns).heads HEAD_ROW (heads_at (counts_of ns)) ns h d l
 
-  pub instr-of-plan : (i : ℕ) (d : Instr) → i < (counts_of ns).instructions
+  pub instr_of_plan : (i : ℕ) (d : Instr) → i < (counts_of ns).instructions
       → get_or (plan_by ns).code i d ≡ instr_by (row INSTR_ROW (code_at (counts_of ns)) i ns)
   unfolding plan_by code_rows
-  instr-of-plan i d h = row_at instr_by (counts_of ns).instructions INSTR_ROW (code_at (counts_of ns)) ns i d h
+  instr_of_plan i d h = row_at instr_by (counts_of ns).instructions INSTR_ROW (code_at (counts_of ns)) ns i d h
 
 -- each row of a whole plan is there: what the accessors require
 module _ (ns : List ℤ) (k : Counts) (whole : plan_end k ≤ length ns) where
-  pub var-there : (v : ℕ) → v < k.vars → SIX + (v + 1) * VAR_ROW ≤ length ns
+  pub var_there : (v : ℕ) → v < k.vars → SIX + (v + 1) * VAR_ROW ≤ length ns
   unfolding plan_end code_at heads_at
-  var-there v h = omega arith
+  var_there v h = omega arith
 
-  pub head-there : (h : ℕ) → h < k.heads → heads_at k + (h + 1) * HEAD_ROW ≤ length ns
+  pub head_there : (h : ℕ) → h < k.heads → heads_at k + (h + 1) * HEAD_ROW ≤ length ns
   unfolding plan_end code_at
-  head-there h l = omega arith
+  head_there h l = omega arith
 
-  pub instr-there : (i : ℕ) → i < k.instructions → code_at k + (i + 1) * INSTR_ROW ≤ length ns
+  pub instr_there : (i : ℕ) → i < k.instructions → code_at k + (i + 1) * INSTR_ROW ≤ length ns
   unfolding plan_end
-  instr-there i h = omega arith
+  instr_there i h = omega arith
 
 -- ---- a row, number by number, from the place b where it begins
 
 module _ (ns : List ℤ) (b : ℕ) where
-  pub var-said : {x y z : ℤ} → x ≡ get_or ns (b + 0) (pos 0) → y ≡ get_or ns (b + 1) (pos 0) → z ≡ get_or ns (b + 2) (pos 0)
+  pub var_said : {x y z : ℤ} → x ≡ get_or ns (b + 0) (pos 0) → y ≡ get_or ns (b + 1) (pos 0) → z ≡ get_or ns (b + 2) (pos 0)
       → record { low = x; high = y; first = z } ≡ var_by (take VAR_ROW (drop b ns))
   unfolding var_by
-  var-said p q r =
+  var_said p q r =
       rw (p, q, r, num_at VAR_ROW b ns 0 (omega arith), num_at VAR_ROW b ns 1 (omega arith), num_at VAR_ROW b ns 2 (omega arith))
 
-  pub guard-of : (head_by (take HEAD_ROW (drop b ns))).guard
+  pub guard_of : (head_by (take HEAD_ROW (drop b ns))).guard
       ≡ head_guard_by (get_or ns (b + 3) (pos 0)) (get_or ns (b + 4) (pos 0)) (get_or ns (b + 5) (pos 0))
   unfolding head_by
-  guard-of = rw (num_at HEAD_ROW b ns 3 (omega arith), num_at HEAD_ROW b ns 4 (omega arith), num_at HEAD_ROW b ns 5 (omega arith))
+  guard_of = rw (num_at HEAD_ROW b ns 3 (omega arith), num_at HEAD_ROW b ns 4 (omega arith), num_at HEAD_ROW b ns 5 (omega arith))
 
   pub start_of : (head_by (take HEAD_ROW (drop b ns))).start ≡ ref (get_or ns (b + 8) (pos 0))
   unfolding head_by
   start_of = ap ref (num_at HEAD_ROW b ns 8 (omega arith))
 
-  pub length-of : (head_by (take HEAD_ROW (drop b ns))).length ≡ ref (get_or ns (b + 9) (pos 0))
+  pub length_of : (head_by (take HEAD_ROW (drop b ns))).length ≡ ref (get_or ns (b + 9) (pos 0))
   unfolding head_by
-  length-of = ap ref (num_at HEAD_ROW b ns 9 (omega arith))
+  length_of = ap ref (num_at HEAD_ROW b ns 9 (omega arith))
 
   pub head_said : {t s e f l a n : ℕ} {g : Guard}
       → t ≡ ref (get_or ns (b + 0) (pos 0))
@@ -176,11 +176,11 @@ module _ (ns : List ℤ) (b : ℕ) where
         num_at HEAD_ROW b ns 7 (omega arith),
       )
 
-  pub instr-said : {i : Instr}
+  pub instr_said : {i : Instr}
       → i ≡ instr_of (get_or ns (b + 0) (pos 0)) (get_or ns (b + 1) (pos 0)) (get_or ns (b + 2) (pos 0)) (get_or ns (b + 3) (pos 0))
       → i ≡ instr_by (take INSTR_ROW (drop b ns))
   unfolding instr_by
-  instr-said p =
+  instr_said p =
       p ∙ rw (
         num_at INSTR_ROW b ns 0 (omega arith),
         num_at INSTR_ROW b ns 1 (omega arith),
@@ -200,4 +200,4 @@ module _ (ns : List ℤ) (start n : ℕ) (within : start + n ≤ (counts_of ns).
       → get_or (take n (drop start (plan_by ns).code)) j d ≡ instr_by (row INSTR_ROW (code_at (counts_of ns)) (start + j) ns)
   block_at j d h =
       get_or-take n (drop start (plan_by ns).code) j d h ∙ get_or-drop start (plan_by ns).code j d
-      ∙ instr-of-plan ns (start + j) d (omega arith)
+      ∙ instr_of_plan ns (start + j) d (omega arith)

@@ -15,18 +15,18 @@ use Rattle.meaning.specs.WellFormed.{counts_of, plan_end, code_at, var_rows, hea
 use Rattle.meaning.specs.WellFormed.{left_in_blocks, code_fits, rows_well_formed, is_whole, well_formed}
 
 module _ (ns : List ℤ) (k : Counts) where
-  pub rows-vars : every var_keeps (var_rows ns k) ≡ false → false ≡ rows_well_formed ns k
+  pub rows_vars : every var_keeps (var_rows ns k) ≡ false → false ≡ rows_well_formed ns k
   unfolding rows_well_formed
-  rows-vars e = rw (e, rows_well_formed)
+  rows_vars e = rw (e, rows_well_formed)
 
-  pub rows-heads : every var_keeps (var_rows ns k) ≡ true → every (head_fits k) (head_rows ns k) ≡ false → false ≡ rows_well_formed ns k
+  pub rows_heads : every var_keeps (var_rows ns k) ≡ true → every (head_fits k) (head_rows ns k) ≡ false → false ≡ rows_well_formed ns k
   unfolding rows_well_formed
-  rows-heads e f = rw (e, f, rows_well_formed)
+  rows_heads e f = rw (e, f, rows_well_formed)
 
-  pub rows-blocks : every var_keeps (var_rows ns k) ≡ true → every (head_fits k) (head_rows ns k) ≡ true → all_blocks_fill ns k ≡ false
+  pub rows_blocks : every var_keeps (var_rows ns k) ≡ true → every (head_fits k) (head_rows ns k) ≡ true → all_blocks_fill ns k ≡ false
       → false ≡ rows_well_formed ns k
   unfolding rows_well_formed
-  rows-blocks e f g = rw (e, f, g, rows_well_formed)
+  rows_blocks e f g = rw (e, f, g, rows_well_formed)
 
   pub rows_code : every var_keeps (var_rows ns k) ≡ true → every (head_fits k) (head_rows ns k) ≡ true → all_blocks_fill ns k ≡ true
       → code_fits k (left_in_blocks ns k) (drop (code_at k) ns) ≡ rows_well_formed ns k
@@ -34,58 +34,58 @@ module _ (ns : List ℤ) (k : Counts) where
   rows_code e f g = rw (e, f, g, rows_well_formed)
 
 module _ (ns : List ℤ) where
-  pub well-counts : counts_keep ns ≡ false → false ≡ well_formed ns
+  pub well_counts : counts_keep ns ≡ false → false ≡ well_formed ns
   unfolding well_formed
-  well-counts e = rw (e, well_formed)
+  well_counts e = rw (e, well_formed)
 
-  pub well-cut : counts_keep ns ≡ true → length ns < plan_end (counts_of ns) → false ≡ well_formed ns
+  pub well_cut : counts_keep ns ≡ true → length ns < plan_end (counts_of ns) → false ≡ well_formed ns
   unfolding well_formed is_whole
-  well-cut e h = rw (e, lt-leb (plan_end (counts_of ns)) (length ns) h, well_formed)
+  well_cut e h = rw (e, lt-leb (plan_end (counts_of ns)) (length ns) h, well_formed)
 
-  pub well-rows : counts_keep ns ≡ true → plan_end (counts_of ns) ≤ length ns → rows_well_formed ns (counts_of ns) ≡ well_formed ns
+  pub well_rows : counts_keep ns ≡ true → plan_end (counts_of ns) ≤ length ns → rows_well_formed ns (counts_of ns) ≡ well_formed ns
   unfolding well_formed is_whole
-  well-rows e h = rw (e, le-leb (plan_end (counts_of ns)) (length ns) h, well_formed)
+  well_rows e h = rw (e, le-leb (plan_end (counts_of ns)) (length ns) h, well_formed)
 
 -- ---- each test of a well-formed plan holds
 
 module _ (ns : List ℤ) (e : well_formed ns ≡ true) where
-  pub well-counted : counts_keep ns ≡ true
-  well-counted = go (counts_keep ns) refl
+  pub well_counted : counts_keep ns ≡ true
+  well_counted = go (counts_keep ns) refl
     where
       go : (b : Bool) → counts_keep ns ≡ b → b ≡ true
       go true f = refl
-      go false f = absurd (false≢true (well-counts ns f ∙ e))
+      go false f = absurd (false≢true (well_counts ns f ∙ e))
 
-  pub well-whole : plan_end (counts_of ns) ≤ length ns
-  well-whole = go (le_or_lt (plan_end (counts_of ns)) (length ns))
+  pub well_whole : plan_end (counts_of ns) ≤ length ns
+  well_whole = go (le_or_lt (plan_end (counts_of ns)) (length ns))
     where
       go : (plan_end (counts_of ns) ≤ length ns) ⊎ (length ns < plan_end (counts_of ns)) → plan_end (counts_of ns) ≤ length ns
       go (inl h) = h
-      go (inr h) = absurd (false≢true (well-cut ns well-counted h ∙ e))
+      go (inr h) = absurd (false≢true (well_cut ns well_counted h ∙ e))
 
   rows : rows_well_formed ns (counts_of ns) ≡ true
-  rows = well-rows ns well-counted well-whole ∙ e
+  rows = well_rows ns well_counted well_whole ∙ e
 
-  pub well-vars : every var_keeps (var_rows ns (counts_of ns)) ≡ true
-  well-vars = go (every var_keeps (var_rows ns (counts_of ns))) refl
+  pub well_vars : every var_keeps (var_rows ns (counts_of ns)) ≡ true
+  well_vars = go (every var_keeps (var_rows ns (counts_of ns))) refl
     where
       go : (b : Bool) → every var_keeps (var_rows ns (counts_of ns)) ≡ b → b ≡ true
       go true f = refl
-      go false f = absurd (false≢true (rows-vars ns (counts_of ns) f ∙ rows))
+      go false f = absurd (false≢true (rows_vars ns (counts_of ns) f ∙ rows))
 
-  pub well-heads : every (head_fits (counts_of ns)) (head_rows ns (counts_of ns)) ≡ true
-  well-heads = go (every (head_fits (counts_of ns)) (head_rows ns (counts_of ns))) refl
+  pub well_heads : every (head_fits (counts_of ns)) (head_rows ns (counts_of ns)) ≡ true
+  well_heads = go (every (head_fits (counts_of ns)) (head_rows ns (counts_of ns))) refl
     where
       go : (b : Bool) → every (head_fits (counts_of ns)) (head_rows ns (counts_of ns)) ≡ b → b ≡ true
       go true f = refl
-      go false f = absurd (false≢true (rows-heads ns (counts_of ns) well-vars f ∙ rows))
+      go false f = absurd (false≢true (rows_heads ns (counts_of ns) well_vars f ∙ rows))
 
-  pub well-blocks : all_blocks_fill ns (counts_of ns) ≡ true
-  well-blocks = go (all_blocks_fill ns (counts_of ns)) refl
+  pub well_blocks : all_blocks_fill ns (counts_of ns) ≡ true
+  well_blocks = go (all_blocks_fill ns (counts_of ns)) refl
     where
       go : (b : Bool) → all_blocks_fill ns (counts_of ns) ≡ b → b ≡ true
       go true f = refl
-      go false f = absurd (false≢true (rows-blocks ns (counts_of ns) well-vars well-heads f ∙ rows))
+      go false f = absurd (false≢true (rows_blocks ns (counts_of ns) well_vars well_heads f ∙ rows))
 
-  pub well-code : code_fits (counts_of ns) (left_in_blocks ns (counts_of ns)) (drop (code_at (counts_of ns)) ns) ≡ true
-  well-code = rows_code ns (counts_of ns) well-vars well-heads well-blocks ∙ rows
+  pub well_code : code_fits (counts_of ns) (left_in_blocks ns (counts_of ns)) (drop (code_at (counts_of ns)) ns) ≡ true
+  well_code = rows_code ns (counts_of ns) well_vars well_heads well_blocks ∙ rows

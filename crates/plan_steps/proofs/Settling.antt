@@ -24,9 +24,9 @@ use Rattle.choice.specs.Choice.{seen}
 use Rattle.choice.proofs.Seen.{guard_seen}
 use Rattle.plan_choice.specs.Heads.{Examined, picked, Picks, Chose}
 use Rattle.plan_choice.specs.Links.{STARTS, Linked}
-use Rattle.plan_choice.proofs.Loop.{chose-empty}
+use Rattle.plan_choice.proofs.Loop.{chose_empty}
 use Rattle.plan_code.specs.Code.{Ran}
-use Rattle.plan_steps.proofs.Firing.{fires-long}
+use Rattle.plan_steps.proofs.Firing.{fires_long}
 
 -- ---- what is chosen depends on the active marks and the values alone
 
@@ -42,22 +42,22 @@ chosen_seen p e u = ap (λ f. thin_heads [] (keep f p.heads)) (fun_ext (enabled_
 
 module _ {ns : List ℤ} {k : Counts} {e : ℕ} {a : List Bool} {vs : List ℤ} {count : ℕ} {picks : List ℕ}
     (h : Chose ns k e a vs count picks) where
-  pub chose-here : (sl q t : List ℤ) (at : ℕ)
+  pub chose_here : (sl q t : List ℤ) (at : ℕ)
       → chosen_heads (plan_by ns) e (ctx (record { active = a; slots = sl; vars = vs; queue = q; trace = t }) at).state
       ≡ picked ns (heads_at k) count picks
   unfolding ctx tracing
-  chose-here sl q t at = chosen_seen (plan_by ns) e _ ∙ sym h.is
+  chose_here sl q t at = chosen_seen (plan_by ns) e _ ∙ sym h.is
 
   -- one step fires them all
-  pub step-here : (arg : ℤ) {sl q t : List ℤ} {at : ℕ} {w : Went} {after : Lent}
+  pub step_here : (arg : ℤ) {sl q t : List ℤ} {at : ℕ} {w : Went} {after : Lent}
       → Ran (each (fire_head (plan_by ns) arg) (picked ns (heads_at k) count picks))
       (record { active = a; slots = sl; vars = vs; queue = q; trace = t }) at w after
       → Ran (plan_step (plan_by ns) e arg) (record { active = a; slots = sl; vars = vs; queue = q; trace = t }) at w after
   unfolding plan_step look
-  step-here arg {sl} {q} {t} {at} d = record {
+  step_here arg {sl} {q} {t} {at} d = record {
     did = going.same_step (plan_step (plan_by ns) e arg)
         (ap (λ hs. each (fire_head (plan_by ns) arg) hs (ctx
-        (record { active = a; slots = sl; vars = vs; queue = q; trace = t }) at)) (sym (chose-here sl q t at)))
+        (record { active = a; slots = sl; vars = vs; queue = q; trace = t }) at)) (sym (chose_here sl q t at)))
         d.did;
     slotted = d.slotted;
   }
@@ -97,9 +97,9 @@ pub record Settling (p : Plan) (before : Lent) (at turns : ℕ) (after : Lent) (
   pub slotted : length after.slots ≡ length before.slots
 
 module _ {p : Plan} {before : Lent} {at : ℕ} where
-  pub settling-begin : at ≤ length before.trace → Settling p before at 0 before at
+  pub settling_begin : at ≤ length before.trace → Settling p before at 0 before at
   unfolding plan_settle
-  settling-begin h = record { owes = going.owes-all h; few = omega arith; slotted = refl }
+  settling_begin h = record { owes = going.owes_all h; few = omega arith; slotted = refl }
 
 module _ {ns : List ℤ} {k : Counts} {before : Lent} {at turns : ℕ} {a : List Bool} {sl vs q t : List ℤ} {next : ℕ}
     (w : Settling (plan_by ns) before at turns (record { active = a; slots = sl; vars = vs; queue = q; trace = t }) next)
@@ -108,34 +108,34 @@ module _ {ns : List ℤ} {k : Counts} {before : Lent} {at turns : ℕ} {a : List
   here = ctx (record { active = a; slots = sl; vars = vs; queue = q; trace = t }) next
 
   long : length (picked ns (heads_at k) count picks) ≡ count
-  long = fires-long ns (heads_at k) g.stands
+  long = fires_long ns (heads_at k) g.stands
 
-  chosen-now : chosen_heads (plan_by ns) 0 here.state ≡ picked ns (heads_at k) count picks
+  chosen_now : chosen_heads (plan_by ns) 0 here.state ≡ picked ns (heads_at k) count picks
   unfolding here
-  chosen-now = chose-here g sl q t next
+  chosen_now = chose_here g sl q t next
 
-  pub settling-end : count ≡ 0
+  pub settling_end : count ≡ 0
       → Ran (plan_settle (plan_by ns)) before at (record { number = 0; at = next })
       (record { active = a; slots = sl; vars = vs; queue = q; trace = t })
   unfolding here
-  settling-end z = record {
-    did = going.owes_none w.owes (settled (plan_by ns) here (picked ns (heads_at k) count picks) chosen-now
+  settling_end z = record {
+    did = going.owes_none w.owes (settled (plan_by ns) here (picked ns (heads_at k) count picks) chosen_now
         (NULL_STEPS - turns) (long ∙ z));
     slotted = λ y. w.slotted;
   }
 
   module _ (z : count ≡ 0 → ⊥) where
-    pub settling-full : turns ≡ NULL_STEPS
+    pub settling_full : turns ≡ NULL_STEPS
         → Ran (plan_settle (plan_by ns)) before at (record { number = 12; at = next })
         (record { active = a; slots = sl; vars = vs; queue = q; trace = t })
     unfolding went said here
-    settling-full e =
+    settling_full e =
         let n : NULL_STEPS - turns ≡ 0 = omega arith in
         record {
           did = record {
             does = λ l.
                 sym (ap (λ m. plan_settle_in (plan_by ns) m here) n
-                ∙ too_many (plan_by ns) here (picked ns (heads_at k) count picks) chosen-now (λ y. z (sym long ∙ y))) ∙ w.owes.gives l;
+                ∙ too_many (plan_by ns) here (picked ns (heads_at k) count picks) chosen_now (λ y. z (sym long ∙ y))) ∙ w.owes.gives l;
             fits = w.owes.fits;
             kept = w.owes.kept;
             whole = w.owes.whole;
@@ -154,19 +154,19 @@ module _ {ns : List ℤ} {k : Counts} {before : Lent} {at turns : ℕ} {a : List
       due =
           let l = w.few in
           let n : NULL_STEPS - turns ≡ suc (NULL_STEPS - (turns + 1)) = omega arith in
-          going.owes-as _ w.owes
+          going.owes_as _ w.owes
           (sym (ap (λ x. plan_settle_in (plan_by ns) x here) n
-          ∙ one_more (plan_by ns) here (picked ns (heads_at k) count picks) chosen-now (λ y. z (sym long
+          ∙ one_more (plan_by ns) here (picked ns (heads_at k) count picks) chosen_now (λ y. z (sym long
           ∙ y)) (NULL_STEPS - (turns + 1))))
 
-      pub settling-stop : (r.number ≡ 0 → ⊥) → Ran (plan_settle (plan_by ns)) before at r after
-      settling-stop y = record {
-        did = going.owes-stop (plan_settle_in (plan_by ns) (NULL_STEPS - (turns + 1))) due d.did y;
+      pub settling_stop : (r.number ≡ 0 → ⊥) → Ran (plan_settle (plan_by ns)) before at r after
+      settling_stop y = record {
+        did = going.owes_stop (plan_settle_in (plan_by ns) (NULL_STEPS - (turns + 1))) due d.did y;
         slotted = λ x. absurd (y x);
       }
 
-      pub settling-on : r.number ≡ 0 → Settling (plan_by ns) before at (turns + 1) after r.at
-      settling-on y =
+      pub settling_on : r.number ≡ 0 → Settling (plan_by ns) before at (turns + 1) after r.at
+      settling_on y =
           let l = w.few in
           record {
             owes = going.owes_on (plan_settle_in (plan_by ns) (NULL_STEPS - (turns + 1))) due d.did y;
@@ -180,5 +180,5 @@ pub settles_none : {ns : List ℤ} {k : Counts} {links : List ℕ} → Examined 
     → Ran (plan_settle (plan_by ns)) (record { active = a; slots = sl; vars = vs; queue = q; trace = t }) at
     (record { number = 0; at = at }) (record { active = a; slots = sl; vars = vs; queue = q; trace = t })
 settles_none x v l g =
-    settling-end (settling-begin g) {count = 0} {picks = replicate TRANSITIONS 0}
-    (chose-empty x {picks = replicate TRANSITIONS 0} (length-replicate {A = ℕ} TRANSITIONS 0) v (omega arith) l) refl
+    settling_end (settling_begin g) {count = 0} {picks = replicate TRANSITIONS 0}
+    (chose_empty x {picks = replicate TRANSITIONS 0} (length-replicate {A = ℕ} TRANSITIONS 0) v (omega arith) l) refl

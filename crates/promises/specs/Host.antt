@@ -13,7 +13,7 @@ use Rattle.meaning.specs.Rules.{failing_rule_of, verdict}
 use Rattle.meaning.specs.Text.{read, write, answer_of, written, lent_numbers, lent_bytes}
 use Rattle.meaning.specs.Compile.{compile_of, compiled, plan_lent}
 use Rattle.meaning.specs.WellFormed.{well_formed}
-use Rattle.meaning.specs.Calls.{Outcome, as_found, called, lent as lent-trace, unstarted, start_of, run_of, post_of, discard_of}
+use Rattle.meaning.specs.Calls.{Outcome, as_found, called, lent as lent_trace, unstarted, start_of, run_of, post_of, discard_of}
 use Rattle.meaning.specs.Machine.{machine_start, machine_run, machine_post, machine_discard}
 use Rattle.promises.specs.Promises.{plan_verdict}
 use Rattle.promises.specs.Replay.{items_of, replay, replayed}
@@ -39,7 +39,7 @@ pub record Ends (c : Called) (ns : List ℤ) (r : ℤ) (report after : List ℤ)
 -- a call on a widget that is lent n trace numbers too
 pub record Traces (o : Outcome) (ns : List ℤ) (n : ℕ) (r : ℤ) (report after trace : List ℤ) : Type 0 where
   pub ends : Ends (called o) ns r report after
-  pub lent : trace ≡ lent-trace n o
+  pub lent : trace ≡ lent_trace n o
 
 -- ---- charts, texts and plans
 

@@ -15,7 +15,7 @@ use Rattle.meaning.specs.WellFormed.{well_formed}
 use Rattle.meaning.specs.Machine.{machine_start, machine_run, machine_post, machine_discard}
 use Rattle.promises.specs.Replay.{items_of, replay, replayed}
 use Rattle.promises.specs.declared.Replayed.{Replayed}
-use Rattle.meaning.specs.Calls.{called, lent as lent-trace, unstarted, start_of, run_of, post_of, discard_of}
+use Rattle.meaning.specs.Calls.{called, lent as lent_trace, unstarted, start_of, run_of, post_of, discard_of}
 
 -- ---- the rules' check
 
@@ -43,11 +43,11 @@ pub record Unstarted (r : State) : Type 0 where
 
 pub record Started (v : List ℤ) (u : State) (trace : List ℤ) (r : Called) (after : List ℤ) : Type 0 where
   pub result : r ≡ called (start_of v u (length trace))
-  pub lent : after ≡ lent-trace (length trace) (start_of v u (length trace))
+  pub lent : after ≡ lent_trace (length trace) (start_of v u (length trace))
 
 pub record Ran (v : List ℤ) (u : State) (trace : List ℤ) (r : Called) (after : List ℤ) : Type 0 where
   pub result : r ≡ called (run_of v u (length trace))
-  pub lent : after ≡ lent-trace (length trace) (run_of v u (length trace))
+  pub lent : after ≡ lent_trace (length trace) (run_of v u (length trace))
 
 pub record Posted (v : List ℤ) (u : State) (event arg : ℤ) (r : Called) : Type 0 where
   pub result : r ≡ called (post_of v u event arg)
@@ -78,11 +78,11 @@ Planned ns = well_formed ns ≡ true
 
 pub record PlanStarted (ns : List ℤ) (u : State) (trace : List ℤ) (r : Called) (after : List ℤ) : Type 0 where
   pub result : r ≡ called (machine_start ns u (length trace))
-  pub lent : after ≡ lent-trace (length trace) (machine_start ns u (length trace))
+  pub lent : after ≡ lent_trace (length trace) (machine_start ns u (length trace))
 
 pub record PlanRan (ns : List ℤ) (u : State) (trace : List ℤ) (r : Called) (after : List ℤ) : Type 0 where
   pub result : r ≡ called (machine_run ns u (length trace))
-  pub lent : after ≡ lent-trace (length trace) (machine_run ns u (length trace))
+  pub lent : after ≡ lent_trace (length trace) (machine_run ns u (length trace))
 
 pub record PlanPosted (ns : List ℤ) (u : State) (event arg : ℤ) (r : Called) : Type 0 where
   pub result : r ≡ called (machine_post ns u event arg)

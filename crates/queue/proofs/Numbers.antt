@@ -15,7 +15,7 @@ use Rattle.queue.specs.declared.Item.{Item}
 use Rattle.queue.specs.declared.Queue.{Queue}
 use Rattle.queue.specs.Queue.{appended, removed, shifted, no_item, item}
 use Rattle.queue.proofs.Copy.{copied, copied_suc}
-use Rattle.queue.proofs.Waiting.{removed-front, removed-none}
+use Rattle.queue.proofs.Waiting.{removed_front, removed_none}
 use Rattle.queue.specs.Numbers.{QUEUE_NUMBERS, places, queue_by, item_numbers, told_length, numbers_of}
 
 -- ---- places
@@ -152,15 +152,15 @@ lend_all q ns i l h p =
     p ∙ rw (m, take_all QUEUE_NUMBERS (numbers_of q) (omega arith), append-nil)
 
 module _ (ns : List ℤ) (l : length ns ≡ QUEUE_NUMBERS) where
-  rest-long : length (places (drop 1 ns)) ≡ QUEUE
-  rest-long = places_long (drop 1 ns) QUEUE (rw length-drop (omega arith))
+  rest_long : length (places (drop 1 ns)) ≡ QUEUE
+  rest_long = places_long (drop 1 ns) QUEUE (rw length-drop (omega arith))
 
   -- one more place is read
   pub held_more : (ps : List Item) (i : ℕ) (e a : ℤ) → i < QUEUE → ps ≡ copied free (places (drop 1 ns)) i
       → e ≡ get_or ns (2 * i + 1) (pos 0) → a ≡ get_or ns (2 * i + 1 + 1) (pos 0)
       → set ps i (item e a) ≡ copied free (places (drop 1 ns)) (i + 1)
   held_more ps i e a h p f g =
-      let n = rest-long in
+      let n = rest_long in
       let r = length-replicate QUEUE no_item in
       let s : 1 + 2 * i ≡ 2 * i + 1 = omega arith in
       let t : 1 + suc (2 * i) ≡ 2 * i + 1 + 1 = omega arith in
@@ -174,7 +174,7 @@ module _ (ns : List ℤ) (l : length ns ≡ QUEUE_NUMBERS) where
       → ◌≡◌ {A = Queue} (record { len = n; items = ps }) (queue_by ns)
   unfolding queue_by
   held_all ps i n h p e =
-      let k = rest-long in
+      let k = rest_long in
       let all : ps ≡ places (drop 1 ns) = p ∙ rw (h, take_all QUEUE (places (drop 1 ns)) (omega arith), append-nil) in
       rw (e, all)
 
@@ -187,9 +187,9 @@ Appends ns e a done ms =
     × (length ns ≡ QUEUE_NUMBERS → queue_by ms ≡ (appended (queue_by ns) e a).queue)
 
 module _ (ns : List ℤ) (n : ℕ) (e a : ℤ) (l : n ≡ ref (get_or ns 0 (pos 0))) where
-  pub append-full : QUEUE ≤ n → Appends ns e a false ns
+  pub append_full : QUEUE ≤ n → Appends ns e a false ns
   unfolding appended queue_by
-  append-full h = let f = le-ltb (ref (get_or ns 0 (pos 0))) QUEUE (omega arith) in (rw f, refl, λ k. rw f)
+  append_full h = let f = le-ltb (ref (get_or ns 0 (pos 0))) QUEUE (omega arith) in (rw f, refl, λ k. rw f)
 
   module _ (h : n < QUEUE) where
     has_room : true ≡ (appended (queue_by ns) e a).done
@@ -268,13 +268,13 @@ places_shifted (x ∷ y ∷ t) l = places_append t (pos 0 ∷ pos 0 ∷ []) (QUE
 
 module _ (ns : List ℤ) (n : ℕ) (e : n ≡ ref (get_or ns 0 (pos 0))) where
   -- nothing waits, or the length is none
-  pub remove-none : n ≡ 0 → removed (queue_by ns) ≡ record { done = false; front = no_item; queue = queue_by ns }
+  pub remove_none : n ≡ 0 → removed (queue_by ns) ≡ record { done = false; front = no_item; queue = queue_by ns }
   unfolding queue_by
-  remove-none h = removed-none (queue_by ns) (sym e ∙ h)
+  remove_none h = removed_none (queue_by ns) (sym e ∙ h)
 
-  pub remove-over : QUEUE < n → removed (queue_by ns) ≡ record { done = false; front = no_item; queue = queue_by ns }
+  pub remove_over : QUEUE < n → removed (queue_by ns) ≡ record { done = false; front = no_item; queue = queue_by ns }
   unfolding removed queue_by
-  remove-over h = rw (← e, ne_eqb n 0 (λ z. omega arith), lt-ltb QUEUE n h)
+  remove_over h = rw (← e, ne_eqb n 0 (λ z. omega arith), lt-ltb QUEUE n h)
 
 pub remove_on : (ns now : List ℤ) (n i : ℕ) → n ≡ ref (get_or ns 0 (pos 0)) → length ns ≡ QUEUE_NUMBERS → (n ≡ 0 → ⊥) → n ≤ QUEUE
     → i ≡ QUEUE_NUMBERS - 2 → now ≡ slid ns i
@@ -287,7 +287,7 @@ unfolding queue_by
 remove_on [] now n i e l z h j p = absurd (omega arith)
 remove_on (x ∷ t) now n i e l z h j p =
     rw (
-      removed-front (queue_by (x ∷ t)) (omega arith) (omega arith),
+      removed_front (queue_by (x ∷ t)) (omega arith) (omega arith),
       p,
       j,
       slid_out t (2 * QUEUE - 2) (omega arith),

@@ -16,7 +16,7 @@ use Rattle.sizes.specs.Sizes.{QUEUE}
 use Rattle.queue.specs.declared.Item.{Item}
 use Rattle.queue.specs.declared.Queue.{Queue}
 use Rattle.queue.specs.Queue.{appended, removed, shifted, no_item, item, waiting, empty_queue, queue_of}
-use Rattle.queue.proofs.Waiting.{appended-room, appended-full, removed-front, removed-none}
+use Rattle.queue.proofs.Waiting.{appended_room, appended_full, removed_front, removed_none}
 
 pub waiting_of : (w : List Item) → waiting (queue_of w) ≡ w
 unfolding queue_of
@@ -40,7 +40,7 @@ unfolding queue_of
 appended_of w e a h =
     let l : length (w ++ (item e a ∷ [])) ≡ length w + 1 = length-append w (item e a ∷ []) in
     rw (
-      appended-room (queue_of w) e a h,
+      appended_room (queue_of w) e a h,
       l,
       stored w (item e a) no_item (QUEUE - length w) (QUEUE - (length w + 1)) (omega arith),
     )
@@ -48,7 +48,7 @@ appended_of w e a h =
 pub appended_of_full : (w : List Item) (e a : ℤ)
     → QUEUE ≤ length w → appended (queue_of w) e a ≡ record { done = false; queue = queue_of w }
 unfolding queue_of
-appended_of_full w e a h = appended-full (queue_of w) e a h
+appended_of_full w e a h = appended_full (queue_of w) e a h
 
 -- a removal takes the first, and frees the last place
 freed : (w : List Item) (z : Item) (n m : ℕ) → m ≡ n + 1 → (w ++ replicate n z) ++ (z ∷ []) ≡ w ++ replicate m z
@@ -60,14 +60,14 @@ unfolding queue_of
 removed_of x w h =
     let n : suc (length w) - 1 ≡ length w = omega arith in
     rw (
-      removed-front (queue_of (x ∷ w)) (omega arith) (omega arith),
+      removed_front (queue_of (x ∷ w)) (omega arith) (omega arith),
       freed w no_item (QUEUE - suc (length w)) (QUEUE - length w) (omega arith),
       n,
     )
 
 pub removed_of_none : removed (queue_of []) ≡ record { done = false; front = no_item; queue = queue_of [] }
 unfolding queue_of
-removed_of_none = removed-none (queue_of []) refl
+removed_of_none = removed_none (queue_of []) refl
 
 -- a queue whose places not in use are free is the one of what waits
 pub tidy_is : (q : Queue) → q.len ≤ QUEUE → length q.items ≡ QUEUE → drop q.len q.items ≡ replicate (QUEUE - q.len) no_item
@@ -79,21 +79,21 @@ tidy_is q h l t =
 
 -- on every queue the number of places stays
 module _ (q : Queue) where
-  pub appended-long : (e a : ℤ) → length (appended q e a).queue.items ≡ length q.items
-  appended-long e a = go (ltb q.len QUEUE) refl
+  pub appended_long : (e a : ℤ) → length (appended q e a).queue.items ≡ length q.items
+  appended_long e a = go (ltb q.len QUEUE) refl
     where
       go : (t : Bool) → ltb q.len QUEUE ≡ t → length (appended q e a).queue.items ≡ length q.items
-      go true t = rw (appended-room q e a (ltb-true q.len QUEUE t)) (length-set q.items q.len (item e a))
-      go false t = rw (appended-full q e a (ltb-false q.len QUEUE t))
+      go true t = rw (appended_room q e a (ltb-true q.len QUEUE t)) (length-set q.items q.len (item e a))
+      go false t = rw (appended_full q e a (ltb-false q.len QUEUE t))
 
-  shifted-long : 0 < length q.items → length (shifted q.items) ≡ length q.items
-  shifted-long h = simp (length-append, length-drop) (omega arith)
+  shifted_long : 0 < length q.items → length (shifted q.items) ≡ length q.items
+  shifted_long h = simp (length-append, length-drop) (omega arith)
 
-  pub removed-long : 0 < length q.items → length (removed q).queue.items ≡ length q.items
+  pub removed_long : 0 < length q.items → length (removed q).queue.items ≡ length q.items
   unfolding removed
-  removed-long h = go (eqb q.len 0) (ltb QUEUE q.len) refl refl
+  removed_long h = go (eqb q.len 0) (ltb QUEUE q.len) refl refl
     where
       go : (s t : Bool) → eqb q.len 0 ≡ s → ltb QUEUE q.len ≡ t → length (removed q).queue.items ≡ length q.items
       go true t e f = rw e
       go false true e f = rw (e, f)
-      go false false e f = rw (e, f) (shifted-long h)
+      go false false e f = rw (e, f) (shifted_long h)

@@ -21,18 +21,18 @@ empty_waits = refl
 
 -- an append to a queue with room, and to one without
 module _ (q : Queue) (e a : ℤ) where
-  pub appended-room : q.len < QUEUE
+  pub appended_room : q.len < QUEUE
       → appended q e a ≡ record { done = true; queue = record { len = q.len + 1; items = set q.items q.len (item e a) } }
   unfolding appended
-  appended-room h = rw (lt-ltb q.len QUEUE h)
+  appended_room h = rw (lt-ltb q.len QUEUE h)
 
-  pub appended-full : QUEUE ≤ q.len → appended q e a ≡ record { done = false; queue = q }
+  pub appended_full : QUEUE ≤ q.len → appended q e a ≡ record { done = false; queue = q }
   unfolding appended
-  appended-full h = rw (le-ltb q.len QUEUE h)
+  appended_full h = rw (le-ltb q.len QUEUE h)
 
-  pub appended-waits : q.len < QUEUE → length q.items ≡ QUEUE → waiting (appended q e a).queue ≡ waiting q ++ (item e a ∷ [])
+  pub appended_waits : q.len < QUEUE → length q.items ≡ QUEUE → waiting (appended q e a).queue ≡ waiting q ++ (item e a ∷ [])
   unfolding appended
-  appended-waits h l = rw (lt-ltb q.len QUEUE h, add-one) (take-suc-set q.items q.len (item e a) (omega arith))
+  appended_waits h l = rw (lt-ltb q.len QUEUE h, add-one) (take-suc-set q.items q.len (item e a) (omega arith))
 
 take_drop : (n : ℕ) (l : List Item) → take n (drop 1 l) ≡ drop 1 (take (suc n) l)
 take_drop n [] = take-nil n
@@ -45,29 +45,29 @@ front_first (suc n) (x ∷ l) h k = refl
 
 -- a removal from a queue in which something waits, and from one in which nothing does
 module _ (q : Queue) where
-  pub removed-front : 0 < q.len → q.len ≤ QUEUE
+  pub removed_front : 0 < q.len → q.len ≤ QUEUE
       → removed q ≡ record {
         done = true;
         front = get_or q.items 0 no_item;
         queue = record { len = q.len - 1; items = shifted q.items };
       }
   unfolding removed
-  removed-front h k = rw (ne_eqb q.len 0 (λ e. omega arith), le-ltb QUEUE q.len k)
+  removed_front h k = rw (ne_eqb q.len 0 (λ e. omega arith), le-ltb QUEUE q.len k)
 
-  pub removed-none : q.len ≡ 0 → removed q ≡ record { done = false; front = no_item; queue = q }
+  pub removed_none : q.len ≡ 0 → removed q ≡ record { done = false; front = no_item; queue = q }
   unfolding removed
-  removed-none h = rw (eq-eqb q.len 0 h)
+  removed_none h = rw (eq-eqb q.len 0 h)
 
-  pub removed-waits : 0 < q.len → q.len ≤ QUEUE → length q.items ≡ QUEUE → waiting (removed q).queue ≡ drop 1 (waiting q)
+  pub removed_waits : 0 < q.len → q.len ≤ QUEUE → length q.items ≡ QUEUE → waiting (removed q).queue ≡ drop 1 (waiting q)
   unfolding removed
-  removed-waits h k l =
+  removed_waits h k l =
       let s : suc (q.len - 1) ≡ q.len = omega arith in
       rw (ne_eqb q.len 0 (λ e. omega arith), le-ltb QUEUE q.len k)
       (take-append-le (q.len - 1) (drop 1 q.items) (no_item ∷ []) (rw length-drop (omega arith))
       ∙ take_drop (q.len - 1) q.items ∙ rw s)
 
   -- what waited is the front that was handed out, and then what waits now
-  pub removed-splits : 0 < q.len → q.len ≤ QUEUE → length q.items ≡ QUEUE
+  pub removed_splits : 0 < q.len → q.len ≤ QUEUE → length q.items ≡ QUEUE
       → waiting q ≡ (removed q).front ∷ waiting (removed q).queue
-  removed-splits h k l =
-      rw (removed-waits h k l, removed-front h k) (front_first q.len q.items h (omega arith))
+  removed_splits h k l =
+      rw (removed_waits h k l, removed_front h k) (front_first q.len q.items h (omega arith))

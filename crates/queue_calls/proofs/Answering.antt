@@ -19,41 +19,41 @@ use Rattle.queue_calls.specs.Parts.{quiet}
 -- ---- a test that is met, or not
 
 module _ (n : ℕ) {b : Bool} (E : Step Ctx) (k : Ctx) where
-  require-no : b ≡ false → (require n b then E) k ≡ refuse n
+  require_no : b ≡ false → (require n b then E) k ≡ refuse n
   unfolding require ◌then◌ bind
-  require-no e = rw e
+  require_no e = rw e
 
-  require-on : b ≡ true → (require n b then E) k ≡ E k
+  require_on : b ≡ true → (require n b then E) k ≡ E k
   unfolding require ◌then◌ bind
-  require-on e = rw e
+  require_on e = rw e
 
 -- ---- "then 7, 6"
 
 module _ {s : Bool} (o : Bool) (E : Step Ctx) (k : Ctx) where
-  gate-7 : s ≡ false → ((require 7 s then require 6 o) then E) k ≡ refuse 7
+  gate_7 : s ≡ false → ((require 7 s then require 6 o) then E) k ≡ refuse 7
   unfolding require ◌then◌ bind
-  gate-7 e = rw e
+  gate_7 e = rw e
 
-  gate-6 : s ≡ true → o ≡ false → ((require 7 s then require 6 o) then E) k ≡ refuse 6
+  gate_6 : s ≡ true → o ≡ false → ((require 7 s then require 6 o) then E) k ≡ refuse 6
   unfolding require ◌then◌ bind
-  gate-6 e f = rw (e, f)
+  gate_6 e f = rw (e, f)
 
-  gate-on : s ≡ true → o ≡ true → ((require 7 s then require 6 o) then E) k ≡ E k
+  gate_on : s ≡ true → o ≡ true → ((require 7 s then require 6 o) then E) k ≡ E k
   unfolding require ◌then◌ bind
-  gate-on e f = rw (e, f)
+  gate_on e f = rw (e, f)
 
 module _ (c : Chart) (u : State) (E : Step Ctx) (k : Ctx) where
-  pub tests-7 : u.started ≡ false → (tests c u then E) k ≡ refuse 7
+  pub tests_7 : u.started ≡ false → (tests c u then E) k ≡ refuse 7
   unfolding tests
-  tests-7 e = gate-7 (own c u) E k e
+  tests_7 e = gate_7 (own c u) E k e
 
-  pub tests-6 : u.started ≡ true → own c u ≡ false → (tests c u then E) k ≡ refuse 6
+  pub tests_6 : u.started ≡ true → own c u ≡ false → (tests c u then E) k ≡ refuse 6
   unfolding tests
-  tests-6 e f = gate-6 (own c u) E k e f
+  tests_6 e f = gate_6 (own c u) E k e f
 
-  pub tests-on : u.started ≡ true → own c u ≡ true → (tests c u then E) k ≡ E k
+  pub tests_on : u.started ≡ true → own c u ≡ true → (tests c u then E) k ≡ E k
   unfolding tests
-  tests-on e f = gate-on (own c u) E k e f
+  tests_on e f = gate_on (own c u) E k e f
 
 -- ---- the outcome
 
@@ -73,54 +73,54 @@ module _ (c : Chart) (u : State) where
     rest : Step Ctx
     rest = require 10 (event_fits c.events e a) then enqueue e a
 
-    pub post-7 : u.started ≡ false → called (as_found 7 0 u) ≡ called (post c u e a)
+    pub post_7 : u.started ≡ false → called (as_found 7 0 u) ≡ called (post c u e a)
     unfolding post rest
-    post-7 s = refusing u (tests-7 c u rest (begin u 0) s)
+    post_7 s = refusing u (tests_7 c u rest (begin u 0) s)
 
     module _ (s : u.started ≡ true) where
-      pub post-6 : own c u ≡ false → called (as_found 6 0 u) ≡ called (post c u e a)
+      pub post_6 : own c u ≡ false → called (as_found 6 0 u) ≡ called (post c u e a)
       unfolding post rest
-      post-6 o = refusing u (tests-6 c u rest (begin u 0) s o)
+      post_6 o = refusing u (tests_6 c u rest (begin u 0) s o)
 
       module _ (o : own c u ≡ true) {n : ℕ} (k : n ≡ c.events) where
-        pub post-10 : event_fits n e a ≡ false → called (as_found 10 0 u) ≡ called (post c u e a)
+        pub post_10 : event_fits n e a ≡ false → called (as_found 10 0 u) ≡ called (post c u e a)
         unfolding post rest
-        post-10 f = refusing u
-            (tests-on c u rest (begin u 0) s o ∙ require-no 10 (enqueue e a) (begin u 0) (ap (λ x. event_fits x e a) (sym k) ∙ f))
+        post_10 f = refusing u
+            (tests_on c u rest (begin u 0) s o ∙ require_no 10 (enqueue e a) (begin u 0) (ap (λ x. event_fits x e a) (sym k) ∙ f))
 
         module _ (f : event_fits n e a ≡ true) {q : Queued} (g : q ≡ appended u.queue e a) where
-          to-queue : (tests c u then rest) (begin u 0) ≡ take_queue q (begin u 0)
+          to_queue : (tests c u then rest) (begin u 0) ≡ take_queue q (begin u 0)
           unfolding rest enqueue look begin
-          to-queue =
-              tests-on c u rest (begin u 0) s o
-              ∙ require-on 10 (enqueue e a) (begin u 0) (ap (λ x. event_fits x e a) (sym k) ∙ f)
+          to_queue =
+              tests_on c u rest (begin u 0) s o
+              ∙ require_on 10 (enqueue e a) (begin u 0) (ap (λ x. event_fits x e a) (sym k) ∙ f)
               ∙ ap (λ x. take_queue x (begin u 0)) (sym g)
 
-          pub post-9 : q.done ≡ false → called (as_found 9 0 u) ≡ called (post c u e a)
+          pub post_9 : q.done ≡ false → called (as_found 9 0 u) ≡ called (post c u e a)
           unfolding post rest take_queue
-          post-9 d = refusing u (to-queue ∙ require-no 9 (change (set_queue q.queue)) (begin u 0) d)
+          post_9 d = refusing u (to_queue ∙ require_no 9 (change (set_queue q.queue)) (begin u 0) d)
 
-          pub post-0 : q.done ≡ true → called (quiet (set_queue q.queue u)) ≡ called (post c u e a)
+          pub post_0 : q.done ≡ true → called (quiet (set_queue q.queue u)) ≡ called (post c u e a)
           unfolding post rest take_queue
-          post-0 d = ending u q.queue (to-queue ∙ require-on 9 (change (set_queue q.queue)) (begin u 0) d)
+          post_0 d = ending u q.queue (to_queue ∙ require_on 9 (change (set_queue q.queue)) (begin u 0) d)
 
-  pub discard-7 : u.started ≡ false → called (as_found 7 0 u) ≡ called (discard c u)
+  pub discard_7 : u.started ≡ false → called (as_found 7 0 u) ≡ called (discard c u)
   unfolding discard
-  discard-7 s = refusing u (tests-7 c u (take_front (removed u.queue)) (begin u 0) s)
+  discard_7 s = refusing u (tests_7 c u (take_front (removed u.queue)) (begin u 0) s)
 
   module _ (s : u.started ≡ true) where
-    pub discard-6 : own c u ≡ false → called (as_found 6 0 u) ≡ called (discard c u)
+    pub discard_6 : own c u ≡ false → called (as_found 6 0 u) ≡ called (discard c u)
     unfolding discard
-    discard-6 o = refusing u (tests-6 c u (take_front (removed u.queue)) (begin u 0) s o)
+    discard_6 o = refusing u (tests_6 c u (take_front (removed u.queue)) (begin u 0) s o)
 
     module _ (o : own c u ≡ true) {r : Removed} (g : r ≡ removed u.queue) where
       to_front : (tests c u then take_front (removed u.queue)) (begin u 0) ≡ take_front r (begin u 0)
-      to_front = tests-on c u (take_front (removed u.queue)) (begin u 0) s o ∙ ap (λ x. take_front x (begin u 0)) (sym g)
+      to_front = tests_on c u (take_front (removed u.queue)) (begin u 0) s o ∙ ap (λ x. take_front x (begin u 0)) (sym g)
 
-      pub discard-8 : r.done ≡ false → called (as_found 8 0 u) ≡ called (discard c u)
+      pub discard_8 : r.done ≡ false → called (as_found 8 0 u) ≡ called (discard c u)
       unfolding discard take_front
-      discard-8 d = refusing u (to_front ∙ require-no 8 (change (set_queue r.queue)) (begin u 0) d)
+      discard_8 d = refusing u (to_front ∙ require_no 8 (change (set_queue r.queue)) (begin u 0) d)
 
-      pub discard-0 : r.done ≡ true → called (quiet (set_queue r.queue u)) ≡ called (discard c u)
+      pub discard_0 : r.done ≡ true → called (quiet (set_queue r.queue u)) ≡ called (discard c u)
       unfolding discard take_front
-      discard-0 d = ending u r.queue (to_front ∙ require-on 8 (change (set_queue r.queue)) (begin u 0) d)
+      discard_0 d = ending u r.queue (to_front ∙ require_on 8 (change (set_queue r.queue)) (begin u 0) d)

@@ -14,15 +14,15 @@ use Rattle.numbers.specs.Place.{place_of}
 use Rattle.numbers.specs.declared.Place.{Place}
 use Rattle.meaning.specs.declared.State.{State}
 use Rattle.meaning.specs.declared.chart.Kind.{Kind}
-use Rattle.meaning.specs.declared.chart.Kind.TheVariants.{O as kind-o, A as kind-a, B as kind-b}
+use Rattle.meaning.specs.declared.chart.Kind.TheVariants.{O as kind_o, A as kind_a, B as kind_b}
 use Rattle.meaning.specs.Lists.{every, keep, from}
 use Rattle.meaning.specs.Chart.{Chart}
 use Rattle.meaning.specs.Tree.{parent_of, kind_of, is_o, all_states, is_child, children}
 use Rattle.meaning.specs.Widget.{slot, is_filled}
 use Rattle.meaning.specs.Foreign.{leads_on, slot_fits, slots_fit}
-use Rattle.tree.proofs.Climb.{child-below}
+use Rattle.tree.proofs.Climb.{child_below}
 use Rattle.queue_calls.specs.Parts.{leads_if, slot_if, slots_if, is_at, in_slot_as, in_slot, Completes}
-use Rattle.queue_calls.proofs.Kept.{kept-skip, kept-none, pass-skip, pass-more, pass-no, pass-done}
+use Rattle.queue_calls.proofs.Kept.{kept_skip, kept_none, pass_skip, pass_more, pass_no, pass_done}
 use Rattle.queue_calls.proofs.Slots.{get_d_any}
 
 and_then : (a : Bool) {b d : Bool} → (b ≡ true → d ≡ true) → (a && b) ≡ true → (a && d) ≡ true
@@ -38,19 +38,19 @@ and_no true e = e
 and_no false e = refl
 
 module _ {A : Type 0} (p q : A → Bool) where
-  every-then : ((x : A) → p x ≡ true → q x ≡ true) → (xs : List A) → every p xs ≡ true → every q xs ≡ true
+  every_then : ((x : A) → p x ≡ true → q x ≡ true) → (xs : List A) → every p xs ≡ true → every q xs ≡ true
   unfolding every
-  every-then f [] e = refl
-  every-then f (x ∷ xs) e = go (p x) refl (every-then f xs) e
+  every_then f [] e = refl
+  every_then f (x ∷ xs) e = go (p x) refl (every_then f xs) e
     where
       go : (a : Bool) → p x ≡ a → (every p xs ≡ true → every q xs ≡ true) → (a && every p xs) ≡ true → (q x && every q xs) ≡ true
       go true t r h = rw (f x t) (r h)
       go false t r h = absurd (false≢true h)
 
-  every-alike : ((x : A) → p x ≡ q x) → (xs : List A) → every p xs ≡ every q xs
+  every_alike : ((x : A) → p x ≡ q x) → (xs : List A) → every p xs ≡ every q xs
   unfolding every
-  every-alike e [] = refl
-  every-alike e (x ∷ xs) = rw (e x, every-alike e xs)
+  every_alike e [] = refl
+  every_alike e (x ∷ xs) = rw (e x, every_alike e xs)
 
 every_fails : (p : ℕ → Bool) (a n i : ℕ) → i < n → p (a + i) ≡ false → every p (from a n) ≡ false
 unfolding every from
@@ -78,62 +78,62 @@ module _ (c : Chart) (u : State) where
 
   -- ---- a slot that fits without a look at components fits
 
-  leads-then : (k : Kind) (d : ℕ) → leads_if false u k d ≡ true → leads_on c u k d ≡ true
+  leads_then : (k : Kind) (d : ℕ) → leads_if false u k d ≡ true → leads_on c u k d ≡ true
   unfolding leads_if leads_on
-  leads-then kind-o d e = e
-  leads-then kind-a d e = absurd (false≢true e)
-  leads-then kind-b d e = refl
+  leads_then kind_o d e = e
+  leads_then kind_a d e = absurd (false≢true e)
+  leads_then kind_b d e = refl
 
-  slot-then : (s : ℕ) (x : ℤ) → slot_if false c u s x ≡ true → slot_fits c u s x ≡ true
+  slot_then : (s : ℕ) (x : ℤ) → slot_if false c u s x ≡ true → slot_fits c u s x ≡ true
   unfolding slot_if slot_fits
-  slot-then s (pos d) e =
-      and_then (ltb d (length c.states)) (and_then (is_o (kind_of c s)) (and_then (is_child c s d) (leads-then (kind_of c d) d))) e
-  slot-then s (negsuc n) e = e
+  slot_then s (pos d) e =
+      and_then (ltb d (length c.states)) (and_then (is_o (kind_of c s)) (and_then (is_child c s d) (leads_then (kind_of c d) d))) e
+  slot_then s (negsuc n) e = e
 
-  pub fit-without : slots_if false c u ≡ true → true ≡ slots_fit c u
+  pub fit_without : slots_if false c u ≡ true → true ≡ slots_fit c u
   unfolding slots_if slots_fit
-  fit-without e = sym (every-then _ _ (λ s. slot-then s (get_or u.slots s (negsuc 0))) (from 0 STATES) e)
+  fit_without e = sym (every_then _ _ (λ s. slot_then s (get_or u.slots s (negsuc 0))) (from 0 STATES) e)
 
   -- ---- where all are filled
 
-  leads-alike : (k : Kind) (d : ℕ) → (k ≡ kind-a → full d ≡ true) → leads_if true u k d ≡ leads_on c u k d
+  leads_alike : (k : Kind) (d : ℕ) → (k ≡ kind_a → full d ≡ true) → leads_if true u k d ≡ leads_on c u k d
   unfolding leads_if leads_on
-  leads-alike kind-o d f = refl
-  leads-alike kind-a d f = sym (f refl)
-  leads-alike kind-b d f = refl
+  leads_alike kind_o d f = refl
+  leads_alike kind_a d f = sym (f refl)
+  leads_alike kind_b d f = refl
 
-  slot-alike : (s : ℕ) (x : ℤ) → ((d : ℕ) → x ≡ pos d → is_child c s d ≡ true → kind_of c d ≡ kind-a → full d ≡ true)
+  slot_alike : (s : ℕ) (x : ℤ) → ((d : ℕ) → x ≡ pos d → is_child c s d ≡ true → kind_of c d ≡ kind_a → full d ≡ true)
       → slot_if true c u s x ≡ slot_fits c u s x
   unfolding slot_if slot_fits
-  slot-alike s (pos d) f = and_alike (ltb d (length c.states)) (λ _. and_alike (is_o (kind_of c s)) (λ _. and_alike (is_child c s d)
-      (λ m. leads-alike (kind_of c d) d (f d refl m))))
-  slot-alike s (negsuc n) f = refl
+  slot_alike s (pos d) f = and_alike (ltb d (length c.states)) (λ _. and_alike (is_o (kind_of c s)) (λ _. and_alike (is_child c s d)
+      (λ m. leads_alike (kind_of c d) d (f d refl m))))
+  slot_alike s (negsuc n) f = refl
 
   parent_is : (s d : ℕ) → is_child c s d ≡ true → parent_of c d ≡ s
   unfolding is_child
   parent_is s zero e = absurd (false≢true e)
   parent_is s (suc n) e = eqb-true (parent_of c (suc n)) s e
 
-  held-child : (s d : ℕ) → get_or u.slots s (negsuc 0) ≡ pos d → is_child c s d ≡ true → kind_of c d ≡ kind-a → in_slot c u d ≡ true
+  held_child : (s d : ℕ) → get_or u.slots s (negsuc 0) ≡ pos d → is_child c s d ≡ true → kind_of c d ≡ kind_a → in_slot c u d ≡ true
   unfolding in_slot in_slot_as slot is_at
-  held-child s d e m k = rw (k, parent_is s d m, e) (eq-eqb d d refl)
+  held_child s d e m k = rw (k, parent_is s d m, e) (eq-eqb d d refl)
 
-  all-full : ((p : ℕ) → in_slot c u p ≡ true → full p ≡ true) → slots_if true c u ≡ slots_fit c u
+  all_full : ((p : ℕ) → in_slot c u p ≡ true → full p ≡ true) → slots_if true c u ≡ slots_fit c u
   unfolding slots_if slots_fit
-  all-full f = every-alike _ _ (λ s. slot-alike s (get_or u.slots s (negsuc 0)) (λ d e m k. f d (held-child s d e m k))) (from 0 STATES)
+  all_full f = every_alike _ _ (λ s. slot_alike s (get_or u.slots s (negsuc 0)) (λ d e m k. f d (held_child s d e m k))) (from 0 STATES)
 
-  pub fit-with : (r : Bool) {b : Bool} → Completes c u r → r ≡ true → b ≡ slots_if true c u → b ≡ slots_fit c u
-  fit-with r h t e = e ∙ sym (ap (λ x. x && slots_if true c u) t) ∙ h
+  pub fit_with : (r : Bool) {b : Bool} → Completes c u r → r ≡ true → b ≡ slots_if true c u → b ≡ slots_fit c u
+  fit_with r h t e = e ∙ sym (ap (λ x. x && slots_if true c u) t) ∙ h
 
   -- ---- where one is empty
 
-  pub fit-not : (r : Bool) → Completes c u r → r ≡ false → false ≡ slots_fit c u
-  fit-not r h t = sym (ap (λ x. x && slots_if true c u) t) ∙ h
+  pub fit_not : (r : Bool) → Completes c u r → r ≡ false → false ≡ slots_fit c u
+  fit_not r h t = sym (ap (λ x. x && slots_if true c u) t) ∙ h
 
-  at-pos : (p : ℕ) (x : ℤ) → is_at p (place_of x) ≡ true → x ≡ pos p
+  at_pos : (p : ℕ) (x : ℤ) → is_at p (place_of x) ≡ true → x ≡ pos p
   unfolding is_at
-  at-pos p (pos q) e = ap pos (eqb-true q p e)
-  at-pos p (negsuc n) e = absurd (false≢true e)
+  at_pos p (pos q) e = ap pos (eqb-true q p e)
+  at_pos p (negsuc n) e = absurd (false≢true e)
 
   inside : (s p : ℕ) → get_or u.slots s (negsuc 0) ≡ pos p → s < length u.slots
   inside s p e = go (ltb s (length u.slots)) refl
@@ -151,11 +151,11 @@ module _ (c : Chart) (u : State) where
   not_full l p h f = go (kind_of c p) refl h
     where
       go : (k : Kind) → kind_of c p ≡ k → in_slot_as c u k p ≡ true → false ≡ slots_fit c u
-      go kind-o m t = absurd (false≢true t)
-      go kind-b m t = absurd (false≢true t)
-      go kind-a m t =
+      go kind_o m t = absurd (false≢true t)
+      go kind_b m t = absurd (false≢true t)
+      go kind_a m t =
           let s = parent_of c p in
-          let e : get_or u.slots s (negsuc 0) ≡ pos p = at-pos p (get_or u.slots s (negsuc 0)) t in
+          let e : get_or u.slots s (negsuc 0) ≡ pos p = at_pos p (get_or u.slots s (negsuc 0)) t in
           let n : s < length u.slots = inside s p e in
           let z : 0 + s ≡ s = omega arith in
           sym (every_fails (λ i. slot_fits c u i (get_or u.slots i (negsuc 0))) 0 STATES s (omega arith)
@@ -167,35 +167,35 @@ module _ (c : Chart) (u : State) where
   abbrev pub Leading : ℕ → ℕ → Type 0
   Leading n d = (p : ℕ) → in_slot c u p ≡ true → every (λ x. is_filled (slot u x)) (keep (is_child c p) (drop d (from 0 n))) ≡ full p
 
-  pub leading-start : {n : ℕ} → n ≡ length c.states → Leading n 1
+  pub leading_start : {n : ℕ} → n ≡ length c.states → Leading n 1
   unfolding children all_states is_child
-  leading-start {n} e p h = ap (every (λ x. is_filled (slot u x))) (go (ltb 0 n) refl ∙ ap (λ m. keep (is_child c p) (from 0 m)) e)
+  leading_start {n} e p h = ap (every (λ x. is_filled (slot u x))) (go (ltb 0 n) refl ∙ ap (λ m. keep (is_child c p) (from 0 m)) e)
     where
       go : (b : Bool) → ltb 0 n ≡ b → keep (is_child c p) (drop 1 (from 0 n)) ≡ keep (is_child c p) (from 0 n)
-      go true t = sym (kept-skip (is_child c p) n 0 (ltb-true 0 n t) refl)
-      go false t = kept-none (is_child c p) n 1 (omega (arith, ltb-false 0 n t)) ∙ sym (kept-none (is_child c p) n 0 (ltb-false 0 n t))
+      go true t = sym (kept_skip (is_child c p) n 0 (ltb-true 0 n t) refl)
+      go false t = kept_none (is_child c p) n 1 (omega (arith, ltb-false 0 n t)) ∙ sym (kept_none (is_child c p) n 0 (ltb-false 0 n t))
 
   module _ {n d : ℕ} (w : Leading n d) where
-    pub leading-filled : d < n → is_filled (slot u d) ≡ true → Leading n (d + 1)
-    leading-filled l f p h = go (is_child c p d) refl
+    pub leading_filled : d < n → is_filled (slot u d) ≡ true → Leading n (d + 1)
+    leading_filled l f p h = go (is_child c p d) refl
       where
         go : (b : Bool) → is_child c p d ≡ b → every (λ x. is_filled (slot u x)) (keep (is_child c p) (drop (d + 1) (from 0 n))) ≡ full p
-        go true t = pass-more (λ x. is_filled (slot u x)) (is_child c p) n d (w p h) l t f
-        go false t = pass-skip (λ x. is_filled (slot u x)) (is_child c p) n d (w p h) l t
+        go true t = pass_more (λ x. is_filled (slot u x)) (is_child c p) n d (w p h) l t f
+        go false t = pass_skip (λ x. is_filled (slot u x)) (is_child c p) n d (w p h) l t
 
-    pub leading-free : d < n → in_slot c u (parent_of c d) ≡ false → Leading n (d + 1)
-    leading-free l f p h = go (is_child c p d) refl
+    pub leading_free : d < n → in_slot c u (parent_of c d) ≡ false → Leading n (d + 1)
+    leading_free l f p h = go (is_child c p d) refl
       where
         go : (b : Bool) → is_child c p d ≡ b → every (λ x. is_filled (slot u x)) (keep (is_child c p) (drop (d + 1) (from 0 n))) ≡ full p
         go true t = absurd (false≢true (sym f ∙ ap (in_slot c u) (parent_is p d t) ∙ h))
-        go false t = pass-skip (λ x. is_filled (slot u x)) (is_child c p) n d (w p h) l t
+        go false t = pass_skip (λ x. is_filled (slot u x)) (is_child c p) n d (w p h) l t
 
-    pub leading-empty : length u.slots ≡ STATES → d < n → (d ≡ 0 → ⊥) → in_slot c u (parent_of c d) ≡ true → is_filled (slot u d) ≡ false
+    pub leading_empty : length u.slots ≡ STATES → d < n → (d ≡ 0 → ⊥) → in_slot c u (parent_of c d) ≡ true → is_filled (slot u d) ≡ false
         → Completes c u false
-    leading-empty m l z h f =
+    leading_empty m l z h f =
         let p = parent_of c d in
-        not_full m p h (sym (pass-no (λ x. is_filled (slot u x)) (is_child c p) n d (w p h) l
-        (child-below c p d z ∙ eq-eqb p p refl) f))
+        not_full m p h (sym (pass_no (λ x. is_filled (slot u x)) (is_child c p) n d (w p h) l
+        (child_below c p d z ∙ eq-eqb p p refl) f))
 
-    pub leading-done : n ≤ d → Completes c u true
-    leading-done l = all-full (λ p h. sym (pass-done (λ x. is_filled (slot u x)) (is_child c p) n d (w p h) l))
+    pub leading_done : n ≤ d → Completes c u true
+    leading_done l = all_full (λ p h. sym (pass_done (λ x. is_filled (slot u x)) (is_child c p) n d (w p h) l))

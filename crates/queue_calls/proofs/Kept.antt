@@ -24,15 +24,15 @@ module _ (q : ℕ → Bool) (n d : ℕ) where
       let l : d < length (from 0 n) = rw (length_from 0 n) h in
       rw (add-one d, drop-cons (from 0 n) d 0 l, upto_at n d 0 h)
 
-  pub kept-skip : d < n → q d ≡ false → kept_from ≡ keep q (drop (d + 1) (from 0 n))
-  kept-skip h e = kept_at h ∙ rw e
+  pub kept_skip : d < n → q d ≡ false → kept_from ≡ keep q (drop (d + 1) (from 0 n))
+  kept_skip h e = kept_at h ∙ rw e
 
-  pub kept-take : d < n → q d ≡ true → kept_from ≡ d ∷ keep q (drop (d + 1) (from 0 n))
-  kept-take h e = kept_at h ∙ rw e
+  pub kept_take : d < n → q d ≡ true → kept_from ≡ d ∷ keep q (drop (d + 1) (from 0 n))
+  kept_take h e = kept_at h ∙ rw e
 
-  pub kept-none : n ≤ d → kept_from ≡ []
+  pub kept_none : n ≤ d → kept_from ≡ []
   unfolding keep
-  kept-none h = let l : length (from 0 n) ≤ d = rw (length_from 0 n) h in rw (drop_of_length-le (from 0 n) l)
+  kept_none h = let l : length (from 0 n) ≤ d = rw (length_from 0 n) h in rw (drop_of_length-le (from 0 n) l)
 
 -- ---- how many are kept, and how many of these by a second test
 
@@ -50,57 +50,57 @@ module _ (q p : ℕ → Bool) (n : ℕ) where
   module _ {d all on : ℕ} (c : Counted d all on) where
     pub counted_skip : d < n → q d ≡ false → Counted (d + 1) all on
     counted_skip h e =
-        let s = kept-skip q n d h e in
+        let s = kept_skip q n d h e in
         let s₁ : length (keep q (drop d (from 0 n))) ≡ length (keep q (drop (d + 1) (from 0 n))) = ap length s in
         let s₂ : length (keep p (keep q (drop d (from 0 n)))) ≡ length (keep p (keep q (drop (d + 1) (from 0 n)))) =
         ap (λ l. length (keep p l)) s in
         record { low = omega arith; most = omega arith; fewer = omega arith; alls = omega arith; ons = omega arith }
 
-    pub counted-on : d < n → q d ≡ true → p d ≡ true → Counted (d + 1) (all + 1) (on + 1)
+    pub counted_on : d < n → q d ≡ true → p d ≡ true → Counted (d + 1) (all + 1) (on + 1)
     unfolding keep
-    counted-on h e g =
-        let s = kept-take q n d h e in
+    counted_on h e g =
+        let s = kept_take q n d h e in
         let s₁ : length (keep q (drop d (from 0 n))) ≡ suc (length (keep q (drop (d + 1) (from 0 n)))) = ap length s in
         let s₂ : length (keep p (keep q (drop d (from 0 n)))) ≡ suc (length (keep p (keep q (drop (d + 1) (from 0 n))))) =
         ap (λ l. length (keep p l)) s ∙ rw g in
         record { low = omega arith; most = omega arith; fewer = omega arith; alls = omega arith; ons = omega arith }
 
-    pub counted-off : d < n → q d ≡ true → p d ≡ false → Counted (d + 1) (all + 1) on
+    pub counted_off : d < n → q d ≡ true → p d ≡ false → Counted (d + 1) (all + 1) on
     unfolding keep
-    counted-off h e g =
-        let s = kept-take q n d h e in
+    counted_off h e g =
+        let s = kept_take q n d h e in
         let s₁ : length (keep q (drop d (from 0 n))) ≡ suc (length (keep q (drop (d + 1) (from 0 n)))) = ap length s in
         let s₂ : length (keep p (keep q (drop d (from 0 n)))) ≡ length (keep p (keep q (drop (d + 1) (from 0 n)))) =
         ap (λ l. length (keep p l)) s ∙ rw g in
         record { low = omega arith; most = omega arith; fewer = omega arith; alls = omega arith; ons = omega arith }
 
-    pub counted-all : n ≤ d → all ≡ length (keep q (from 0 n))
+    pub counted_all : n ≤ d → all ≡ length (keep q (from 0 n))
     unfolding keep
-    counted-all h = let z : length (keep q (drop d (from 0 n))) ≡ 0 = ap length (kept-none q n d h) in omega arith
+    counted_all h = let z : length (keep q (drop d (from 0 n))) ≡ 0 = ap length (kept_none q n d h) in omega arith
 
-    pub counted-on-all : n ≤ d → on ≡ length (keep p (keep q (from 0 n)))
+    pub counted_on_all : n ≤ d → on ≡ length (keep p (keep q (from 0 n)))
     unfolding keep
-    counted-on-all h = let z : length (keep p (keep q (drop d (from 0 n)))) ≡ 0 =
-        ap (λ l. length (keep p l)) (kept-none q n d h) in omega arith
+    counted_on_all h = let z : length (keep p (keep q (drop d (from 0 n)))) ≡ 0 =
+        ap (λ l. length (keep p l)) (kept_none q n d h) in omega arith
 
 -- ---- a second test of each that is kept; g is what the whole test says
 
 module _ (p q : ℕ → Bool) (n d : ℕ) {g : Bool} where
-  pub pass-skip : every p (keep q (drop d (from 0 n))) ≡ g → d < n → q d ≡ false → every p (keep q (drop (d + 1) (from 0 n))) ≡ g
-  pass-skip e h t = ap (every p) (sym (kept-skip q n d h t)) ∙ e
+  pub pass_skip : every p (keep q (drop d (from 0 n))) ≡ g → d < n → q d ≡ false → every p (keep q (drop (d + 1) (from 0 n))) ≡ g
+  pass_skip e h t = ap (every p) (sym (kept_skip q n d h t)) ∙ e
 
-  pub pass-more : every p (keep q (drop d (from 0 n))) ≡ g
+  pub pass_more : every p (keep q (drop d (from 0 n))) ≡ g
       → d < n → q d ≡ true → p d ≡ true → every p (keep q (drop (d + 1) (from 0 n))) ≡ g
   unfolding every
-  pass-more e h t k = ap (λ b. b && every p (keep q (drop (d + 1) (from 0 n)))) (sym k) ∙ ap (every p) (sym (kept-take q n d h t)) ∙ e
+  pass_more e h t k = ap (λ b. b && every p (keep q (drop (d + 1) (from 0 n)))) (sym k) ∙ ap (every p) (sym (kept_take q n d h t)) ∙ e
 
-  pub pass-no : every p (keep q (drop d (from 0 n))) ≡ g → d < n → q d ≡ true → p d ≡ false → false ≡ g
+  pub pass_no : every p (keep q (drop d (from 0 n))) ≡ g → d < n → q d ≡ true → p d ≡ false → false ≡ g
   unfolding every
-  pass-no e h t k = ap (λ b. b && every p (keep q (drop (d + 1) (from 0 n)))) (sym k) ∙ ap (every p) (sym (kept-take q n d h t)) ∙ e
+  pass_no e h t k = ap (λ b. b && every p (keep q (drop (d + 1) (from 0 n)))) (sym k) ∙ ap (every p) (sym (kept_take q n d h t)) ∙ e
 
-  pub pass-done : every p (keep q (drop d (from 0 n))) ≡ g → n ≤ d → true ≡ g
+  pub pass_done : every p (keep q (drop d (from 0 n))) ≡ g → n ≤ d → true ≡ g
   unfolding every
-  pass-done e h = ap (every p) (sym (kept-none q n d h)) ∙ e
+  pass_done e h = ap (every p) (sym (kept_none q n d h)) ∙ e
 
 -- ---- tests of every element by the count of those kept
 
@@ -112,20 +112,20 @@ eqb_suc a b = go (eqb a b) refl
     go false e = ne_eqb (suc a) (suc b) (λ z. eqb-false a b e (omega arith))
 
 module _ {A : Type 0} (p : A → Bool) where
-  kept-most : (xs : List A) → length (keep p xs) ≤ length xs
+  kept_most : (xs : List A) → length (keep p xs) ≤ length xs
   unfolding keep
-  kept-most [] = omega arith
-  kept-most (x ∷ xs) = go (p x) (kept-most xs)
+  kept_most [] = omega arith
+  kept_most (x ∷ xs) = go (p x) (kept_most xs)
     where
       go : (b : Bool) → length (keep p xs) ≤ length xs → length (cond b (x ∷ keep p xs) (keep p xs)) ≤ suc (length xs)
       go true h = omega arith
       go false h = omega arith
 
   -- none: the count is 0
-  pub none-counted : (xs : List A) → eqb (length (keep p xs)) 0 ≡ every (λ x. not (p x)) xs
+  pub none_counted : (xs : List A) → eqb (length (keep p xs)) 0 ≡ every (λ x. not (p x)) xs
   unfolding keep every
-  none-counted [] = refl
-  none-counted (x ∷ xs) = go (p x) (none-counted xs)
+  none_counted [] = refl
+  none_counted (x ∷ xs) = go (p x) (none_counted xs)
     where
       go : (b : Bool) → eqb (length (keep p xs)) 0 ≡ every (λ y. not (p y)) xs
           → eqb (length (cond b (x ∷ keep p xs) (keep p xs))) 0 ≡ (not b && every (λ y. not (p y)) xs)
@@ -133,10 +133,10 @@ module _ {A : Type 0} (p : A → Bool) where
       go false h = h
 
   -- all: the count is the length
-  pub all-counted : (xs : List A) → eqb (length (keep p xs)) (length xs) ≡ every p xs
+  pub all_counted : (xs : List A) → eqb (length (keep p xs)) (length xs) ≡ every p xs
   unfolding keep every
-  all-counted [] = refl
-  all-counted (x ∷ xs) = go (p x) (all-counted xs) (kept-most xs)
+  all_counted [] = refl
+  all_counted (x ∷ xs) = go (p x) (all_counted xs) (kept_most xs)
     where
       go : (b : Bool) → eqb (length (keep p xs)) (length xs) ≡ every p xs → length (keep p xs) ≤ length xs
           → eqb (length (cond b (x ∷ keep p xs) (keep p xs))) (suc (length xs)) ≡ (b && every p xs)

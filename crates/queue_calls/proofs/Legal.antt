@@ -10,10 +10,10 @@ use lib.ListN.{length, get_or, drop, set, replicate, length-set, length-replicat
 use lib.Seq.{get_or-set_same, get_or-set_other}
 use borrow.Author.Tests.{eq-eqb, ne_eqb, eqb-true, eqb-false}
 use Rattle.sizes.specs.Sizes.{STATES}
-use Rattle.tree.proofs.Climb.{child-root, child-below}
+use Rattle.tree.proofs.Climb.{child_root, child_below}
 use Rattle.meaning.specs.declared.State.{State}
 use Rattle.meaning.specs.declared.chart.Kind.{Kind}
-use Rattle.meaning.specs.declared.chart.Kind.TheVariants.{O as kind-o, A as kind-a, B as kind-b}
+use Rattle.meaning.specs.declared.chart.Kind.TheVariants.{O as kind_o, A as kind_a, B as kind_b}
 use Rattle.meaning.specs.Lists.{every, keep, from}
 use Rattle.meaning.specs.Chart.{Chart}
 use Rattle.meaning.specs.Tree.{parent_of, kind_of, all_states, is_child, children}
@@ -21,8 +21,8 @@ use Rattle.meaning.specs.Widget.{is_active}
 use Rattle.meaning.specs.Foreign.{children_legal, legal_at, legal}
 use Rattle.queue_calls.specs.declared.own.Tally.{Tally}
 use Rattle.queue_calls.specs.Parts.{tally_of, Tallied}
-use Rattle.queue_calls.proofs.Kept.{Counted, counted_start, counted_skip, counted-on, counted-off, counted-all}
-use Rattle.queue_calls.proofs.Kept.{counted-on-all, none-counted, all-counted}
+use Rattle.queue_calls.proofs.Kept.{Counted, counted_start, counted_skip, counted_on, counted_off, counted_all}
+use Rattle.queue_calls.proofs.Kept.{counted_on_all, none_counted, all_counted}
 
 same_or : (a b : ℕ) → (a ≡ b) ⊎ (a ≡ b → ⊥)
 same_or a b = go (eqb a b) refl
@@ -40,7 +40,7 @@ pub tallied : (c : Chart) (marks : List Bool) (s : ℕ) {n d all on : ℕ} → n
     → record { all = all; on = on } ≡ tally_of c marks s
 unfolding tally_of children all_states
 tallied c marks s {n} e k h =
-    rw (counted-all (is_child c s) (marked marks) n k h, counted-on-all (is_child c s) (marked marks) n k h, e)
+    rw (counted_all (is_child c s) (marked marks) n k h, counted_on_all (is_child c s) (marked marks) n k h, e)
 
 -- ---- the pass: after d of n states, at each place the counts of that state's children
 
@@ -57,48 +57,48 @@ tally_none c marks n = record {
 }
 
 module _ (c : Chart) (marks : List Bool) {n d : ℕ} {all on : List ℕ} (h : Tallying c marks n d all on) (l : d < n) where
-  tally-skip : ((s : ℕ) → s < STATES → is_child c s d ≡ false) → Tallying c marks n (d + 1) all on
-  tally-skip e = record {
+  tally_skip : ((s : ℕ) → s < STATES → is_child c s d ≡ false) → Tallying c marks n (d + 1) all on
+  tally_skip e = record {
     all_long = h.all_long;
     on_long = h.on_long;
     counted = λ s k. counted_skip _ _ n (h.counted s k) l (e s k);
   }
 
-  pub tally-root : d ≡ 0 → Tallying c marks n (d + 1) all on
-  tally-root e = tally-skip (λ s k. child-root c s d e)
+  pub tally_root : d ≡ 0 → Tallying c marks n (d + 1) all on
+  tally_root e = tally_skip (λ s k. child_root c s d e)
 
-  pub tally-far : {p : ℕ} → (d ≡ 0 → ⊥) → p ≡ parent_of c d → STATES ≤ p → Tallying c marks n (d + 1) all on
-  tally-far z e far = tally-skip (λ s k. child-below c s d z ∙ ne_eqb (parent_of c d) s (λ q. omega arith))
+  pub tally_far : {p : ℕ} → (d ≡ 0 → ⊥) → p ≡ parent_of c d → STATES ≤ p → Tallying c marks n (d + 1) all on
+  tally_far z e far = tally_skip (λ s k. child_below c s d z ∙ ne_eqb (parent_of c d) s (λ q. omega arith))
 
   -- a child is counted at its parent p
   module _ {p : ℕ} (z : d ≡ 0 → ⊥) (e : p ≡ parent_of c d) (k : p < STATES) where
     mine : is_child c p d ≡ true
-    mine = child-below c p d z ∙ eq-eqb (parent_of c d) p (sym e)
+    mine = child_below c p d z ∙ eq-eqb (parent_of c d) p (sym e)
 
     other : (s : ℕ) → (s ≡ p → ⊥) → is_child c s d ≡ false
-    other s q = child-below c s d z ∙ ne_eqb (parent_of c d) s (λ y. q (sym (e ∙ y)))
+    other s q = child_below c s d z ∙ ne_eqb (parent_of c d) s (λ y. q (sym (e ∙ y)))
 
-    pub tally-off : marked marks d ≡ false → Tallying c marks n (d + 1) (set all p (get_or all p 0 + 1)) on
-    tally-off m = record {
+    pub tally_off : marked marks d ≡ false → Tallying c marks n (d + 1) (set all p (get_or all p 0 + 1)) on
+    tally_off m = record {
       all_long = length-set all p _ ∙ h.all_long;
       on_long = h.on_long;
       counted = λ s b. ⊎_elim
           (λ q. subst (λ y. Counted (is_child c y) (marked marks) n (d + 1) (get_or (set all p (get_or all p 0 + 1)) y 0) (get_or on y 0))
           (sym q)
-          (rw (get_or-set_same all p (get_or all p 0 + 1) 0 (rw h.all_long k)) (counted-off _ _ n (h.counted p k) l mine m)))
+          (rw (get_or-set_same all p (get_or all p 0 + 1) 0 (rw h.all_long k)) (counted_off _ _ n (h.counted p k) l mine m)))
           (λ q. rw (get_or-set_other all p s (get_or all p 0 + 1) 0 q) (counted_skip _ _ n (h.counted s b) l (other s q)))
           (same_or s p);
     }
 
-    pub tally-on : marked marks d ≡ true → Tallying c marks n (d + 1) (set all p (get_or all p 0 + 1)) (set on p (get_or on p 0 + 1))
-    tally-on m = record {
+    pub tally_on : marked marks d ≡ true → Tallying c marks n (d + 1) (set all p (get_or all p 0 + 1)) (set on p (get_or on p 0 + 1))
+    tally_on m = record {
       all_long = length-set all p _ ∙ h.all_long;
       on_long = length-set on p _ ∙ h.on_long;
       counted = λ s b. ⊎_elim
           (λ q. subst (λ y. Counted (is_child c y) (marked marks) n (d + 1) (get_or (set all p (get_or all p 0 + 1)) y 0)
           (get_or (set on p (get_or on p 0 + 1)) y 0)) (sym q)
           (rw (get_or-set_same all p (get_or all p 0 + 1) 0 (rw h.all_long k), get_or-set_same on p (get_or on p 0 + 1) 0 (rw h.on_long k))
-          (counted-on _ _ n (h.counted p k) l mine m)))
+          (counted_on _ _ n (h.counted p k) l mine m)))
           (λ q. rw (get_or-set_other all p s (get_or all p 0 + 1) 0 q, get_or-set_other on p s (get_or on p 0 + 1) 0 q)
           (counted_skip _ _ n (h.counted s b) l (other s q)))
           (same_or s p);
@@ -120,35 +120,35 @@ module _ (c : Chart) (u : State) (s : ℕ) {marks : List Bool} {t : Tally} (e : 
   unfolding tally_of
   all_of = ap (λ x. x.all) counts
 
-  in-it : {b : Bool} → get_or marks s false ≡ b → is_active u s ≡ b
+  in_it : {b : Bool} → get_or marks s false ≡ b → is_active u s ≡ b
   unfolding is_active
-  in-it g = ap (λ m. get_or m s false) e ∙ g
+  in_it g = ap (λ m. get_or m s false) e ∙ g
 
-  by-mark : Bool → Bool
-  by-mark true = children_legal c u (kind_of c s) (children c s)
-  by-mark false = every (λ d. not (is_active u d)) (children c s)
+  by_mark : Bool → Bool
+  by_mark true = children_legal c u (kind_of c s) (children c s)
+  by_mark false = every (λ d. not (is_active u d)) (children c s)
 
-  at_mark : {b : Bool} → get_or marks s false ≡ b → by-mark b ≡ legal_at c u s
-  unfolding legal_at is_active by-mark
-  at_mark g = sym (ap by-mark (in-it g))
+  at_mark : {b : Bool} → get_or marks s false ≡ b → by_mark b ≡ legal_at c u s
+  unfolding legal_at is_active by_mark
+  at_mark g = sym (ap by_mark (in_it g))
 
-  pub legal-out : get_or marks s false ≡ false → eqb t.on 0 ≡ legal_at c u s
-  unfolding by-mark
-  legal-out g = rw on_of (none-counted (is_active u) (children c s)) ∙ at_mark g
+  pub legal_out : get_or marks s false ≡ false → eqb t.on 0 ≡ legal_at c u s
+  unfolding by_mark
+  legal_out g = rw on_of (none_counted (is_active u) (children c s)) ∙ at_mark g
 
   module _ {k : Kind} (g : get_or marks s false ≡ true) (l : k ≡ kind_of c s) where
-    pub legal-o : k ≡ kind-o → eqb t.on 1 ≡ legal_at c u s
-    unfolding children_legal by-mark
-    legal-o m = ap (λ x. eqb x 1) on_of ∙ ap (λ x. children_legal c u x (children c s)) (sym m ∙ l) ∙ at_mark g
+    pub legal_o : k ≡ kind_o → eqb t.on 1 ≡ legal_at c u s
+    unfolding children_legal by_mark
+    legal_o m = ap (λ x. eqb x 1) on_of ∙ ap (λ x. children_legal c u x (children c s)) (sym m ∙ l) ∙ at_mark g
 
-    pub legal-a : k ≡ kind-a → eqb t.on t.all ≡ legal_at c u s
-    unfolding children_legal by-mark
-    legal-a m = rw (on_of, all_of) (all-counted (is_active u) (children c s)) ∙ ap (λ x. children_legal c u x (children c s)) (sym m ∙ l)
+    pub legal_a : k ≡ kind_a → eqb t.on t.all ≡ legal_at c u s
+    unfolding children_legal by_mark
+    legal_a m = rw (on_of, all_of) (all_counted (is_active u) (children c s)) ∙ ap (λ x. children_legal c u x (children c s)) (sym m ∙ l)
         ∙ at_mark g
 
-    pub legal-b : k ≡ kind-b → true ≡ legal_at c u s
-    unfolding children_legal by-mark
-    legal-b m = ap (λ x. children_legal c u x (children c s)) (sym m ∙ l) ∙ at_mark g
+    pub legal_b : k ≡ kind_b → true ≡ legal_at c u s
+    unfolding children_legal by_mark
+    legal_b m = ap (λ x. children_legal c u x (children c s)) (sym m ∙ l) ∙ at_mark g
 
 -- ---- the whole configuration
 
@@ -157,11 +157,11 @@ module _ (c : Chart) (u : State) {marks : List Bool} (e : u.active ≡ marks) wh
   unfolding is_active
   root_in g = ap (λ m. get_or m 0 false) e ∙ g
 
-  pub legal-rootless : get_or marks 0 false ≡ false → false ≡ legal c u
+  pub legal_rootless : get_or marks 0 false ≡ false → false ≡ legal c u
   unfolding legal
-  legal-rootless g = rw (root_in g)
+  legal_rootless g = rw (root_in g)
 
-  pub legal-rooted : {b : Bool} {n : ℕ} → n ≡ length c.states → get_or marks 0 false ≡ true → b ≡ every (legal_at c u) (from 0 n)
+  pub legal_rooted : {b : Bool} {n : ℕ} → n ≡ length c.states → get_or marks 0 false ≡ true → b ≡ every (legal_at c u) (from 0 n)
       → b ≡ legal c u
   unfolding legal all_states
-  legal-rooted l g h = h ∙ rw (root_in g, l)
+  legal_rooted l g h = h ∙ rw (root_in g, l)

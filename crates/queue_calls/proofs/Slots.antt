@@ -14,14 +14,14 @@ use Rattle.numbers.specs.declared.Place.{Place}
 use Rattle.numbers.specs.declared.Place.TheVariants.{Empty, At}
 use Rattle.meaning.specs.declared.State.{State}
 use Rattle.meaning.specs.declared.chart.Kind.{Kind}
-use Rattle.meaning.specs.declared.chart.Kind.TheVariants.{O as kind-o, A as kind-a, B as kind-b}
+use Rattle.meaning.specs.declared.chart.Kind.TheVariants.{O as kind_o, A as kind_a, B as kind_b}
 use Rattle.meaning.specs.Lists.{every, from}
 use Rattle.meaning.specs.Chart.{Chart}
 use Rattle.meaning.specs.Tree.{kind_of, is_o, is_child}
 use Rattle.meaning.specs.Widget.{slot, is_filled}
 use Rattle.numbers.proofs.Laws.{eq_z_true}
 use Rattle.queue_calls.specs.Parts.{leads_if, slot_if, slots_if}
-use Rattle.widget.proofs.Every.{every_more, every-no, upto-more, upto_done}
+use Rattle.widget.proofs.Every.{every_more, every_no, upto_more, upto_done}
 
 -- what stands at a place of a list does not depend on what would stand past its end
 pub get_d_any : {A : Type 0} (l : List A) (i : ℕ) (d e : A) → i < length l → get_or l i d ≡ get_or l i e
@@ -45,17 +45,17 @@ slot_read u {slots} e d h f =
     ap (λ l. is_filled (place_of (get_or l d (negsuc 0)))) e ∙ ap (λ x. is_filled (place_of x)) (get_d_any slots d (negsuc 0) (pos 0) h) ∙ sym f
 
 module _ (whole : Bool) (c : Chart) (u : State) (d : ℕ) {k : Kind} (e : k ≡ kind_of c d) where
-  pub leads-o : {b : Bool} → k ≡ kind-o → b ≡ is_filled (slot u d) → b ≡ leads_if whole u (kind_of c d) d
+  pub leads_o : {b : Bool} → k ≡ kind_o → b ≡ is_filled (slot u d) → b ≡ leads_if whole u (kind_of c d) d
   unfolding leads_if
-  leads-o m f = rw (sym e ∙ m) f
+  leads_o m f = rw (sym e ∙ m) f
 
-  pub leads-a : k ≡ kind-a → whole ≡ leads_if whole u (kind_of c d) d
+  pub leads_a : k ≡ kind_a → whole ≡ leads_if whole u (kind_of c d) d
   unfolding leads_if
-  leads-a m = rw (sym e ∙ m)
+  leads_a m = rw (sym e ∙ m)
 
-  pub leads-b : k ≡ kind-b → true ≡ leads_if whole u (kind_of c d) d
+  pub leads_b : k ≡ kind_b → true ≡ leads_if whole u (kind_of c d) d
   unfolding leads_if
-  leads-b m = rw (sym e ∙ m)
+  leads_b m = rw (sym e ∙ m)
 
 -- ---- one slot
 
@@ -69,22 +69,22 @@ empty_fits whole c u s (pos n) e = let z : ◌≡◌ {A = ℕ} 0 1 = cc in absur
 empty_fits whole c u s (negsuc n) e = refl
 
 module _ (whole : Bool) (c : Chart) (u : State) (s : ℕ) (x : ℤ) where
-  pub slot-empty : {p : Place} → p ≡ place_of x → p ≡ Empty → eq_z x (negsuc 0) ≡ slot_if whole c u s x
-  slot-empty q r = empty_fits whole c u s x (sym q ∙ r)
+  pub slot_empty : {p : Place} → p ≡ place_of x → p ≡ Empty → eq_z x (negsuc 0) ≡ slot_if whole c u s x
+  slot_empty q r = empty_fits whole c u s x (sym q ∙ r)
 
   module _ {d : ℕ} (e : x ≡ pos d) where
-    pub slot-nowhere : {n : ℕ} → n ≡ length c.states → n ≤ d → false ≡ slot_if whole c u s x
+    pub slot_nowhere : {n : ℕ} → n ≡ length c.states → n ≤ d → false ≡ slot_if whole c u s x
     unfolding slot_if
-    slot-nowhere l h = rw (e, le-ltb d (length c.states) (omega arith))
+    slot_nowhere l h = rw (e, le-ltb d (length c.states) (omega arith))
 
     module _ {n : ℕ} (l : n ≡ length c.states) (h : d < n) where
-      pub slot-not-o : is_o (kind_of c s) ≡ false → false ≡ slot_if whole c u s x
+      pub slot_not_o : is_o (kind_of c s) ≡ false → false ≡ slot_if whole c u s x
       unfolding slot_if
-      slot-not-o k = rw (e, lt-ltb d (length c.states) (omega arith), k)
+      slot_not_o k = rw (e, lt-ltb d (length c.states) (omega arith), k)
 
-      pub slot-no-child : is_o (kind_of c s) ≡ true → is_child c s d ≡ false → false ≡ slot_if whole c u s x
+      pub slot_no_child : is_o (kind_of c s) ≡ true → is_child c s d ≡ false → false ≡ slot_if whole c u s x
       unfolding slot_if
-      slot-no-child k m = rw (e, lt-ltb d (length c.states) (omega arith), k, m)
+      slot_no_child k m = rw (e, lt-ltb d (length c.states) (omega arith), k, m)
 
       pub slot_child : {b : Bool} → is_o (kind_of c s) ≡ true → is_child c s d ≡ true → b ≡ leads_if whole u (kind_of c d) d
           → b ≡ slot_if whole c u s x
@@ -121,9 +121,9 @@ rest_right whole c u l (suc k) s m e =
   where
     go : (every (eq_z (negsuc 0)) (drop (s + 1) u.slots) ≡ true → every (slot_right whole c u) (drop (s + 1) (from 0 STATES)) ≡ true)
         → (b : Bool) → eq_z (negsuc 0) (get_or u.slots s (negsuc 0)) ≡ b → every (slot_right whole c u) (drop s (from 0 STATES)) ≡ true
-    go f true t = sym (upto-more (slot_right whole c u) STATES s refl (omega arith) (empty_right whole c u s t))
+    go f true t = sym (upto_more (slot_right whole c u) STATES s refl (omega arith) (empty_right whole c u s t))
         ∙ f (every_more (eq_z (negsuc 0)) u.slots s (negsuc 0) e (omega arith) t)
-    go f false t = absurd (false≢true (every-no (eq_z (negsuc 0)) u.slots s (negsuc 0) e (omega arith) t))
+    go f false t = absurd (false≢true (every_no (eq_z (negsuc 0)) u.slots s (negsuc 0) e (omega arith) t))
 
 pub rest_fitted : (whole : Bool) (c : Chart) (u : State) {slots : List ℤ} {end : ℕ} → u.slots ≡ slots → length slots ≡ STATES
     → end ≤ STATES

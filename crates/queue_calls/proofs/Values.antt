@@ -27,17 +27,17 @@ module _ (rs : List VarRow) (v : ℕ) (x : ℤ) {n : ℕ} (l : n ≡ length rs) 
   unfolding value_fits within within_row
   value_there h e = rw (lt-ltb v (length rs) (omega arith), e)
 
-  pub value-unused : n ≤ v → eq_z (pos 0) x ≡ value_fits rs v x
+  pub value_unused : n ≤ v → eq_z (pos 0) x ≡ value_fits rs v x
   unfolding value_fits
-  value-unused h = rw (le-ltb v (length rs) (omega arith))
+  value_unused h = rw (le-ltb v (length rs) (omega arith))
 
 -- ---- from v on
 
 module _ (rs : List VarRow) (xs : List ℤ) (v : ℕ) where
-  values-at : v < length xs → values_fit (drop v rs) (drop v xs)
+  values_at : v < length xs → values_fit (drop v rs) (drop v xs)
       ≡ (value_fits rs v (get_or xs v (pos 0)) && values_fit (drop (v + 1) rs) (drop (v + 1) xs))
   unfolding values_fit value_fits var_row every
-  values-at h = go (ltb v (length rs)) refl
+  values_at h = go (ltb v (length rs)) refl
     where
       go : (b : Bool) → ltb v (length rs) ≡ b
           → values_fit (drop v rs) (drop v xs) ≡ (cond b (within_row (get_or rs v no_var) (get_or xs v (pos 0)))
@@ -49,12 +49,12 @@ module _ (rs : List VarRow) (xs : List ℤ) (v : ℕ) where
           rw (add-one v, drop-cons xs v (pos 0) h, drop_of_length-le rs m, drop_of_length-le rs m')
 
   module _ {g : Bool} (e : values_fit (drop v rs) (drop v xs) ≡ g) where
-    pub values-more : v < length xs → value_fits rs v (get_or xs v (pos 0)) ≡ true → values_fit (drop (v + 1) rs) (drop (v + 1) xs) ≡ g
-    values-more h t = sym (values-at h ∙ ap (λ b. b && values_fit (drop (v + 1) rs) (drop (v + 1) xs)) t) ∙ e
+    pub values_more : v < length xs → value_fits rs v (get_or xs v (pos 0)) ≡ true → values_fit (drop (v + 1) rs) (drop (v + 1) xs) ≡ g
+    values_more h t = sym (values_at h ∙ ap (λ b. b && values_fit (drop (v + 1) rs) (drop (v + 1) xs)) t) ∙ e
 
-    pub values-no : v < length xs → value_fits rs v (get_or xs v (pos 0)) ≡ false → false ≡ g
-    values-no h t = sym (values-at h ∙ ap (λ b. b && values_fit (drop (v + 1) rs) (drop (v + 1) xs)) t) ∙ e
+    pub values_no : v < length xs → value_fits rs v (get_or xs v (pos 0)) ≡ false → false ≡ g
+    values_no h t = sym (values_at h ∙ ap (λ b. b && values_fit (drop (v + 1) rs) (drop (v + 1) xs)) t) ∙ e
 
-    pub values-rest : length rs ≤ v → every (eq_z (pos 0)) (drop v xs) ≡ g
+    pub values_rest : length rs ≤ v → every (eq_z (pos 0)) (drop v xs) ≡ g
     unfolding values_fit
-    values-rest k = rw (drop_of_length-le rs k) at e
+    values_rest k = rw (drop_of_length-le rs k) at e

@@ -9,30 +9,30 @@ use Rattle.meaning.specs.Lists.{every}
 use Rattle.meaning.specs.Foreign.{legal, marks_fit, values_fit, slots_fit, queue_fits, own}
 
 module _ (c : Chart) (u : State) where
-  pub own-illegal : legal c u ≡ false → false ≡ own c u
+  pub own_illegal : legal c u ≡ false → false ≡ own c u
   unfolding own
-  own-illegal a = rw a
+  own_illegal a = rw a
 
   module _ (a : legal c u ≡ true) where
-    marks-are : {b : Bool} {n : ℕ} → n ≡ length c.states → every not (drop n u.active) ≡ b → marks_fit (length c.states) u ≡ b
+    marks_are : {b : Bool} {n : ℕ} → n ≡ length c.states → every not (drop n u.active) ≡ b → marks_fit (length c.states) u ≡ b
     unfolding marks_fit
-    marks-are l m = ap (λ k. every not (drop k u.active)) (sym l) ∙ m
+    marks_are l m = ap (λ k. every not (drop k u.active)) (sym l) ∙ m
 
     module _ {n : ℕ} (l : n ≡ length c.states) where
-      pub own-marked : every not (drop n u.active) ≡ false → false ≡ own c u
+      pub own_marked : every not (drop n u.active) ≡ false → false ≡ own c u
       unfolding own
-      own-marked m = rw (a, marks-are l m)
+      own_marked m = rw (a, marks_are l m)
 
       module _ (m : every not (drop n u.active) ≡ true) where
         pub own_out : values_fit c.vars u.vars ≡ false → false ≡ own c u
         unfolding own
-        own_out v = rw (a, marks-are l m, v)
+        own_out v = rw (a, marks_are l m, v)
 
         module _ (v : values_fit c.vars u.vars ≡ true) where
-          pub own-astray : slots_fit c u ≡ false → false ≡ own c u
+          pub own_astray : slots_fit c u ≡ false → false ≡ own c u
           unfolding own
-          own-astray s = rw (a, marks-are l m, v, s)
+          own_astray s = rw (a, marks_are l m, v, s)
 
-          pub own-rest : slots_fit c u ≡ true → {b : Bool} → {e : ℕ} → e ≡ c.events → b ≡ queue_fits e u.queue → b ≡ own c u
+          pub own_rest : slots_fit c u ≡ true → {b : Bool} → {e : ℕ} → e ≡ c.events → b ≡ queue_fits e u.queue → b ≡ own c u
           unfolding own
-          own-rest s k q = rw (a, marks-are l m, v, s) (q ∙ ap (λ x. queue_fits x u.queue) k)
+          own_rest s k q = rw (a, marks_are l m, v, s) (q ∙ ap (λ x. queue_fits x u.queue) k)

@@ -5,7 +5,7 @@ use Rattle.numbers.specs.Equal.{eq_z}
 use Rattle.numbers.specs.declared.Place.{Place}
 use Rattle.numbers.specs.declared.Place.TheVariants.{Empty, At}
 use Rattle.meaning.specs.declared.chart.Kind.{Kind}
-use Rattle.meaning.specs.declared.chart.Kind.TheVariants.{O as kind-o, A as kind-a, B as kind-b}
+use Rattle.meaning.specs.declared.chart.Kind.TheVariants.{O as kind_o, A as kind_a, B as kind_b}
 use Rattle.meaning.specs.declared.chart.VarRow.{VarRow}
 use Rattle.meaning.specs.Lists.{every, keep, from}
 use Rattle.meaning.specs.Chart.{Chart}
@@ -34,9 +34,9 @@ value_fits rs v x = cond (ltb v (length rs)) (within_row (var_row rs v) x) (eq_z
 -- ---- "a filled slot leading to an empty one", where `whole` says whether the slots of all components are filled
 
 unfoldable pub leads_if : Bool → State → Kind → ℕ → Bool
-leads_if whole u kind-o d = is_filled (slot u d)
-leads_if whole u kind-a d = whole
-leads_if whole u kind-b d = true
+leads_if whole u kind_o d = is_filled (slot u d)
+leads_if whole u kind_a d = whole
+leads_if whole u kind_b d = true
 
 -- "a slot neither -1 nor, at an o state, its child"
 unfoldable pub slot_if : Bool → Chart → State → ℕ → ℤ → Bool
@@ -52,9 +52,9 @@ is_at d Empty = false
 is_at d (At e) = eqb e d
 
 unfoldable pub in_slot_as : Chart → State → Kind → ℕ → Bool
-in_slot_as c u kind-o p = false
-in_slot_as c u kind-a p = is_at p (slot u (parent_of c p))
-in_slot_as c u kind-b p = false
+in_slot_as c u kind_o p = false
+in_slot_as c u kind_a p = is_at p (slot u (parent_of c p))
+in_slot_as c u kind_b p = false
 
 -- an a state in the slot of its parent
 unfoldable pub in_slot : Chart → State → ℕ → Bool

@@ -12,7 +12,7 @@ use Rattle.meaning.specs.Tree.{is_child}
 use Rattle.meaning.specs.Value.{chart_of}
 use Rattle.meaning.specs.Widget.{Ctx}
 use Rattle.laws.proofs.Steps.{Holds}
-use Rattle.laws.proofs.Value.{SizedChart, sized-chart}
+use Rattle.laws.proofs.Value.{SizedChart, sized_chart}
 use Rattle.laws.proofs.Stays.{Stays}
 use Rattle.meaning.specs.Rules.{Ruled}
 use Rattle.tree.proofs.Passing.{rules_passed}
@@ -25,20 +25,20 @@ use Rattle.reaction.specs.Ready.{Ready}
 use Rattle.tree.specs.Courses.{Led}
 
 pub sized : (v : List ℤ) → Ruled v → SizedChart (chart_of v)
-sized v r = sized-chart v (rules_passed v r).0
+sized v r = sized_chart v (rules_passed v r).0
 
 module _ {F : Step Ctx} {k : Lent} {at : ℕ} {r : Went} {k₁ : Lent} where
   -- what the step keeps holds after it
-  pub did-keeps : (P : Ctx → Type 0) → Stays P F → Did F k at r k₁ → Whole k → r.number ≡ 0 → P (ctx k at) → P (ctx k₁ r.at)
+  pub did_keeps : (P : Ctx → Type 0) → Stays P F → Did F k at r k₁ → Whole k → r.number ≡ 0 → P (ctx k at) → P (ctx k₁ r.at)
   unfolding went
-  did-keeps P s d l z h =
+  did_keeps P s d l z h =
       let e : F (ctx k at) ≡ ok (ctx k₁ r.at) = sym (d.does l) ∙ said_ok r.number _ z in
       subst (λ x. Holds x P) e (s (ctx k at) h)
 
-  pub ready-next : (v : List ℤ) → Stays (Good (chart_of v)) F → Did F k at r k₁ → r.number ≡ 0 → Ready v k at → Ready v k₁ r.at
-  ready-next v s d z h = record {
+  pub ready_next : (v : List ℤ) → Stays (Good (chart_of v)) F → Did F k at r k₁ → r.number ≡ 0 → Ready v k at → Ready v k₁ r.at
+  ready_next v s d z h = record {
     ruled = h.ruled;
-    good = did-keeps (Good (chart_of v)) s d h.whole z h.good;
+    good = did_keeps (Good (chart_of v)) s d h.whole z h.good;
     whole = d.whole ∙ h.whole;
     fits = d.fits;
   }

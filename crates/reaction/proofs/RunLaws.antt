@@ -16,9 +16,9 @@ use Rattle.queue.specs.Queue.{removed}
 use Rattle.queue.specs.declared.Queue.{Queue}
 use Rattle.queue.specs.declared.Removed.{Removed}
 use Rattle.queue.specs.Numbers.{QUEUE_NUMBERS, queue_by, numbers_of}
-use Rattle.queue.proofs.Waiting.{removed-none}
+use Rattle.queue.proofs.Waiting.{removed_none}
 use Rattle.queue.proofs.Numbers.{held_lent, numbers_long}
-use Rattle.queue.proofs.Tidy.{removed-long}
+use Rattle.queue.proofs.Tidy.{removed_long}
 use Rattle.meaning.specs.declared.State.{State}
 use Rattle.meaning.specs.declared.Called.{Called}
 use Rattle.meaning.specs.Steps.{refuse, Step, bind, ◌then◌, require}
@@ -33,20 +33,20 @@ use Rattle.meaning.specs.Rules.{Ruled}
 use Rattle.tree.proofs.Passing.{sound}
 use Rattle.widget.specs.View.{Lent, all_lent, ctx, tracing, went, Did}
 use Rattle.widget.specs.declared.Went.{Went}
-use Rattle.invariants.proofs.Good.{set-queue-good}
+use Rattle.invariants.proofs.Good.{set_queue_good}
 use Rattle.invariants.specs.Good.{Good, Sized}
-use Rattle.invariants.proofs.GoodReaction.{step-good}
-use Rattle.invariants.proofs.Values.{removed-fits}
-use Rattle.invariants.proofs.Own.{own-whole}
+use Rattle.invariants.proofs.GoodReaction.{step_good}
+use Rattle.invariants.proofs.Values.{removed_fits}
+use Rattle.invariants.proofs.Own.{own_whole}
 use Rattle.reaction.specs.Ready.{Ready}
-use Rattle.reaction.proofs.Going.{sized, ready-next}
+use Rattle.reaction.proofs.Going.{sized, ready_next}
 use Rattle.ends.proofs.Ending.{Ends}
 
 -- ---- one step and null steps
 
 pub step_ready : (v : List ℤ) (e : ℕ) (arg : ℤ) {k : Lent} {at : ℕ} {r : Went} {k₁ : Lent}
     → Ready v k at → Did (step (chart_of v) e arg) k at r k₁ → r.number ≡ 0 → Ready v k₁ r.at
-step_ready v e arg h d z = ready-next v (step-good (chart_of v) (sound v h.ruled) (sized v h.ruled) arg e) d z h
+step_ready v e arg h d z = ready_next v (step_good (chart_of v) (sound v h.ruled) (sized v h.ruled) arg e) d z h
 
 -- ---- the tests in turn
 
@@ -60,34 +60,34 @@ module _ (b o : Bool) (k : Ctx) where
   foreign F e f = rw (e, f)
 
   module _ (C G : Step Ctx) (d : Bool) where
-    none-waits : b ≡ true → o ≡ true → d ≡ false → ((require 7 b then require 6 o) then ((require 8 d then C) then G)) k ≡ refuse 8
+    none_waits : b ≡ true → o ≡ true → d ≡ false → ((require 7 b then require 6 o) then ((require 8 d then C) then G)) k ≡ refuse 8
     unfolding ◌then◌ require bind
-    none-waits e f g = rw (e, f, g)
+    none_waits e f g = rw (e, f, g)
 
-    one-waits : b ≡ true → o ≡ true → d ≡ true → ((require 7 b then require 6 o) then ((require 8 d then C) then G)) k ≡ bind (C k) G
+    one_waits : b ≡ true → o ≡ true → d ≡ true → ((require 7 b then require 6 o) then ((require 8 d then C) then G)) k ≡ bind (C k) G
     unfolding ◌then◌ require bind
-    one-waits e f g = rw (e, f, g)
+    one_waits e f g = rw (e, f, g)
 
 module _ (c : Chart) (u : State) (n : ℕ) where
-  pub run-7 : u.started ≡ false → run c u n ≡ as_found 7 0 u
+  pub run_7 : u.started ≡ false → run c u n ≡ as_found 7 0 u
   unfolding run tests outcome
-  run-7 e = ap (outcome u) (not_started u.started (own c u) (begin u n) (react c (removed u.queue)) e)
+  run_7 e = ap (outcome u) (not_started u.started (own c u) (begin u n) (react c (removed u.queue)) e)
 
-  pub run-6 : u.started ≡ true → own c u ≡ false → run c u n ≡ as_found 6 0 u
+  pub run_6 : u.started ≡ true → own c u ≡ false → run c u n ≡ as_found 6 0 u
   unfolding run tests outcome
-  run-6 s e = ap (outcome u) (foreign u.started (own c u) (begin u n) (react c (removed u.queue)) s e)
+  run_6 s e = ap (outcome u) (foreign u.started (own c u) (begin u n) (react c (removed u.queue)) s e)
 
   module _ (m : Removed) (x : m ≡ removed u.queue) (s : u.started ≡ true) (o : own c u ≡ true) where
-    pub run-8 : m.done ≡ false → run c u n ≡ as_found 8 0 u
+    pub run_8 : m.done ≡ false → run c u n ≡ as_found 8 0 u
     unfolding run tests react take_front outcome
-    run-8 e = ap (outcome u) (none-waits u.started (own c u) (begin u n) _ _ (removed u.queue).done s o (ap
+    run_8 e = ap (outcome u) (none_waits u.started (own c u) (begin u n) _ _ (removed u.queue).done s o (ap
         (λ y. y.done) (sym x) ∙ e))
 
     pub run_on : m.done ≡ true
         → run c u n ≡ outcome u ((step c (ref m.front.event) m.front.arg then settle c) (begin (set_queue m.queue u) n))
     unfolding run tests react take_front change bind begin
     run_on e =
-        ap (outcome u) (one-waits u.started (own c u) (begin u n) _ _ (removed u.queue).done s o (ap (λ y. y.done) (sym x) ∙ e))
+        ap (outcome u) (one_waits u.started (own c u) (begin u n) _ _ (removed u.queue).done s o (ap (λ y. y.done) (sym x) ∙ e))
         ∙ ap (λ y. outcome u ((step c (ref y.front.event) y.front.arg then settle c) (begin (set_queue y.queue u) n))) (sym x)
 
 -- ---- the widget at the start of a run
@@ -112,21 +112,21 @@ fits_few n q e = leb-true q.len QUEUE (and_left (leb q.len QUEUE) _ e)
 module _ (v : List ℤ) (h : Ruled v) (u : State) (z : Sized u) (m : Removed) (x : m ≡ removed u.queue) (s : u.started ≡ true)
     (o : own (chart_of v) u ≡ true) (d : m.done ≡ true) where
   waits : 0 < u.queue.len
-  waits = ⊎_elim (λ l. absurd (false≢true (sym (ap (λ r. r.done) (removed-none u.queue (omega arith))) ∙ sym (ap (λ y. y.done) x)
+  waits = ⊎_elim (λ l. absurd (false≢true (sym (ap (λ r. r.done) (removed_none u.queue (omega arith))) ∙ sym (ap (λ y. y.done) x)
       ∙ d))) (λ l. l) (le_or_lt u.queue.len 0)
 
   good : (n : ℕ) → Good (chart_of v) (begin u n)
-  good n = (own-whole (chart_of v) (sound v h) (sized v h) u n (record { sized = z; started = s; is_own = o })).1
+  good n = (own_whole (chart_of v) (sound v h) (sized v h) u n (record { sized = z; started = s; is_own = o })).1
 
   fits : queue_fits (chart_of v).events m.queue ≡ true
-  fits = rw x (removed-fits (chart_of v).events u.queue (unfold begin in (good 0).queue) z.items waits)
+  fits = rw x (removed_fits (chart_of v).events u.queue (unfold begin in (good 0).queue) z.items waits)
 
   long : length m.queue.items ≡ QUEUE
-  long = rw x (removed-long u.queue (omega (arith, z.items)) ∙ z.items)
+  long = rw x (removed_long u.queue (omega (arith, z.items)) ∙ z.items)
 
   taken : (n : ℕ) → Good (chart_of v) (begin (set_queue m.queue u) n)
   unfolding change begin
-  taken n = set-queue-good (chart_of v) m.queue fits long (begin u n) (good n)
+  taken n = set_queue_good (chart_of v) m.queue fits long (begin u n) (good n)
 
   -- the queue that is left, lent
   module _ (ns : List ℤ) (l : ns ≡ numbers_of m.queue) where
@@ -136,8 +136,8 @@ module _ (v : List ℤ) (h : Ruled v) (u : State) (z : Sized u) (m : Removed) (x
     whole : length ns ≡ QUEUE_NUMBERS
     whole = ap length l ∙ numbers_long m.queue long
 
-    pub run-ready : (t : List ℤ) → Ready v (all_lent u.active u.slots u.vars ns t) 0
-    run-ready t = record {
+    pub run_ready : (t : List ℤ) → Ready v (all_lent u.active u.slots u.vars ns t) 0
+    run_ready t = record {
       ruled = h;
       good = subst (Good (chart_of v)) (begins u m.queue ns t s says) (taken (length t));
       whole = whole;

@@ -25,17 +25,17 @@ use Rattle.meaning.specs.Widget.{Ctx, begin}
 use Rattle.meaning.specs.Effects.{enter}
 use Rattle.meaning.specs.Entry.{state_of, all_below, by_defaults, visit}
 use Rattle.meaning.specs.Calls.{fresh, start_steps, start, outcome, called, lent}
-use Rattle.laws.proofs.Stays.{Stays, each-stays}
+use Rattle.laws.proofs.Stays.{Stays, each_stays}
 use Rattle.laws.proofs.Value.{get_d_map}
-use Rattle.laws.proofs.Ways.{defaults-sound}
+use Rattle.laws.proofs.Ways.{defaults_sound}
 use Rattle.meaning.specs.Rules.{Ruled}
 use Rattle.tree.proofs.Passing.{sound}
 use Rattle.widget.specs.View.{Lent, all_lent, ctx, tracing, went, Did}
 use Rattle.widget.specs.declared.Went.{Went}
-use Rattle.invariants.proofs.Good.{enter-good, visit-good}
+use Rattle.invariants.proofs.Good.{enter_good, visit_good}
 use Rattle.invariants.specs.Good.{Good}
-use Rattle.invariants.proofs.GoodReaction.{below-inside}
-use Rattle.invariants.proofs.Own.{fresh-good}
+use Rattle.invariants.proofs.GoodReaction.{below_inside}
+use Rattle.invariants.proofs.Own.{fresh_good}
 use Rattle.reaction.specs.Ready.{Ready}
 use Rattle.reaction.proofs.Going.{sized}
 use Rattle.ends.proofs.Ending.{Ends}
@@ -72,17 +72,17 @@ filled_all c now v e q =
 -- ---- after the root, and after its defaults
 
 module _ (v : List ℤ) (h : Ruled v) where
-  pub root-inside : 0 < length (chart_of v).states
-  root-inside = omega (arith, (sound v h).two)
+  pub root_inside : 0 < length (chart_of v).states
+  root_inside = omega (arith, (sound v h).two)
 
-  pub root-good : Stays (Good (chart_of v)) (enter (chart_of v) (pos 0) 0)
-  root-good = enter-good (chart_of v) (sound v h) (sized v h) (pos 0) 0 root-inside
+  pub root_good : Stays (Good (chart_of v)) (enter (chart_of v) (pos 0) 0)
+  root_good = enter_good (chart_of v) (sound v h) (sized v h) (pos 0) 0 root_inside
 
-  pub defaults-good : Stays (Good (chart_of v)) (each (visit (chart_of v) (pos 0)) (all_below (chart_of v) by_defaults 0))
-  defaults-good = each-stays (Good (chart_of v)) (visit (chart_of v) (pos 0))
-      (λ x. state_of x < length (chart_of v).states) (visit-good (chart_of v) (sound v h) (sized v h) (pos 0)) (all_below
+  pub defaults_good : Stays (Good (chart_of v)) (each (visit (chart_of v) (pos 0)) (all_below (chart_of v) by_defaults 0))
+  defaults_good = each_stays (Good (chart_of v)) (visit (chart_of v) (pos 0))
+      (λ x. state_of x < length (chart_of v).states) (visit_good (chart_of v) (sound v h) (sized v h) (pos 0)) (all_below
       (chart_of v) by_defaults 0)
-      (below-inside (chart_of v) (sound v h) by_defaults (defaults-sound (chart_of v) (sound v h)) 0 root-inside)
+      (below_inside (chart_of v) (sound v h) by_defaults (defaults_sound (chart_of v) (sound v h)) 0 root_inside)
 
 -- ---- the fresh widget
 
@@ -99,9 +99,9 @@ abbrev pub fresh_lent : List ℤ → List ℤ → Lent
 fresh_lent v t = all_lent (replicate STATES false) (replicate STATES (negsuc 0)) (fresh (chart_of v)).vars (numbers_of empty_queue) t
 
 module _ (v : List ℤ) (h : Ruled v) where
-  begins-fresh : (t : List ℤ) → begin (fresh (chart_of v)) (length t) ≡ ctx (fresh_lent v t) 0
+  begins_fresh : (t : List ℤ) → begin (fresh (chart_of v)) (length t) ≡ ctx (fresh_lent v t) 0
   unfolding begin fresh ctx tracing
-  begins-fresh t =
+  begins_fresh t =
       ap {B = Ctx} (λ n. record { state = fresh (chart_of v); out = []; room = n }) (sym (sub-zero (length t)))
       ∙ ap {B = Ctx} (λ q. record {
         state = record {
@@ -116,10 +116,10 @@ module _ (v : List ℤ) (h : Ruled v) where
         room = length t - 0;
       }) (sym none_lent)
 
-  pub fresh-ready : (t : List ℤ) → Ready v (fresh_lent v t) 0
-  fresh-ready t = record {
+  pub fresh_ready : (t : List ℤ) → Ready v (fresh_lent v t) 0
+  fresh_ready t = record {
     ruled = h;
-    good = subst (Good (chart_of v)) (begins-fresh t) (fresh-good (chart_of v) (sound v h) (sized v h) (length t));
+    good = subst (Good (chart_of v)) (begins_fresh t) (fresh_good (chart_of v) (sound v h) (sized v h) (length t));
     whole = none_whole;
     fits = omega arith;
   }
@@ -130,5 +130,5 @@ module _ (v : List ℤ) (h : Ruled v) where
   unfolding start
   start_ends u t w k₁ r t₂ g f =
       let y : outcome u (went w k₁) ≡ outcome u (start_steps (chart_of v) (begin (fresh (chart_of v)) (length t))) =
-      ap (outcome u) (g.does none_whole ∙ ap (start_steps (chart_of v)) (sym (begins-fresh t))) in
+      ap (outcome u) (g.does none_whole ∙ ap (start_steps (chart_of v)) (sym (begins_fresh t))) in
       (f.0 ∙ ap called y, f.1 ∙ ap (λ n. lent n (outcome u (went w k₁))) g.kept ∙ ap (lent (length t)) y)

@@ -1,7 +1,7 @@
 // A run on a chart that passes the rules (01, "One reaction"): the tests 7, 6 and 8, the front event's step, null steps.
 ghost use Rattle.std.specs.Prelude.{◌≡◌, length};
 ghost use Rattle.meaning.specs.Steps.{◌then◌};
-ghost use Rattle.meaning.specs.Reaction.{step as one-step, settle as settles};
+ghost use Rattle.meaning.specs.Reaction.{step as one_step, settle as settles};
 ghost use Rattle.meaning.specs.Calls.{called, lent, run as runs};
 ghost use Rattle.meaning.specs.Value.{chart_of};
 ghost use Rattle.meaning.specs.Rules.{Ruled};
@@ -34,7 +34,7 @@ fn react(
 ) -> Went
     requires { Ready chart.now (all_lent active.old slots.old vars.old queue.old trace.old) 0
         × Indexed (chart_of chart.now) index.now }
-    ensures { Did (one-step (chart_of chart.now) event arg then settles (chart_of chart.now))
+    ensures { Did (one_step (chart_of chart.now) event arg then settles (chart_of chart.now))
         (all_lent active.old slots.old vars.old queue.old trace.old) 0 result
         (all_lent active.new slots.new vars.new queue.new trace.new) }
 {

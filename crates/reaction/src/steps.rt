@@ -1,6 +1,6 @@
 // Steps (01, "One reaction"): all chosen transitions fire, in their order; null steps follow until none is enabled.
 ghost use Rattle.meaning.specs.Steps.{each};
-ghost use Rattle.meaning.specs.Reaction.{fire as fires, step as one-step, settle as settles};
+ghost use Rattle.meaning.specs.Reaction.{fire as fires, step as one_step, settle as settles};
 ghost use Rattle.meaning.specs.Value.{chart_of};
 ghost use Rattle.widget.specs.View.{all_lent, Did};
 ghost use Rattle.acts.specs.Index.{Indexed};
@@ -71,7 +71,7 @@ pub fn step(
 ) -> Went
     requires { Ready chart.now (all_lent active.old slots.old vars.old queue.old trace.old) at
         × Indexed (chart_of chart.now) index.now }
-    ensures { Did (one-step (chart_of chart.now) event arg)
+    ensures { Did (one_step (chart_of chart.now) event arg)
         (all_lent active.old slots.old vars.old queue.old trace.old) at result
         (all_lent active.new slots.new vars.new queue.new trace.new) }
 {

@@ -23,8 +23,8 @@ unfolding AllLong
 fit_start = record { long = λ r. tt; few = λ r. omega arith }
 
 module _ (rows : Rows) (f : Fit rows) where
-  pub counts-are : turn_of (turns_in rows) ≡ turns_of rows
-  counts-are = fun_ext go
+  pub counts_are : turn_of (turns_in rows) ≡ turns_of rows
+  counts_are = fun_ext go
     where
       go : (r : Record) → turn_of (turns_in rows) r ≡ length (rows r)
       go s_record = refl
@@ -34,8 +34,8 @@ module _ (rows : Rows) (f : Fit rows) where
       go a_record = refl
       go no_record = let h = f.few no_record in omega arith
 
-  pub within-fit : (t : Turns) → t ≡ turns_in rows → Within t
-  within-fit t e = rw e (record {
+  pub within_fit : (t : Turns) → t ≡ turns_in rows → Within t
+  within_fit t e = rw e (record {
     states = f.few s_record;
     vars = f.few v_record;
     events = f.few e_record;
@@ -46,11 +46,11 @@ module _ (rows : Rows) (f : Fit rows) where
   -- ---- one row more, of any kind
 
   module _ (k : Record) (y : List ℤ) (room : length (rows k) < most k) (long : length y ≡ row_size k) where
-    one-longer : (xs : List (List ℤ)) → length (xs ++ (y ∷ [])) ≡ length xs + 1
-    one-longer xs = length-append xs (y ∷ [])
+    one_longer : (xs : List (List ℤ)) → length (xs ++ (y ∷ [])) ≡ length xs + 1
+    one_longer xs = length-append xs (y ∷ [])
 
-    pub next-fit : Fit (with_row k y rows)
-    next-fit = record { long = λ q. all_long q (same k q) refl; few = λ q. not-many q (same k q) refl }
+    pub next_fit : Fit (with_row k y rows)
+    next_fit = record { long = λ q. all_long q (same k q) refl; few = λ q. not_many q (same k q) refl }
       where
         all_long : (q : Record) (t : Bool) → same k q ≡ t → AllLong (row_size q) (with_row k y rows q)
         all_long q true e =
@@ -58,9 +58,9 @@ module _ (rows : Rows) (f : Fit rows) where
             rw (← i, own_row rows k y) (long_more (row_size k) (rows k) y (f.long k) long)
         all_long q false e = rw (other_row rows k y q e) (f.long q)
 
-        not-many : (q : Record) (t : Bool) → same k q ≡ t → length (with_row k y rows q) ≤ most q
-        not-many q true e = let i : k ≡ q = same_true k q e in rw (← i, own_row rows k y, one-longer (rows k)) (omega arith)
-        not-many q false e = rw (other_row rows k y q e) (f.few q)
+        not_many : (q : Record) (t : Bool) → same k q ≡ t → length (with_row k y rows q) ≤ most q
+        not_many q true e = let i : k ≡ q = same_true k q e in rw (← i, own_row rows k y, one_longer (rows k)) (omega arith)
+        not_many q false e = rw (other_row rows k y q e) (f.few q)
 
 pub next_turns : (rows : Rows) (k : Record) (y : List ℤ) → turns_after k (turns_in rows) ≡ turns_in (with_row k y rows)
 unfolding turns_after with_row

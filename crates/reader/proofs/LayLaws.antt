@@ -18,7 +18,7 @@ use Rattle.meaning.specs.Line.{Turns}
 use Rattle.meaning.specs.Text.{flat, area, part_of, no_rows, with_row, value_of}
 use Rattle.round_trip.specs.Rows.{AllLong, Fit}
 use Rattle.round_trip.proofs.Shaped.{own_row, other_row}
-use Rattle.round_trip.proofs.Values.{flat_length, area-length}
+use Rattle.round_trip.proofs.Values.{flat_length, area_length}
 use Rattle.reader.specs.Order.{turns_in, with_counts}
 use Rattle.reader.specs.Scanned.{zeros}
 use Rattle.reader.specs.Onward.{laid_part, laid_out}
@@ -68,8 +68,8 @@ fill p f y q m h =
     ∙ rw (take-append_seam, drop-append-add, drop-append-le (length y) (zeros m) q (rw (length_zeros m) h), drop_zeros) (simp append_assoc))
 
 module _ (p q : List ℤ) (n : ℕ) (rs : List (List ℤ)) (y : List ℤ) (h : length (flat rs) + length y ≤ n) where
-  fill-area : sets (p ++ (area n rs ++ q)) (length p + length (flat rs)) y ≡ p ++ (area n (rs ++ (y ∷ [])) ++ q)
-  fill-area =
+  fill_area : sets (p ++ (area n rs ++ q)) (length p + length (flat rs)) y ≡ p ++ (area n (rs ++ (y ∷ [])) ++ q)
+  fill_area =
       let m : n - length (flat rs ++ y) ≡ n - length (flat rs) - length y = rw (length-append (flat rs) y) (omega arith) in
       let a = fill p (flat rs) y q (n - length (flat rs)) (omega arith) in
       rw (area_is n rs, area_is n (rs ++ (y ∷ [])), flat_more rs y, m, append_assoc (flat rs) y) a
@@ -79,7 +79,7 @@ store : (p q : List ℤ) (n k : ℕ) (rs : List (List ℤ)) (y : List ℤ) → A
     → sets (p ++ (area n rs ++ q)) (length p + length rs * k) y ≡ p ++ (area n (rs ++ (y ∷ [])) ++ q)
 store p q n k rs y w e h =
     let g = flat_length k rs w in
-    rw (← g) (fill-area p q n rs y (omega arith))
+    rw (← g) (fill_area p q n rs y (omega arith))
 
 -- ---- one part of the chart's numbers replaced
 
@@ -130,8 +130,8 @@ module _ (f g : Part → List ℤ) (p : Part) (z y : List ℤ) (off : ℕ)
             let h = rw (m, append_assoc a (f q) (concat_map f qs ++ z), append_assoc a (f q) (concat_map g qs ++ z)) at (ih (a ++ f q) o) in
             rw (append_assoc (f q) (concat_map f qs) z, append_assoc (g q) (concat_map g qs) z, ← other q e) h
 
-    replace-part : (ps : List Part) → once ps p ≡ true → sets (concat_map f ps ++ z) (begins ps p + off) y ≡ concat_map g ps ++ z
-    replace-part ps o = ap (λ (n : ℕ). sets (concat_map f ps ++ z) n y) (sym (zero-add (begins ps p + off))) ∙ replaced ps [] o
+    replace_part : (ps : List Part) → once ps p ≡ true → sets (concat_map f ps ++ z) (begins ps p + off) y ≡ concat_map g ps ++ z
+    replace_part ps o = ap (λ (n : ℕ). sets (concat_map f ps ++ z) n y) (sym (zero-add (begins ps p + off))) ∙ replaced ps [] o
 
 each_once : (r : Record) (n : ℕ) → n < most r → once PARTS (laid r) ≡ true
 unfolding every exists
@@ -141,13 +141,13 @@ each_once r n h = every_record (λ q. once PARTS (laid q)) refl r n h
 
 laid_sized : (rows : Rows) → Fit rows → (p : Part) → length (laid_part rows p) ≡ room_of p
 laid_sized rows f (counted r) = refl
-laid_sized rows f (laid r) = area-length (row_size r) (most r) (rows r) (f.long r) (f.few r)
+laid_sized rows f (laid r) = area_length (row_size r) (most r) (rows r) (f.long r) (f.few r)
 
 pub next_numbers : (rows : Rows) (z y : List ℤ) → Fit rows → (r : Record) → length (rows r) < most r → length y ≡ row_size r
     → sets (laid_out rows z) (place (laid r) + length (rows r) * row_size r) y ≡ laid_out (with_row r y rows) z
 unfolding laid_out
 next_numbers rows z y f r h e =
-    replace-part (laid_part rows) (laid_part (with_row r y rows)) (laid r) z y (length (rows r) * row_size r) other (laid_sized rows f) own
+    replace_part (laid_part rows) (laid_part (with_row r y rows)) (laid r) z y (length (rows r) * row_size r) other (laid_sized rows f) own
     PARTS (each_once r (length (rows r)) h)
   where
     other : (q : Part) → same_part (laid r) q ≡ false → laid_part rows q ≡ laid_part (with_row r y rows) q
@@ -179,7 +179,7 @@ count_put : (t : Turns) (rows : Rows) (z : List ℤ) → Fit rows → (r : Recor
     → set (concat_map (part_by t rows) PARTS ++ z) (place (counted r)) (pos n) ≡ concat_map (part_by (with_turn t r n) rows) PARTS ++ z
 count_put t rows z f r n o =
     ap (λ (i : ℕ). set (concat_map (part_by t rows) PARTS ++ z) i (pos n)) (sym (add-zero (place (counted r))))
-    ∙ replace-part (part_by t rows) (part_by (with_turn t r n) rows) (counted r) z (pos n ∷ []) 0 other sized own PARTS o
+    ∙ replace_part (part_by t rows) (part_by (with_turn t r n) rows) (counted r) z (pos n ∷ []) 0 other sized own PARTS o
   where
     other : (q : Part) → same_part (counted r) q ≡ false → part_by t rows q ≡ part_by (with_turn t r n) rows q
     other (counted q) e = rw e
@@ -202,13 +202,13 @@ counts_of rows (r ∷ rs) = with_turn (counts_of rows rs) r (length (rows r))
 pub counted_numbers : (rows : Rows) (z : List ℤ) → Fit rows → with_counts (turns_in rows) (laid_out rows z) ≡ value_of rows ++ z
 unfolding with_counts laid_out value_of concat_map exists
 counted_numbers rows z f =
-    ap (λ (l : List ℤ). with-count (with-count (with-count l v_record) t_record) a_record) (put [] s_record refl)
-    ∙ ap (λ (l : List ℤ). with-count (with-count l t_record) a_record) (put (s_record ∷ []) v_record refl)
-    ∙ ap (λ (l : List ℤ). with-count l a_record) (put (v_record ∷ s_record ∷ []) t_record refl)
+    ap (λ (l : List ℤ). with_count (with_count (with_count l v_record) t_record) a_record) (put [] s_record refl)
+    ∙ ap (λ (l : List ℤ). with_count (with_count l t_record) a_record) (put (s_record ∷ []) v_record refl)
+    ∙ ap (λ (l : List ℤ). with_count l a_record) (put (v_record ∷ s_record ∷ []) t_record refl)
     ∙ put (t_record ∷ v_record ∷ s_record ∷ []) a_record refl
   where
-    with-count : List ℤ → Record → List ℤ
-    with-count l r = set l (place (counted r)) (pos (length (rows r)))
+    with_count : List ℤ → Record → List ℤ
+    with_count l r = set l (place (counted r)) (pos (length (rows r)))
 
     put : (rs : List Record) (r : Record) → once PARTS (counted r) ≡ true
         → set (concat_map (part_by (counts_of rows rs) rows) PARTS ++ z) (place (counted r)) (pos (length (rows r)))

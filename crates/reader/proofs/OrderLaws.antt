@@ -95,9 +95,9 @@ none_two a b = decided (a + b) 0 (eqb a 0 && eqb b 0)
     (λ e h. true≢false (sym (and_both (eqb a 0) (eqb b 0) (eq-eqb a 0 (omega arith)) (eq-eqb b 0 (omega arith))) ∙ e))
 
 module _ (t : Turns) (q : Record) where
-  pub in-order-s : q ≡ s_record → eqb (t.vars + t.events + t.transitions + t.actions) 0 ≡ in_order (turn_of t) q
+  pub in_order_s : q ≡ s_record → eqb (t.vars + t.events + t.transitions + t.actions) 0 ≡ in_order (turn_of t) q
   unfolding in_order every exists
-  in-order-s e =
+  in_order_s e =
       rw (e, none_two, none_two, none_two) (go (eqb t.vars 0) (eqb t.events 0) (eqb t.transitions 0) (eqb t.actions 0))
     where
       go : (v e t a : Bool) → ((v && e) && t) && a ≡ (v && (e && (t && (a && true)))) && e
@@ -113,13 +113,13 @@ module _ (t : Turns) (q : Record) where
   late true false a = refl
   late false t a = refl
 
-  pub in-order-v : q ≡ v_record → eqb (t.events + t.transitions + t.actions) 0 ≡ in_order (turn_of t) q
+  pub in_order_v : q ≡ v_record → eqb (t.events + t.transitions + t.actions) 0 ≡ in_order (turn_of t) q
   unfolding in_order every exists
-  in-order-v e = rw (e, none_two, none_two) (late (eqb t.events 0) (eqb t.transitions 0) (eqb t.actions 0))
+  in_order_v e = rw (e, none_two, none_two) (late (eqb t.events 0) (eqb t.transitions 0) (eqb t.actions 0))
 
-  pub in-order-e : q ≡ e_record → eqb (t.events + t.transitions + t.actions) 0 ≡ in_order (turn_of t) q
+  pub in_order_e : q ≡ e_record → eqb (t.events + t.transitions + t.actions) 0 ≡ in_order (turn_of t) q
   unfolding in_order every exists
-  in-order-e e = rw (e, none_two, none_two) (go (eqb t.events 0) (eqb t.transitions 0) (eqb t.actions 0))
+  in_order_e e = rw (e, none_two, none_two) (go (eqb t.events 0) (eqb t.transitions 0) (eqb t.actions 0))
     where
       go : (e t a : Bool) → (e && t) && a ≡ (t && (a && true)) && e
       go true true true = refl
@@ -129,9 +129,9 @@ module _ (t : Turns) (q : Record) where
       go false true false = refl
       go false false a = refl
 
-  pub in-order-t : q ≡ t_record → t.events ≤ 1 → eqb (t.actions + 1) t.events ≡ in_order (turn_of t) q
+  pub in_order_t : q ≡ t_record → t.events ≤ 1 → eqb (t.actions + 1) t.events ≡ in_order (turn_of t) q
   unfolding in_order every exists
-  in-order-t e h = rw e (go t.actions t.events h)
+  in_order_t e h = rw e (go t.actions t.events h)
     where
       go : (a e : ℕ) → e ≤ 1 → eqb (a + 1) e ≡ (eqb a 0 && true) && eqb e 1
       go a e h = decided (a + 1) e ((eqb a 0 && true) && eqb e 1)
@@ -139,13 +139,13 @@ module _ (t : Turns) (q : Record) where
           let y = eqb-true e 1 (and_right (eqb a 0 && true) (eqb e 1) i) in omega arith)
           (λ i k. true≢false (sym (rw (eq-eqb a 0 (omega arith), eq-eqb e 1 (omega arith))) ∙ i))
 
-  pub in-order-a : q ≡ a_record → eqb t.events 1 ≡ in_order (turn_of t) q
+  pub in_order_a : q ≡ a_record → eqb t.events 1 ≡ in_order (turn_of t) q
   unfolding in_order every exists
-  in-order-a e = rw e
+  in_order_a e = rw e
 
-  pub in-order-none : q ≡ no_record → eqb t.events 0 ≡ in_order (turn_of t) q
+  pub in_order_none : q ≡ no_record → eqb t.events 0 ≡ in_order (turn_of t) q
   unfolding in_order every exists
-  in-order-none e = rw e
+  in_order_none e = rw e
 
 -- ---- a line in its place, and one out of it
 
@@ -154,12 +154,12 @@ module _ (q : Record) (t : Turns) (fs : List (List ℕ)) (xs : List ℤ) where
   unfolding line_of
   misplaced h = record { mark = rw h; row = λ z. absurd (omega arith); size = refl }
 
-  pub read-in-place : (i n m : ℕ) (k : Kind) (ys : List ℤ) → in_order (turn_of t) q ≡ true → n ≡ turn_of t q → KindOf q k
+  pub read_in_place : (i n m : ℕ) (k : Kind) (ys : List ℤ) → in_order (turn_of t) q ≡ true → n ≡ turn_of t q → KindOf q k
       → form_at i ≡ form q n
       → Took (beside (line (room n k.most) []) (read_by (form_at i) n (rest_of fs))) (k.place + n * k.size) xs m ys
       → Took (line_of q (turn_of t) fs) (place_of q t) xs m ys
   unfolding line_of line_by place_of
-  read-in-place i n m k ys h e d f w = rw (h, ← e) (rw (f, d.most, d.place, d.size) at w)
+  read_in_place i n m k ys h e d f w = rw (h, ← e) (rw (f, d.most, d.place, d.size) at w)
 
 -- ---- counted
 

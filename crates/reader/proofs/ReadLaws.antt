@@ -84,30 +84,30 @@ module _ (s : List ℕ) (n : ℕ) where
         go (done r) e = f r e
         go (refused b p) e = g b p e
 
-    pub rows-fault : (l' : List ℤ) → (a.number ≡ 0 → ⊥) → l' ≡ zeros n → RowsRead (read_text s) n a l'
-    rows-fault l' z e = by_cases (λ o. RowsRead o n a l')
+    pub rows_fault : (l' : List ℤ) → (a.number ≡ 0 → ⊥) → l' ≡ zeros n → RowsRead (read_text s) n a l'
+    rows_fault l' z e = by_cases (λ o. RowsRead o n a l')
         (λ r f. absurd (z (ap (λ (a : Answer). a.number) (q.answer ∙ ap answer_of f))))
         (λ b p f. record { answer = q.answer ∙ ap answer_of f; numbers = e })
 
     module _ (z : a.number ≡ 0) where
-      no-fault : (b p : ℕ) → walk 1 no_rows (lines s) ≡ refused b p → ⊥
-      no-fault b p f =
+      no_fault : (b p : ℕ) → walk 1 no_rows (lines s) ≡ refused b p → ⊥
+      no_fault b p f =
           let k : b ≡ 0 = sym (ap (λ (a : Answer). a.number) (q.answer ∙ ap answer_of f)) ∙ z in
           never_zero 1 no_rows (lines s) p (f ∙ ap (λ (b : ℕ). refused b p) k)
 
       pub rows_few : (l' : List ℤ) → n < VALUE → l' ≡ zeros n → RowsRead (read_text s) n (answer 3 0) l'
       rows_few l' v e = by_cases (λ o. RowsRead o n (answer 3 0) l')
           (λ r f. record { answer = rw (lt-leb VALUE n v); numbers = rw (lt-leb VALUE n v) e })
-          (λ b p f. absurd (no-fault b p f))
+          (λ b p f. absurd (no_fault b p f))
 
-      pub rows-done : VALUE ≤ n → RowsRead (read_text s) n a l
-      rows-done v = by_cases (λ o. RowsRead o n a l)
+      pub rows_done : VALUE ≤ n → RowsRead (read_text s) n a l
+      rows_done v = by_cases (λ o. RowsRead o n a l)
           (λ r f. record {
             answer = rw (le-leb VALUE n v) (q.answer ∙ ap answer_of f);
             numbers = rw (le-leb VALUE n v)
                 (q.numbers r f v);
           })
-          (λ b p f. absurd (no-fault b p f))
+          (λ b p f. absurd (no_fault b p f))
 
 -- ---- numbers that were set to 0 before
 pub all_zero : (l : List ℤ) (k : ℕ) → l ≡ zeros k → l ≡ zeros (length l)

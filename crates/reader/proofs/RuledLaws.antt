@@ -45,15 +45,15 @@ fault_by n (done r) a l q z = go (leb VALUE n) q.answer q.numbers
 fault_by n (refused b p) a l q z = rw q.answer (seen_refused n b p l q.numbers)
 
 module _ (s : List ℕ) (n : ℕ) (a : Answer) (l : List ℤ) (q : RowsRead (read_text s) n a l) where
-  pub read-fault : (a.number ≡ 0 → ⊥) → Seen n (read s n) a l
+  pub read_fault : (a.number ≡ 0 → ⊥) → Seen n (read s n) a l
   unfolding read
-  read-fault z = fault_by n (read_text s) a l q z
+  read_fault z = fault_by n (read_text s) a l q z
 
   -- ---- the lines have passed: the rules decide
   module _ (z : a.number ≡ 0) (v : Answer) (w : v ≡ verdict (failing_rule (chart_of l))) where
-    chart-is : (r : Rows) → Whole r → l ≡ value_of r ++ zeros (n - VALUE) → chart_of l ≡ chart_by r
+    chart_is : (r : Rows) → Whole r → l ≡ value_of r ++ zeros (n - VALUE) → chart_of l ≡ chart_by r
     unfolding chart_of
-    chart-is r f e = rw (e, rows_back r f.fit (zeros (n - VALUE)) f.one)
+    chart_is r f e = rw (e, rows_back r f.fit (zeros (n - VALUE)) f.one)
 
     long : (r : Rows) → Whole r → VALUE ≤ n → l ≡ value_of r ++ zeros (n - VALUE) → length l ≡ n
     long r f h e =
@@ -69,15 +69,15 @@ module _ (s : List ℕ) (n : ℕ) (a : Answer) (l : List ℤ) (q : RowsRead (rea
         let m : v.number ≡ 3 = ap (λ (a : Answer). a.number) u in
         rw u (seen_refused n 3 k l' (bad (λ i. absurd (omega arith)) ∙ ap zeros (long r f h e)))
 
-    pub read-ruled : (l' : List ℤ) → ((v.number ≡ 0 → ⊥) → l' ≡ zeros (length l)) → (v.number ≡ 0 → l' ≡ l) → Seen n (read s n) v l'
+    pub read_ruled : (l' : List ℤ) → ((v.number ≡ 0 → ⊥) → l' ≡ zeros (length l)) → (v.number ≡ 0 → l' ≡ l) → Seen n (read s n) v l'
     unfolding read
-    read-ruled l' bad good = by (read_text s) refl q.answer q.numbers
+    read_ruled l' bad good = by (read_text s) refl q.answer q.numbers
       where
         passed : (r : Rows) (b : Bool) → leb VALUE n ≡ b → a ≡ answer_of (roomy_if b r) → Left (roomy_if b r) n l
             → Seen n (checked_if b r) v l'
         passed r true h i j =
             by_verdict r j.1 (leb-true VALUE n h) j.0 (failing_rule (chart_by r))
-            (w ∙ ap (λ c. verdict (failing_rule c)) (chart-is r j.1 j.0)) l' bad good
+            (w ∙ ap (λ c. verdict (failing_rule c)) (chart_is r j.1 j.0)) l' bad good
         passed r false h i j = let m : ◌≡◌ {A = ℕ} 3 0 = sym (ap (λ (a : Answer). a.number) i) ∙ z in absurd (omega arith)
 
         by : (o : Result Rows) → read_text s ≡ o → a ≡ answer_of (roomy n o) → Left (roomy n o) n l → Seen n (checked n o) v l'

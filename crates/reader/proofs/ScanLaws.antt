@@ -26,36 +26,36 @@ use Rattle.reader.specs.declared.order.Turns.{Turns}
 use Rattle.reader.specs.declared.scan.Progress.{Progress}
 use Rattle.reader.proofs.LayLaws.{laid_none, length_zeros, next_numbers, counted_numbers}
 use Rattle.reader.proofs.RowLaws.{row_fits}
-use Rattle.reader.proofs.HeldLaws.{counts-are, next_turns, next-fit, fit_start, within-fit}
+use Rattle.reader.proofs.HeldLaws.{counts_are, next_turns, next_fit, fit_start, within_fit}
 
 -- ---- the lines from a place on
 module _ (s : List ℕ) (at e : ℕ) (q : Stop 10 s at (length s) e) where
-  lines-last : e ≡ length s → lines (slice at (length s) s) ≡ slice at (length s) s ∷ []
+  lines_last : e ≡ length s → lines (slice at (length s) s) ≡ slice at (length s) s ∷ []
   unfolding lines
-  lines-last h = rw (q.head, q.last h, h)
+  lines_last h = rw (q.head, q.last h, h)
 
   lines_next : (e ≡ length s → ⊥) → lines (slice at (length s) s) ≡ slice at e s ∷ lines (slice (e + 1) (length s) s)
   unfolding lines
   lines_next h = rw (q.head, q.more h)
 
   module _ (w : Rows) (n : ℕ) where
-    walk-cut : e ≡ length s → at < length s → walk n w (lines (slice at (length s) s)) ≡ refused 1 n
+    walk_cut : e ≡ length s → at < length s → walk n w (lines (slice at (length s) s)) ≡ refused 1 n
     unfolding walk
-    walk-cut h k = rw (lines-last h, slice-cons at (length s) s 0 k (omega arith))
+    walk_cut h k = rw (lines_last h, slice-cons at (length s) s 0 k (omega arith))
 
-    walk-last : e ≡ length s → length s ≤ at → walk n w (lines (slice at (length s) s)) ≡ cond (leb 1 (length (w e_record))) (done w)
+    walk_last : e ≡ length s → length s ≤ at → walk n w (lines (slice at (length s) s)) ≡ cond (leb 1 (length (w e_record))) (done w)
         (refused 1 n)
     unfolding walk
-    walk-last h k =
+    walk_last h k =
         let l = q.low in
         let z : at ≡ length s = omega arith in
         let y : slice at (length s) s ≡ [] = rw z (slice_empty (length s) s) in
-        rw (lines-last h, y)
+        rw (lines_last h, y)
 
-    walk-next : (e ≡ length s → ⊥) → walk n w (lines (slice at (length s) s)) ≡ line_taken (fields (slice at e s)) n w (λ v. walk
+    walk_next : (e ≡ length s → ⊥) → walk n w (lines (slice at (length s) s)) ≡ line_taken (fields (slice at e s)) n w (λ v. walk
         (n + 1) v (lines (slice (e + 1) (length s) s)))
     unfolding walk lines
-    walk-next h = rw (lines_next h)
+    walk_next h = rw (lines_next h)
 
 -- ---- what the loop keeps
 pub walking_start : (s : List ℕ) (n0 : ℕ) (l : List ℤ) → l ≡ zeros n0 → Walking s n0 l 0 1 no_turns
@@ -71,11 +71,11 @@ walking_start s n0 l e = record {
 }
 
 module _ (s : List ℕ) (n0 : ℕ) (l : List ℤ) (at n : ℕ) (t : Turns) (w : Walking s n0 l at n t) where
-  pub walking-within : Within t
-  walking-within = within-fit w.read w.fit t w.turns
+  pub walking_within : Within t
+  walking_within = within_fit w.read w.fit t w.turns
 
-  same-events : t.events ≡ length (w.read e_record)
-  same-events = ap (λ (t : Turns). t.events) w.turns
+  same_events : t.events ≡ length (w.read e_record)
+  same_events = ap (λ (t : Turns). t.events) w.turns
 
   gives : (o : Result Rows) → walk n w.read (lines (slice at (length s) s)) ≡ o → walk 1 no_rows (lines s) ≡ o
   gives o e = sym w.same ∙ e
@@ -88,24 +88,24 @@ module _ (s : List ℕ) (n0 : ℕ) (l : List ℤ) (at n : ℕ) (t : Turns) (w : 
       impossible r f = let z : ◌≡◌ {A = ℕ} 0 1 = cc in absurd (omega arith)
 
   module _ (e : ℕ) (q : Stop 10 s at (length s) e) where
-    pub scan-cut : e ≡ length s → at < length s → Scanned (walk 1 no_rows (lines s)) (answer 1 n) n0 l
-    scan-cut h k = refusal 1 n l w.size (gives (refused 1 n) (walk-cut s at e q w.read n h k))
+    pub scan_cut : e ≡ length s → at < length s → Scanned (walk 1 no_rows (lines s)) (answer 1 n) n0 l
+    scan_cut h k = refusal 1 n l w.size (gives (refused 1 n) (walk_cut s at e q w.read n h k))
 
-    pub scan-missing : e ≡ length s → length s ≤ at → t.events < 1 → Scanned (walk 1 no_rows (lines s)) (answer 1 n) n0 l
-    scan-missing h k d =
-        let g = same-events in
+    pub scan_missing : e ≡ length s → length s ≤ at → t.events < 1 → Scanned (walk 1 no_rows (lines s)) (answer 1 n) n0 l
+    scan_missing h k d =
+        let g = same_events in
         let z : leb 1 (length (w.read e_record)) ≡ false = lt-leb 1 (length (w.read e_record)) (omega arith) in
         refusal 1 n l w.size
-        (gives (refused 1 n) (walk-last s at e q w.read n h k ∙ ap (λ (b : Bool). cond b (done w.read) (refused 1 n)) z))
+        (gives (refused 1 n) (walk_last s at e q w.read n h k ∙ ap (λ (b : Bool). cond b (done w.read) (refused 1 n)) z))
 
-    pub scan-done : (l' : List ℤ) → l' ≡ with_counts t l → e ≡ length s → length s ≤ at → 1 ≤ t.events
+    pub scan_done : (l' : List ℤ) → l' ≡ with_counts t l → e ≡ length s → length s ≤ at → 1 ≤ t.events
         → Scanned (walk 1 no_rows (lines s)) (answer 0 0) n0 l'
     unfolding with_counts
-    scan-done l' f h k d =
-        let g = same-events in
+    scan_done l' f h k d =
+        let g = same_events in
         let z : leb 1 (length (w.read e_record)) ≡ true = le-leb 1 (length (w.read e_record)) (omega arith) in
         let r : walk 1 no_rows (lines s) ≡ done w.read =
-        gives (done w.read) (walk-last s at e q w.read n h k ∙ ap (λ (b : Bool). cond b (done w.read) (refused 1 n)) z) in
+        gives (done w.read) (walk_last s at e q w.read n h k ∙ ap (λ (b : Bool). cond b (done w.read) (refused 1 n)) z) in
         record {
           answer = sym (ap answer_of r);
           numbers = λ rows i v. rest rows v (sym r ∙ i);
@@ -118,7 +118,7 @@ module _ (s : List ℕ) (n0 : ℕ) (l : List ℤ) (at n : ℕ) (t : Turns) (w : 
         rest : (rows : Rows) → VALUE ≤ n0 → done w.read ≡ done rows → (l' ≡ value_of rows ++ zeros (n0 - VALUE)) × Whole rows
         rest rows v i =
             let j : w.read ≡ rows = cc in
-            let g = same-events in
+            let g = same_events in
             let few = w.fit.few e_record in
             let m : l' ≡ value_of w.read ++ zeros (n0 - VALUE) =
             f ∙ rw (w.turns, w.numbers v) (counted_numbers w.read (zeros (n0 - VALUE)) w.fit) in
@@ -139,47 +139,47 @@ module _ (s : List ℕ) (n0 : ℕ) (l : List ℤ) (at n : ℕ) (t : Turns) (w : 
       abbrev onward : Rows → Result Rows
       onward v = walk (n + 1) v (lines (slice (e + 1) (length s) s))
 
-      turns-are : turn_of t ≡ turns_of w.read
-      turns-are = ap turn_of w.turns ∙ counts-are w.read w.fit
+      turns_are : turn_of t ≡ turns_of w.read
+      turns_are = ap turn_of w.turns ∙ counts_are w.read w.fit
 
       as_read : line_of (record_by k) (turn_of t) fs ≡ line_of r (turns_of w.read) fs
-      as_read = rw (g, turns-are)
+      as_read = rw (g, turns_are)
 
-      mark-is : m ≡ (line_of r (turns_of w.read) fs).mark
-      mark-is = o.mark ∙ ap (λ (l : Line). l.mark) as_read
+      mark_is : m ≡ (line_of r (turns_of w.read) fs).mark
+      mark_is = o.mark ∙ ap (λ (l : Line). l.mark) as_read
 
-      next-is : walk 1 no_rows (lines s) ≡ further m n (with_row r y w.read) onward
-      next-is =
-          sym w.same ∙ walk-next s at e q w.read n h ∙ ap (λ (a : ℕ). further a n (with_row r y w.read) onward) (sym mark-is)
+      next_is : walk 1 no_rows (lines s) ≡ further m n (with_row r y w.read) onward
+      next_is =
+          sym w.same ∙ walk_next s at e q w.read n h ∙ ap (λ (a : ℕ). further a n (with_row r y w.read) onward) (sym mark_is)
 
-      pub scan-fault : (m ≡ 0 → ⊥) → Scanned (walk 1 no_rows (lines s)) (answer m n) n0 l'
-      scan-fault z = refusal m n l' (o.size ∙ w.size) (next-is ∙ stops m (with_row r y w.read) onward z)
+      pub scan_fault : (m ≡ 0 → ⊥) → Scanned (walk 1 no_rows (lines s)) (answer m n) n0 l'
+      scan_fault z = refusal m n l' (o.size ∙ w.size) (next_is ∙ stops m (with_row r y w.read) onward z)
         where
           stops : (m : ℕ) (v : Rows) (more : Rows → Result Rows) → (m ≡ 0 → ⊥) → further m n v more ≡ refused m n
           stops zero v more z = absurd (z refl)
           stops (suc m) v more z = refl
 
-      pub scan-next : (u : Turns) → u ≡ turns_after (record_by k) t → m ≡ 0 → Walking s n0 l' (e + 1) (n + 1) u
+      pub scan_next : (u : Turns) → u ≡ turns_after (record_by k) t → m ≡ 0 → Walking s n0 l' (e + 1) (n + 1) u
       unfolding place_of
-      scan-next u i z =
+      scan_next u i z =
           let p = w.line in
           let lo = q.low in
           let hi = q.high in
-          let fits = row_fits r (turns_of w.read) fs (sym mark-is ∙ z) in
+          let fits = row_fits r (turns_of w.read) fs (sym mark_is ∙ z) in
           let stored : VALUE ≤ n0 → l' ≡ sets (laid_out w.read (zeros (n0 - VALUE))) (place_of r t) y =
           λ v. o.row z ∙ ap (λ (x : Line). sets l (place_of (record_by k) t) x.row) as_read
           ∙ ap (λ (c : ℕ). sets l (place_of (record_by c) t) y) g ∙ ap (λ (x : List ℤ). sets x (place_of r t) y) (w.numbers v) in
           let at_row : place_of r t ≡ place (laid r) + length (w.read r) * row_size r =
-          ap (λ (n : ℕ). place (laid r) + n * row_size r) (ap (λ (f : Record → ℕ). f r) turns-are) in
+          ap (λ (n : ℕ). place (laid r) + n * row_size r) (ap (λ (f : Record → ℕ). f r) turns_are) in
           record {
             read = with_row r y w.read;
             turns = i ∙ ap (λ (c : ℕ). turns_after (record_by c) t) g ∙ ap (turns_after r) w.turns ∙ next_turns w.read r y;
             numbers = λ v. stored v ∙ rw at_row (next_numbers w.read (zeros (n0 - VALUE)) y w.fit r fits.0 fits.1);
-            fit = next-fit w.read w.fit r y fits.0 fits.1;
+            fit = next_fit w.read w.fit r y fits.0 fits.1;
             size = o.size ∙ w.size;
             inside = omega arith;
             line = omega arith;
-            same = sym (next-is ∙ rw z);
+            same = sym (next_is ∙ rw z);
           }
 
 -- ---- how far the reading has come
@@ -189,17 +189,17 @@ no_clash f = let z : ◌≡◌ {A = ℕ} 0 1 = cc in absurd (omega arith)
 
 module _ (s : List ℕ) (n0 : ℕ) (l : List ℤ) where
   -- before the first line
-  pub onward-start : l ≡ zeros n0 → Onward s n0 l begun
-  onward-start e = record { goes = λ f. walking_start s n0 l e; ends = no_clash }
+  pub onward_start : l ≡ zeros n0 → Onward s n0 l begun
+  onward_start e = record { goes = λ f. walking_start s n0 l e; ends = no_clash }
 
-  pub onward-over : (at : ℕ) (a : Answer) (r : Progress) → r ≡ over a → Scanned (walk 1 no_rows (lines s)) a n0 l
+  pub onward_over : (at : ℕ) (a : Answer) (r : Progress) → r ≡ over a → Scanned (walk 1 no_rows (lines s)) a n0 l
       → Onward s n0 l r × (r.going ≡ true → at < r.at)
-  onward-over at a r e h = subst (λ x. Onward s n0 l x × (x.going ≡ true
+  onward_over at a r e h = subst (λ x. Onward s n0 l x × (x.going ≡ true
       → at < x.at)) (sym e) (record { goes = λ f. no_clash (sym f); ends = λ f. h }, λ f. no_clash (sym f))
 
-  pub onward-next : (at next n : ℕ) (t : Turns) → Walking s n0 l next n t → at < next
+  pub onward_next : (at next n : ℕ) (t : Turns) → Walking s n0 l next n t → at < next
       → Onward s n0 l (record { going = true; at = next; line = n; turns = t; answer = answer 0 0 }) × (true ≡ true → at < next)
-  onward-next at next n t w h = (record { goes = λ f. w; ends = no_clash }, λ f. h)
+  onward_next at next n t w h = (record { goes = λ f. w; ends = no_clash }, λ f. h)
 
 -- what is left to read falls with each line
 pub left : List ℕ → Progress → ℕ

@@ -66,24 +66,24 @@ event_here ns d e a l f g =
 -- ---- over any numbers
 
 module _ (ns : List ℤ) (u : State) (n : ℕ) where
-  pub replay-none : (ev : List ℤ) → length ev < 2 → replay ns u (items_of ev) n ≡ course 0 0 u []
+  pub replay_none : (ev : List ℤ) → length ev < 2 → replay ns u (items_of ev) n ≡ course 0 0 u []
   unfolding replay replay_by places
-  replay-none [] h = refl
-  replay-none (e ∷ []) h = refl
-  replay-none (e ∷ a ∷ ev) h = absurd (omega (arith, h))
+  replay_none [] h = refl
+  replay_none (e ∷ []) h = refl
+  replay_none (e ∷ a ∷ ev) h = absurd (omega (arith, h))
 
   module _ (z : Sized u) where
-    pub replay-5 : (ev : List ℤ) → 2 ≤ length ev → well_formed ns ≡ false → replay ns u (items_of ev) n ≡ course 0 5 u []
+    pub replay_5 : (ev : List ℤ) → 2 ≤ length ev → well_formed ns ≡ false → replay ns u (items_of ev) n ≡ course 0 5 u []
     unfolding replay_once places
-    replay-5 [] h f = absurd (omega (arith, h))
-    replay-5 (e ∷ []) h f = absurd (omega (arith, h))
-    replay-5 (e ∷ a ∷ ev) h f = replay_tests_once ns u z (item e a ∷ places ev) n
+    replay_5 [] h f = absurd (omega (arith, h))
+    replay_5 (e ∷ []) h f = absurd (omega (arith, h))
+    replay_5 (e ∷ a ∷ ev) h f = replay_tests_once ns u z (item e a ∷ places ev) n
         ∙ ap (λ b. elim b [ true ↦ replay_examined (plan_by ns) u (item e a ∷ places ev) n | false ↦ course 0 5 u [] ]) f
 
-    pub replay-is : (ev : List ℤ) → 2 ≤ length ev → well_formed ns ≡ true
+    pub replay_is : (ev : List ℤ) → 2 ≤ length ev → well_formed ns ≡ true
         → replay ns u (items_of ev) n ≡ replay_examined (plan_by ns) u (items_of ev) n
     unfolding replay_once places
-    replay-is [] h f = absurd (omega (arith, h))
-    replay-is (e ∷ []) h f = absurd (omega (arith, h))
-    replay-is (e ∷ a ∷ ev) h f = replay_tests_once ns u z (item e a ∷ places ev) n
+    replay_is [] h f = absurd (omega (arith, h))
+    replay_is (e ∷ []) h f = absurd (omega (arith, h))
+    replay_is (e ∷ a ∷ ev) h f = replay_tests_once ns u z (item e a ∷ places ev) n
         ∙ ap (λ b. elim b [ true ↦ replay_examined (plan_by ns) u (item e a ∷ places ev) n | false ↦ course 0 5 u [] ]) f

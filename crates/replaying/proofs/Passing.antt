@@ -18,8 +18,8 @@ use Rattle.queue.specs.declared.Queue.{Queue}
 use Rattle.queue.specs.declared.Removed.{Removed}
 use Rattle.queue.proofs.Copy.{copied, copied_suc}
 use Rattle.queue.proofs.Numbers.{held_lent, numbers_long, places_long}
-use Rattle.queue.proofs.Tidy.{appended-long, removed-long}
-use Rattle.queue.proofs.Waiting.{appended-full, appended-room, removed-front}
+use Rattle.queue.proofs.Tidy.{appended_long, removed_long}
+use Rattle.queue.proofs.Waiting.{appended_full, appended_room, removed_front}
 use Rattle.laws.proofs.Lists.{and_left, and_right}
 use Rattle.meaning.specs.Foreign.{is_none}
 use Rattle.meaning.specs.Lists.{every}
@@ -44,30 +44,30 @@ all_free (x ∷ xs) h =
 -- ---- an event that is appended can be taken
 
 module _ (q : Queue) (e a : ℤ) (h : q.len < QUEUE) where
-  pub taken-from : removed (appended q e a).queue ≡ removed (record { len = q.len + 1; items = (appended q e a).queue.items })
-  taken-from = ap (λ n. removed (record { len = n; items = (appended q e a).queue.items }))
-      (ap (λ x. x.queue.len) (appended-room q e a h))
+  pub taken_from : removed (appended q e a).queue ≡ removed (record { len = q.len + 1; items = (appended q e a).queue.items })
+  taken_from = ap (λ n. removed (record { len = n; items = (appended q e a).queue.items }))
+      (ap (λ x. x.queue.len) (appended_room q e a h))
 
-  pub is-taken : (removed (appended q e a).queue).done ≡ true
-  is-taken = ap (λ x. x.done) (taken-from
-      ∙ removed-front (record { len = q.len + 1; items = (appended q e a).queue.items }) (omega arith) (omega arith))
+  pub is_taken : (removed (appended q e a).queue).done ≡ true
+  is_taken = ap (λ x. x.done) (taken_from
+      ∙ removed_front (record { len = q.len + 1; items = (appended q e a).queue.items }) (omega arith) (omega arith))
 
-  left-len : (removed (appended q e a).queue).queue.len ≤ QUEUE
-  left-len =
-      let f = ap (λ x. x.queue.len) (taken-from
-      ∙ removed-front (record { len = q.len + 1; items = (appended q e a).queue.items }) (omega arith) (omega arith)) in
+  left_len : (removed (appended q e a).queue).queue.len ≤ QUEUE
+  left_len =
+      let f = ap (λ x. x.queue.len) (taken_from
+      ∙ removed_front (record { len = q.len + 1; items = (appended q e a).queue.items }) (omega arith) (omega arith)) in
       omega (arith, f)
 
   left_long : length q.items ≡ QUEUE → length (removed (appended q e a).queue).queue.items ≡ QUEUE
   left_long l =
-      let s = appended-long q e a in
-      removed-long (appended q e a).queue (omega (arith, s, l)) ∙ s ∙ l
+      let s = appended_long q e a in
+      removed_long (appended q e a).queue (omega (arith, s, l)) ∙ s ∙ l
 
-  pub left-says : queue_by (numbers_of (removed (appended q e a).queue).queue) ≡ (removed (appended q e a).queue).queue
-  left-says = held_lent (removed (appended q e a).queue).queue left-len
+  pub left_says : queue_by (numbers_of (removed (appended q e a).queue).queue) ≡ (removed (appended q e a).queue).queue
+  left_says = held_lent (removed (appended q e a).queue).queue left_len
 
-  pub left-whole : length q.items ≡ QUEUE → length (numbers_of (removed (appended q e a).queue).queue) ≡ QUEUE_NUMBERS
-  left-whole l = numbers_long (removed (appended q e a).queue).queue (left_long l)
+  pub left_whole : length q.items ≡ QUEUE → length (numbers_of (removed (appended q e a).queue).queue) ≡ QUEUE_NUMBERS
+  left_whole l = numbers_long (removed (appended q e a).queue).queue (left_long l)
 
 -- nothing waits before it: it comes out as it went in, and the queue is as it was
 through_empty : (n : ℕ) (xs : List Item) (e a : ℤ) → n ≡ 0 → xs ≡ replicate QUEUE no_item
@@ -79,14 +79,14 @@ through_empty n xs e a z f = rw (z, f)
 -- ---- the three ways
 
 module _ (ns : List ℤ) (w : length ns ≡ QUEUE_NUMBERS) (n : ℕ) (l : n ≡ ref (get_or ns 0 (pos 0))) (e a : ℤ) where
-  items-long : length (queue_by ns).items ≡ QUEUE
+  items_long : length (queue_by ns).items ≡ QUEUE
   unfolding queue_by
-  items-long = places_long (drop 1 ns) QUEUE (rw length-drop (omega (arith, w)))
+  items_long = places_long (drop 1 ns) QUEUE (rw length-drop (omega (arith, w)))
 
-  pub pass-full : QUEUE ≤ n → (x : Item) → Passes ns e a (record { done = false; front = x }) ns
+  pub pass_full : QUEUE ≤ n → (x : Item) → Passes ns e a (record { done = false; front = x }) ns
   unfolding queue_by
-  pass-full h x = record {
-    room = sym (ap (λ y. y.done) (appended-full (queue_by ns) e a (omega (arith, l, h))));
+  pass_full h x = record {
+    room = sym (ap (λ y. y.done) (appended_full (queue_by ns) e a (omega (arith, l, h))));
     front = λ y. absurd (false≢true y);
     left = λ y. absurd (false≢true y);
     full = λ y. refl;
@@ -96,12 +96,12 @@ module _ (ns : List ℤ) (w : length ns ≡ QUEUE_NUMBERS) (n : ℕ) (l : n ≡ 
   module _ (h : n < QUEUE) where
     has_room : true ≡ (appended (queue_by ns) e a).done
     unfolding queue_by
-    has_room = sym (ap (λ y. y.done) (appended-room (queue_by ns) e a (omega (arith, l, h))))
+    has_room = sym (ap (λ y. y.done) (appended_room (queue_by ns) e a (omega (arith, l, h))))
 
-    pub pass-empty : n ≡ 0 → Free ns → Passes ns e a (record { done = true; front = item e a }) ns
+    pub pass_empty : n ≡ 0 → Free ns → Passes ns e a (record { done = true; front = item e a }) ns
     unfolding queue_by
-    pass-empty z f =
-        let t = through_empty (queue_by ns).len (queue_by ns).items e a (sym l ∙ z) none-there in
+    pass_empty z f =
+        let t = through_empty (queue_by ns).len (queue_by ns).items e a (sym l ∙ z) none_there in
         record {
           room = has_room;
           front = λ y. sym (ap (λ x. x.front) t);
@@ -110,9 +110,9 @@ module _ (ns : List ℤ) (w : length ns ≡ QUEUE_NUMBERS) (n : ℕ) (l : n ≡ 
           whole = refl;
         }
       where
-        none-there : (queue_by ns).items ≡ replicate QUEUE no_item
-        none-there = all_free (queue_by ns).items (subst (λ m. every is_none (drop m (queue_by ns).items) ≡ true) (sym l ∙ z) f)
-            ∙ ap (λ m. replicate m no_item) items-long
+        none_there : (queue_by ns).items ≡ replicate QUEUE no_item
+        none_there = all_free (queue_by ns).items (subst (λ m. every is_none (drop m (queue_by ns).items) ≡ true) (sym l ∙ z) f)
+            ∙ ap (λ m. replicate m no_item) items_long
 
     pub pass_on : (ms : List ℤ) (r : Removed) → r ≡ removed (appended (queue_by ns) e a).queue → ms ≡ numbers_of r.queue
         → Passes ns e a (record { done = true; front = r.front }) ms
@@ -120,9 +120,9 @@ module _ (ns : List ℤ) (w : length ns ≡ QUEUE_NUMBERS) (n : ℕ) (l : n ≡ 
     pass_on ms r g m = record {
       room = has_room;
       front = λ y. ap (λ x. x.front) g;
-      left = λ y. ap queue_by all ∙ left-says (queue_by ns) e a (omega (arith, l, h));
+      left = λ y. ap queue_by all ∙ left_says (queue_by ns) e a (omega (arith, l, h));
       full = λ y. absurd (true≢false y);
-      whole = ap length all ∙ left-whole (queue_by ns) e a (omega (arith, l, h)) items-long ∙ sym w;
+      whole = ap length all ∙ left_whole (queue_by ns) e a (omega (arith, l, h)) items_long ∙ sym w;
     }
       where
         all : ms ≡ numbers_of (removed (appended (queue_by ns) e a).queue).queue

@@ -14,7 +14,7 @@ use Rattle.queue.specs.declared.Item.{Item}
 use Rattle.queue.specs.declared.Queue.{Queue}
 use Rattle.queue.proofs.Numbers.{held_lent, numbers_long}
 use Rattle.invariants.specs.Good.{Sized}
-use Rattle.invariants.proofs.Values.{fits-len}
+use Rattle.invariants.proofs.Values.{fits_len}
 use Rattle.meaning.specs.Calls.{Outcome, outcome, as_found}
 use Rattle.meaning.specs.Foreign.{event_fits}
 use Rattle.meaning.specs.Lists.{padded}
@@ -25,12 +25,12 @@ use Rattle.meaning.specs.Widget.{ENTRY, begin, is_active, set_queue}
 use Rattle.meaning.specs.declared.State.{State}
 use Rattle.widget.specs.View.{Lent, all_lent, widget, with_queue}
 use Rattle.plan_invariants.specs.Replay.{post_on, replay_examined, run_on}
-use Rattle.plan_invariants.proofs.Calls.{own-fit}
+use Rattle.plan_invariants.proofs.Calls.{own_fit}
 use Rattle.promises.specs.Replay.{Course, course, or_stop, replay_by, replayed}
 use Rattle.promises.specs.declared.Replayed.{Replayed}
 use Rattle.replaying.specs.Course.{Broken, GoneThrough, Owned, Starts, Told, through}
 use Rattle.replaying.specs.declared.course.Gone.{Gone}
-use Rattle.replaying.proofs.Turning.{post-0, post-10, post-6, post-9}
+use Rattle.replaying.proofs.Turning.{post_0, post_10, post_6, post_9}
 
 -- ---- what is told
 
@@ -69,23 +69,23 @@ module _ (p : Plan) (u : State) (xs : List Item) (n : ℕ) where
       (λ v. through p n v xs)) e
       ∙ ap (λ b. or_stop 0 [] (outcome u ((require 7 s then require 6 b) (begin u 0))) (λ v. through p n v xs)) f
 
-  pub once-7 : u.started ≡ false → replay_examined p u xs n ≡ course 0 7 u []
+  pub once_7 : u.started ≡ false → replay_examined p u xs n ≡ course 0 7 u []
   unfolding or_stop outcome as_found require ◌then◌ bind
-  once-7 e = once_by false (plan_own p.states p.vars p.events u) e refl
+  once_7 e = once_by false (plan_own p.states p.vars p.events u) e refl
 
-  pub once-6 : u.started ≡ true → plan_own p.states p.vars p.events u ≡ false → replay_examined p u xs n ≡ course 0 6 u []
+  pub once_6 : u.started ≡ true → plan_own p.states p.vars p.events u ≡ false → replay_examined p u xs n ≡ course 0 6 u []
   unfolding or_stop outcome as_found require ◌then◌ bind
-  once-6 e f = once_by true false e f
+  once_6 e f = once_by true false e f
 
-  pub once-on : Starts p u → replay_examined p u xs n ≡ through p n u xs
+  pub once_on : Starts p u → replay_examined p u xs n ≡ through p n u xs
   unfolding or_stop outcome require ◌then◌ bind begin
-  once-on h = once_by true true h.started h.own
+  once_on h = once_by true true h.started h.own
 
 -- ---- a widget as it is lent
 
 module _ {p : Plan} {u : State} (h : Starts p u) (z : Sized u) {ns : List ℤ} (l : ns ≡ numbers_of u.queue) (t : List ℤ) where
   short : u.queue.len ≤ QUEUE
-  short = fits-len p.events u.queue (own-fit p u z h.started h.own).queue
+  short = fits_len p.events u.queue (own_fit p u z h.started h.own).queue
 
   pub widget_is : u ≡ widget (all_lent u.active u.slots u.vars ns t)
   widget_is = sym
@@ -93,8 +93,8 @@ module _ {p : Plan} {u : State} (h : Starts p u) (z : Sized u) {ns : List ℤ} (
       ∙ ap (λ r. record { started = u.started; active = u.active; slots = u.slots; vars = u.vars; queue = r })
       (ap queue_by l ∙ held_lent u.queue short))
 
-  pub owned-lent : Owned p (all_lent u.active u.slots u.vars ns t)
-  owned-lent = record {
+  pub owned_lent : Owned p (all_lent u.active u.slots u.vars ns t)
+  owned_lent = record {
     own = subst (λ v. plan_own p.states p.vars p.events v ≡ true) widget_is h.own;
     active = z.active;
     slots = z.slots;
@@ -116,10 +116,10 @@ posted_after p x u z = go (is_active u 0) (event_fits p.events x.event x.arg) (a
     go : (a b d : Bool) → is_active u 0 ≡ a → event_fits p.events x.event x.arg ≡ b
         → (appended u.queue x.event x.arg).done ≡ d
         → (post_on p x u).after ≡ set_queue (appended u.queue x.event x.arg).queue u
-    go false b d e f g = absurd (no (post-6 p x u e) (λ y. omega arith))
-    go true false d e f g = absurd (no (post-10 p x u e refl f) (λ y. omega arith))
-    go true true false e f g = absurd (no (post-9 p x u e refl f g) (λ y. omega arith))
-    go true true true e f g = ap (λ (o : Outcome). o.after) (post-0 p x u e refl f g)
+    go false b d e f g = absurd (no (post_6 p x u e) (λ y. omega arith))
+    go true false d e f g = absurd (no (post_10 p x u e refl f) (λ y. omega arith))
+    go true true false e f g = absurd (no (post_9 p x u e refl f g) (λ y. omega arith))
+    go true true true e f g = ap (λ (o : Outcome). o.after) (post_0 p x u e refl f g)
 
 -- ---- the ends of the events
 
@@ -127,16 +127,16 @@ module _ {p : Plan} {u : State} (h : Starts p u) (z : Sized u) {ns : List ℤ} (
   module _ {xs ys : List Item} (e : xs ≡ ys) {g : Gone} {k : Lent}
       (w : GoneThrough p xs (all_lent u.active u.slots u.vars ns t) g k) where
     -- none is left, or a post is refused
-    pub ended-told : {r : Replayed} {t₁ : List ℤ} → g.posted ≡ false
+    pub ended_told : {r : Replayed} {t₁ : List ℤ} → g.posted ≡ false
         → Told (course g.done g.number (widget k) (take g.at k.trace)) k.trace r t₁
         → Told (replay_examined p u ys (length t)) t r t₁
-    ended-told y f = told_as
-        (ap (λ zs. replay_examined p u zs (length t)) (sym e) ∙ once-on p u xs (length t) h
+    ended_told y f = told_as
+        (ap (λ zs. replay_examined p u zs (length t)) (sym e) ∙ once_on p u xs (length t) h
         ∙ ap (λ v. through p (length t) v xs) (widget_is h z l t) ∙ w.ended y) (sym w.kept) f
 
     -- a run is refused, seen from the state that it began with
-    pub broken-here : g.posted ≡ true → Broken p (length k.trace) ys u g.done g.number
-    broken-here y =
+    pub broken_here : g.posted ≡ true → Broken p (length k.trace) ys u g.done g.number
+    broken_here y =
         subst (λ n. Broken p n ys u g.done g.number) (sym w.kept)
         (subst (λ zs. Broken p (length t) zs u g.done g.number) e
         (subst (λ v. Broken p (length t) xs v g.done g.number) (sym (widget_is h z l t)) (w.broken y)))
@@ -163,8 +163,8 @@ module _ {p : Plan} {u : State} (h : Starts p u) (z : Sized u) {ns : List ℤ} (
             ∙ posted_after p x (widget k) (ap (λ (o : Outcome). o.number) (sym after_is) ∙ b.posted)
             ∙ ap (λ y. record { started = true; active = k.active; slots = k.slots; vars = k.vars; queue = y }) (sym q)
 
-        pub broken-told : {r : Replayed} {t₁ : List ℤ}
+        pub broken_told : {r : Replayed} {t₁ : List ℤ}
             → Told (course d m (widget (with_queue ms k)) (take 0 k.trace)) k.trace r t₁
             → Told (replay_examined p u xs (length t)) t r t₁
-        broken-told f = told_as
-            (once-on p u xs (length t) h ∙ b.ends ∙ ap (λ v. course d m v []) state_is) (sym w.kept) f
+        broken_told f = told_as
+            (once_on p u xs (length t) h ∙ b.ends ∙ ap (λ v. course d m v []) state_is) (sym w.kept) f

@@ -16,7 +16,7 @@ use Rattle.queue.specs.Numbers.{QUEUE_NUMBERS, queue_by}
 use Rattle.queue.specs.declared.Item.{Item}
 use Rattle.queue.specs.declared.Queue.{Queue}
 use Rattle.queue.specs.declared.Removed.{Removed}
-use Rattle.queue.proofs.Waiting.{appended-full}
+use Rattle.queue.proofs.Waiting.{appended_full}
 use Rattle.laws.proofs.Lists.{le_or_lt}
 use Rattle.meaning.specs.Calls.{Outcome, outcome, as_found, take_front}
 use Rattle.meaning.specs.Effects.{enqueue, take_queue}
@@ -31,10 +31,10 @@ use Rattle.widget.specs.declared.Went.{Went}
 use Rattle.widget.proofs.Ending.{ended, ends_done, ends_refused}
 use Rattle.plan_code.specs.Code.{Ran}
 use Rattle.plan_invariants.specs.Replay.{post_on, run_on}
-use Rattle.machine.proofs.Gates.{require-no, require-on}
+use Rattle.machine.proofs.Gates.{require_no, require_on}
 use Rattle.replaying.specs.Turns.{Passes, Turned}
 use Rattle.replaying.specs.declared.turns.Passed.{Passed}
-use Rattle.replaying.proofs.Passing.{is-taken}
+use Rattle.replaying.proofs.Passing.{is_taken}
 
 -- ---- the post
 
@@ -42,39 +42,39 @@ module _ (p : Plan) (x : Item) (u : State) where
   rest : Step Ctx
   rest = require 10 (event_fits p.events x.event x.arg) then enqueue x.event x.arg
 
-  pub post-6 : is_active u 0 ≡ false → post_on p x u ≡ as_found 6 0 u
+  pub post_6 : is_active u 0 ≡ false → post_on p x u ≡ as_found 6 0 u
   unfolding post_on rest outcome
-  post-6 a = ap (outcome u) (require-no 6 rest (begin u 0) a)
+  post_6 a = ap (outcome u) (require_no 6 rest (begin u 0) a)
 
   module _ (a : is_active u 0 ≡ true) {n : ℕ} (k : n ≡ p.events) where
-    pub post-10 : event_fits n x.event x.arg ≡ false → post_on p x u ≡ as_found 10 0 u
+    pub post_10 : event_fits n x.event x.arg ≡ false → post_on p x u ≡ as_found 10 0 u
     unfolding post_on rest outcome
-    post-10 f = ap (outcome u) (require-on 6 rest (begin u 0) a
-        ∙ require-no 10 (enqueue x.event x.arg) (begin u 0) (ap (λ m. event_fits m x.event x.arg) (sym k) ∙ f))
+    post_10 f = ap (outcome u) (require_on 6 rest (begin u 0) a
+        ∙ require_no 10 (enqueue x.event x.arg) (begin u 0) (ap (λ m. event_fits m x.event x.arg) (sym k) ∙ f))
 
     module _ (f : event_fits n x.event x.arg ≡ true) where
-      to-queue : (require 6 (is_active u 0) then rest) (begin u 0) ≡ take_queue (appended u.queue x.event x.arg) (begin u 0)
+      to_queue : (require 6 (is_active u 0) then rest) (begin u 0) ≡ take_queue (appended u.queue x.event x.arg) (begin u 0)
       unfolding rest enqueue look begin
-      to-queue = require-on 6 rest (begin u 0) a
-          ∙ require-on 10 (enqueue x.event x.arg) (begin u 0) (ap (λ m. event_fits m x.event x.arg) (sym k) ∙ f)
+      to_queue = require_on 6 rest (begin u 0) a
+          ∙ require_on 10 (enqueue x.event x.arg) (begin u 0) (ap (λ m. event_fits m x.event x.arg) (sym k) ∙ f)
 
-      pub post-9 : (appended u.queue x.event x.arg).done ≡ false → post_on p x u ≡ as_found 9 0 u
+      pub post_9 : (appended u.queue x.event x.arg).done ≡ false → post_on p x u ≡ as_found 9 0 u
       unfolding post_on rest outcome take_queue
-      post-9 d = ap (outcome u) (to-queue
-          ∙ require-no 9 (change (set_queue (appended u.queue x.event x.arg).queue)) (begin u 0) d)
+      post_9 d = ap (outcome u) (to_queue
+          ∙ require_no 9 (change (set_queue (appended u.queue x.event x.arg).queue)) (begin u 0) d)
 
-      pub post-0 : (appended u.queue x.event x.arg).done ≡ true
+      pub post_0 : (appended u.queue x.event x.arg).done ≡ true
           → post_on p x u ≡ ended (set_queue (appended u.queue x.event x.arg).queue u) []
       unfolding post_on rest outcome take_queue change begin
-      post-0 d = ap (outcome u) (to-queue
-          ∙ require-on 9 (change (set_queue (appended u.queue x.event x.arg).queue)) (begin u 0) d)
+      post_0 d = ap (outcome u) (to_queue
+          ∙ require_on 9 (change (set_queue (appended u.queue x.event x.arg).queue)) (begin u 0) d)
 
 -- ---- the run that follows it
 
 module _ (C G : Step Ctx) (d : Bool) (k : Ctx) where
-  one-waits : d ≡ true → ((require 8 d then C) then G) k ≡ bind (C k) G
+  one_waits : d ≡ true → ((require 8 d then C) then G) k ≡ bind (C k) G
   unfolding ◌then◌ require bind
-  one-waits g = rw g
+  one_waits g = rw g
 
 -- the steps of a run with this front
 abbrev pub steps : Plan → Removed → Step Ctx
@@ -83,7 +83,7 @@ steps p r = plan_step p (ref r.front.event) r.front.arg then plan_settle p
 run_taken : (p : Plan) (n : ℕ) (v : State) → (removed v.queue).done ≡ true
     → run_on p n v ≡ outcome v (steps p (removed v.queue) (begin (set_queue (removed v.queue).queue v) n))
 unfolding run_on plan_react take_front change bind begin
-run_taken p n v d = ap (outcome v) (one-waits (change (set_queue (removed v.queue).queue)) (steps p (removed v.queue))
+run_taken p n v d = ap (outcome v) (one_waits (change (set_queue (removed v.queue).queue)) (steps p (removed v.queue))
     (removed v.queue).done (begin v n) d)
 
 -- room in a queue says its length
@@ -91,7 +91,7 @@ room_len : (q : Queue) (e a : ℤ) → (appended q e a).done ≡ true → q.len 
 room_len q e a d = ⊎_elim full room (le_or_lt QUEUE q.len)
   where
     full : QUEUE ≤ q.len → q.len < QUEUE
-    full l = absurd (false≢true (sym (ap (λ y. y.done) (appended-full q e a l)) ∙ d))
+    full l = absurd (false≢true (sym (ap (λ y. y.done) (appended_full q e a l)) ∙ d))
 
     room : q.len < QUEUE → q.len < QUEUE
     room l = l
@@ -112,22 +112,22 @@ module _ (p : Plan) (x : Item) (k : Lent) where
     whole = refl;
   }
 
-  pub turned-6 : get_or k.active 0 false ≡ false → Turned p x k (record { posted = false; number = 6; at = 0 }) k
+  pub turned_6 : get_or k.active 0 false ≡ false → Turned p x k (record { posted = false; number = 6; at = 0 }) k
   unfolding is_active
-  turned-6 a = stays 6 (post-6 p x (widget k) a) (λ z. omega arith)
+  turned_6 a = stays 6 (post_6 p x (widget k) a) (λ z. omega arith)
 
   module _ (b : get_or k.active 0 false ≡ true) {n : ℕ} (g : n ≡ p.events) where
     a : is_active (widget k) 0 ≡ true
     unfolding is_active
     a = b
 
-    pub turned-10 : event_fits n x.event x.arg ≡ false → Turned p x k (record { posted = false; number = 10; at = 0 }) k
-    turned-10 f = stays 10 (post-10 p x (widget k) a g f) (λ z. omega arith)
+    pub turned_10 : event_fits n x.event x.arg ≡ false → Turned p x k (record { posted = false; number = 10; at = 0 }) k
+    turned_10 f = stays 10 (post_10 p x (widget k) a g f) (λ z. omega arith)
 
     module _ (f : event_fits n x.event x.arg ≡ true) {r : Passed} {ms : List ℤ} (m : Passes k.queue x.event x.arg r ms) where
-      pub turned-9 : r.done ≡ false → Turned p x k (record { posted = false; number = 9; at = 0 }) (with_queue ms k)
-      turned-9 d = subst (λ q. Turned p x k (record { posted = false; number = 9; at = 0 }) (with_queue q k)) (sym (m.full d))
-          (stays 9 (post-9 p x (widget k) a g f (sym m.room ∙ d)) (λ z. omega arith))
+      pub turned_9 : r.done ≡ false → Turned p x k (record { posted = false; number = 9; at = 0 }) (with_queue ms k)
+      turned_9 d = subst (λ q. Turned p x k (record { posted = false; number = 9; at = 0 }) (with_queue q k)) (sym (m.full d))
+          (stays 9 (post_9 p x (widget k) a g f (sym m.room ∙ d)) (λ z. omega arith))
 
       module _ (d : r.done ≡ true) (h : Whole k) {e : ℕ} {c : ℤ} (ee : e ≡ ref r.front.event) (ce : c ≡ r.front.arg)
           {w : Went} {k' : Lent} (made : Ran (plan_step p e c then plan_settle p) (with_queue ms k) 0 w k') where
@@ -143,11 +143,11 @@ module _ (p : Plan) (x : Item) (k : Lent) where
 
         posts : post_on p x (widget k) ≡ ended v []
         unfolding q v
-        posts = post-0 p x (widget k) a g f (sym m.room ∙ d)
+        posts = post_0 p x (widget k) a g f (sym m.room ∙ d)
 
-        front-is : (removed (appended q x.event x.arg).queue).front ≡ r.front
+        front_is : (removed (appended q x.event x.arg).queue).front ≡ r.front
         unfolding q
-        front-is = sym (m.front d)
+        front_is = sym (m.front d)
 
         E : Step Ctx
         E = plan_step p (ref r.front.event) r.front.arg then plan_settle p
@@ -155,26 +155,26 @@ module _ (p : Plan) (x : Item) (k : Lent) where
         runs : run_on p (length k.trace) v ≡ outcome v (E (begin (widget (with_queue ms k)) (length k.trace)))
         unfolding q v E set_queue
         runs =
-            run_taken p (length k.trace) v (is-taken q x.event x.arg (room_len q x.event x.arg (sym m.room ∙ d)))
+            run_taken p (length k.trace) v (is_taken q x.event x.arg (room_len q x.event x.arg (sym m.room ∙ d)))
             ∙ ap (λ y. outcome v ((plan_step p (ref y.event) y.arg then plan_settle p)
-            (begin (set_queue (removed (appended q x.event x.arg).queue).queue v) (length k.trace)))) front-is
+            (begin (set_queue (removed (appended q x.event x.arg).queue).queue v) (length k.trace)))) front_is
             ∙ ap (λ y. outcome v (E (begin (set_queue y v) (length k.trace)))) (sym (m.left d))
 
         after_is : run_on p (length k.trace) (post_on p x (widget k)).after ≡ run_on p (length k.trace) v
         after_is = ap (λ o. run_on p (length k.trace) o.after) posts
 
-        whole-now : Whole (with_queue ms k)
-        whole-now = m.whole ∙ h
+        whole_now : Whole (with_queue ms k)
+        whole_now = m.whole ∙ h
 
-        pub turned-run : Turned p x k (record { posted = true; number = w.number; at = w.at }) k'
+        pub turned_run : Turned p x k (record { posted = true; number = w.number; at = w.at }) k'
         unfolding E
-        turned-run = record {
+        turned_run = record {
           not_posted = λ y. absurd (true≢false y);
           some_answer = λ y. absurd (true≢false y);
           was_posted = λ y. ap (λ o. o.number) posts;
-          not_run = λ y z. after_is ∙ runs ∙ ends_refused v ran.did whole-now z
+          not_run = λ y z. after_is ∙ runs ∙ ends_refused v ran.did whole_now z
               ∙ ap (λ o. as_found w.number 0 o.after) (sym posts);
-          was_run = λ y z. after_is ∙ runs ∙ ends_done v ran.did whole-now z;
+          was_run = λ y z. after_is ∙ runs ∙ ends_done v ran.did whole_now z;
           fits = ran.did.fits;
           kept = ran.did.kept;
           whole = ran.did.whole ∙ m.whole;

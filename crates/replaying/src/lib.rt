@@ -9,7 +9,7 @@ pub mod turns;
 
 ghost use Rattle.std.specs.Prelude.{◌≡◌, [], true, ◌≤◌, length, take};
 ghost use Rattle.meaning.specs.WellFormed.{plan_by, well_formed};
-ghost use Rattle.widget.specs.View.{all_lent, widget as said-by};
+ghost use Rattle.widget.specs.View.{all_lent, widget as said_by};
 ghost use Rattle.plan_choice.specs.Heads.{Examined};
 ghost use Rattle.plan_choice.specs.Links.{Linked};
 ghost use Rattle.plan_invariants.specs.Replay.{replay_examined as once};
@@ -61,7 +61,7 @@ fn told(
     trace: &mut [i32],
 ) -> Replayed
     requires { at ≤ length trace.old }
-    ensures { Told (went done number (said-by (all_lent active slots vars queue trace.old))
+    ensures { Told (went done number (said_by (all_lent active slots vars queue trace.old))
         (take at trace.old)) trace.old result trace.new }
 {
     clear_from(trace, at);

@@ -76,8 +76,8 @@ module _ (a b : Form) (p : First (λ x. First (λ y. Apart x y) b) a) where
   others : (x : Field) → First (λ y. Apart x y) b → (n i : ℕ) (row : List ℤ) → fits b i row ≡ true → fits_field x i row ≡ true → ⊥
   others x q n i row e h = let w = begins (λ y. Apart x y) b n i row q e in apart_row w.holds i row h w.ok
 
-  pub not-both : (i : ℕ) (row : List ℤ) → fits a i row ≡ true → fits b i row ≡ true → ⊥
-  not-both i row e f = let w = begins (λ x. First (λ y. Apart x y) b) a 0 i row p e in others w.field w.holds 0 i row f w.ok
+  pub not_both : (i : ℕ) (row : List ℤ) → fits a i row ≡ true → fits b i row ≡ true → ⊥
+  not_both i row e f = let w = begins (λ x. First (λ y. Apart x y) b) a 0 i row p e in others w.field w.holds 0 i row f w.ok
 
 swap_first : (P : Field → Field → Type 0) (a b : Form) → First (λ x. First (λ y. P x y) b) a → First (λ y. First (λ x. P x y) a) b
 swap_first P a (last y) f = f
@@ -129,15 +129,15 @@ module _ (a b : Form) (x : Field) (s : Starts a x) (c : Clear (a or b)) (i : ℕ
   apart : First (λ y. Apart x y) b
   apart = starts_first (λ x. First (λ y. Apart x y) b) a x s c.1.1.0
 
-  pub choice-first : tells x (num row i) ≡ true → fits a i row ≡ true
-  choice-first t = go (fits a i row) refl e
+  pub choice_first : tells x (num row i) ≡ true → fits a i row ≡ true
+  choice_first t = go (fits a i row) refl e
     where
       go : (u : Bool) → fits a i row ≡ u → u || fits b i row ≡ true → u ≡ true
       go true h e = refl
       go false h e = let w = begins (λ y. Apart x y) b 0 i row apart e in absurd (tells_not w.holds i row t w.ok)
 
-  pub choice-second : tells x (num row i) ≡ false → (fits a i row ≡ false) × (fits b i row ≡ true)
-  choice-second t = go (fits a i row) refl e
+  pub choice_second : tells x (num row i) ≡ false → (fits a i row ≡ false) × (fits b i row ≡ true)
+  choice_second t = go (fits a i row) refl e
     where
       go : (u : Bool) → fits a i row ≡ u → u || fits b i row ≡ true → (u ≡ false) × (fits b i row ≡ true)
       go true h e = absurd (true≢false (sym (some_first x b i row apart (starts_fits a x i row s h)) ∙ t))
@@ -184,7 +184,7 @@ form_kept (a or b) n fs c g =
     first zs k = record { long = k.long; ok = λ i row p. rw (k.ok i row p); text = λ i row p. rw (k.ok i row p) (k.text i row p) }
 
     not_a : (i : ℕ) (row : List ℤ) (t : Bool) → fits a i row ≡ t → fits b i row ≡ true → t ≡ false
-    not_a i row true e f = absurd (not-both a b c.1.1.0 i row e f)
+    not_a i row true e f = absurd (not_both a b c.1.1.0 i row e f)
     not_a i row false e f = refl
 
     second : (zs : List ℤ) → LineKept b n fs zs → LineKept (a or b) n fs zs
@@ -253,17 +253,17 @@ most_bytes t ws (x tab xs) i = suc (longest t ws x i) + most_bytes t ws xs (i + 
 most_bytes t ws (a or b) i = max (most_bytes t ws a i) (most_bytes t ws b i)
 
 module _ (t : ℕ) (ws : List ℕ) (n : ℕ) (row : List ℤ) (m : length (numeral (pos n)) ≤ t) (s : Sized ws 0 row) where
-  pub form-short : (a : Form) (i : ℕ) → Clear a → fits a i row ≡ true → length (tails TAB (write_by a n i row)) ≤ most_bytes t ws a i
+  pub form_short : (a : Form) (i : ℕ) → Clear a → fits a i row ≡ true → length (tails TAB (write_by a n i row)) ≤ most_bytes t ws a i
   unfolding write_by tails
-  form-short (last x) i c e =
+  form_short (last x) i c e =
       let l = field_short x t ws n i row c m s e in
       rw (length-append (write_field x n i row) []) (omega arith)
-  form-short (x tab xs) i c e =
+  form_short (x tab xs) i c e =
       let w = both (fits_field x i row) (fits xs (i + width x) row) e in
       let l = field_short x t ws n i row c.0 m s w.0 in
-      let r = form-short xs (i + width x) c.1 w.1 in
+      let r = form_short xs (i + width x) c.1 w.1 in
       rw (length-append (write_field x n i row) (tails TAB (write_by xs n (i + width x) row))) (omega arith)
-  form-short (a or b) i c e = go (fits a i row) refl e (λ q. form-short a i c.0 q) (λ q. form-short b i c.1.0 q)
+  form_short (a or b) i c e = go (fits a i row) refl e (λ q. form_short a i c.0 q) (λ q. form_short b i c.1.0 q)
     where
       go : (t₁ : Bool) → fits a i row ≡ t₁ → t₁ || fits b i row ≡ true
           → (fits a i row ≡ true → length (tails TAB (write_by a n i row)) ≤ most_bytes t ws a i)

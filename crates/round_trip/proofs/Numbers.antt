@@ -13,7 +13,7 @@ use borrow.Author.Tests.{ltb-true, ltb-false, lt-ltb, le-ltb, leb-true, le-leb, 
 use Rattle.sizes.specs.Sizes.{MOST}
 use Rattle.numbers.specs.Range.{in_range, lowest, highest}
 use Rattle.numbers.specs.Reference.{ref, NOWHERE}
-use Rattle.numbers.proofs.Ranges.{within_low, within-high, within_both}
+use Rattle.numbers.proofs.Ranges.{within_low, within_high, within_both}
 use Rattle.meaning.specs.Number.{BEYOND, value, alone, unless_zero, natural, capped, natural_of, with_no_sign, minus, signed, number_of}
 use Rattle.meaning.specs.Number.{by_size, digits_in, digits, numeral}
 use Rattle.meaning.specs.declared.Num.TheVariants as num
@@ -28,7 +28,7 @@ no e = absurd (omega arith)
 
 pub in_range_size : (z : ℤ) → in_range z ≡ true → nat_abs z ≤ MOST
 unfolding in_range
-in_range_size (pos n) e = leb-true n MOST (within-high lowest (pos n) highest e)
+in_range_size (pos n) e = leb-true n MOST (within_high lowest (pos n) highest e)
 in_range_size (negsuc n) e = let h = leb-true n (MOST - 1) (within_low lowest (negsuc n) highest e) in omega arith
 
 pub size_in_range : (z : ℤ) → nat_abs z ≤ MOST → in_range z ≡ true
@@ -221,12 +221,12 @@ unfolding natural
 natural_writes m [] k e = no cc
 natural_writes m (b ∷ bs) k e = go (eqb b 48) refl e
   where
-    zero-alone : (bs : List ℕ) → alone bs ≡ some m → digits m ≡ 48 ∷ bs
-    zero-alone [] e = let q : m ≡ 0 = cc in rw q (digits_one 0 (omega arith))
-    zero-alone (x ∷ xs) e = no cc
+    zero_alone : (bs : List ℕ) → alone bs ≡ some m → digits m ≡ 48 ∷ bs
+    zero_alone [] e = let q : m ≡ 0 = cc in rw q (digits_one 0 (omega arith))
+    zero_alone (x ∷ xs) e = no cc
 
     go : (t : Bool) → eqb b 48 ≡ t → unless_zero t bs (b ∷ bs) ≡ some m → digits m ≡ b ∷ bs
-    go true p e = rw (eqb-true b 48 p) (zero-alone bs e)
+    go true p e = rw (eqb-true b 48 p) (zero_alone bs e)
     go false p e =
         let w = digit_is 0 b m bs e in
         let u = w.least in

@@ -22,7 +22,7 @@ use Rattle.meaning.specs.Text.{record_of}
 use Rattle.round_trip.proofs.Splits.{Free, AllFree, free_byte, free_joined, fields_joined, joined_fields}
 use Rattle.round_trip.proofs.Fields.{Good, Sized, worse_good, room_good, numbers_at, at_self, letter_field}
 use Rattle.round_trip.proofs.Apart.{other_letters, dash_number, place_history, place_state, history_state}
-use Rattle.round_trip.proofs.Forms.{Clear, LineKept, form_kept, form_reads, form_free, most_bytes, form-short}
+use Rattle.round_trip.proofs.Forms.{Clear, LineKept, form_kept, form_reads, form_free, most_bytes, form_short}
 
 -- ---- the forms
 
@@ -98,24 +98,24 @@ module _ (r : Record) (n : ℕ) (row : List ℤ) (ok : fits (form r n) 0 row ≡
   unfolding AllFree
   all_free sep s = (free_byte sep (name r) s (letter_above r n room_for), form_free sep s (form r n) n 0 row (clear r n) ok)
 
-  pub row-free : Free LF (text_of_row r n row)
+  pub row_free : Free LF (text_of_row r n row)
   unfolding text_of_row
-  row-free = free_joined ((name r ∷ []) ∷ write_by (form r n) n 0 row) (all_free LF (omega arith))
+  row_free = free_joined ((name r ∷ []) ∷ write_by (form r n) n 0 row) (all_free LF (omega arith))
 
-  pub row-short : (t : ℕ) (ws : List ℕ) → length (numeral (pos n)) ≤ t → Sized ws 0 row
+  pub row_short : (t : ℕ) (ws : List ℕ) → length (numeral (pos n)) ≤ t → Sized ws 0 row
       → length (text_of_row r n row) ≤ suc (most_bytes t ws (form r n) 0)
   unfolding text_of_row joined
-  row-short t ws m s = let l = form-short t ws n row m s (form r n) 0 (clear r n) ok in omega arith
+  row_short t ws m s = let l = form_short t ws n row m s (form r n) 0 (clear r n) ok in omega arith
 
-  its-fields : fields (text_of_row r n row) ≡ (name r ∷ []) ∷ write_by (form r n) n 0 row
+  its_fields : fields (text_of_row r n row) ≡ (name r ∷ []) ∷ write_by (form r n) n 0 row
   unfolding text_of_row
-  its-fields = fields_joined (name r ∷ []) (write_by (form r n) n 0 row) (all_free TAB (omega arith))
+  its_fields = fields_joined (name r ∷ []) (write_by (form r n) n 0 row) (all_free TAB (omega arith))
 
   pub row_named : record_of (fields (text_of_row r n row)) ≡ r
-  row_named = rw its-fields (named r)
+  row_named = rw its_fields (named r)
 
   pub row_reads : length row ≡ row_size r → line_by r n (fields (text_of_row r n row)) ≡ line 0 row
   unfolding line_by room worse
   row_reads long =
-      rw (its-fields, form_reads (form r n) n 0 row (clear r n) (few r n room_for) ok, lt-ltb n (most r) room_for, sized r n, ← long)
+      rw (its_fields, form_reads (form r n) n 0 row (clear r n) (few r n room_for) ok, lt-ltb n (most r) room_for, sized r n, ← long)
       (ap (λ (zs : List ℤ). line 0 zs) (numbers_at 0 row row (at_self row)))

@@ -20,8 +20,8 @@ use Rattle.meaning.specs.Text.{Result, done, refused, value_of, by_rule, checked
 use Rattle.round_trip.proofs.Numbers.{no}
 use Rattle.round_trip.proofs.Fields.{both}
 use Rattle.round_trip.proofs.WalkKept.{text_kept}
-use Rattle.round_trip.proofs.WalkRead.{text-reads}
-use Rattle.round_trip.proofs.Values.{back, value_keeps, value-shaped}
+use Rattle.round_trip.proofs.WalkRead.{text_reads}
+use Rattle.round_trip.proofs.Values.{back, value_keeps, value_shaped}
 use Rattle.round_trip.proofs.Same.{Same, value_same}
 use Rattle.round_trip.proofs.Short.{text_short}
 
@@ -116,7 +116,7 @@ pub write_then_read : (v : List ℤ) (n : ℕ) → failing_rule_of v ≡ none �
 unfolding read text_of
 write_then_read v n e h =
     let p = passes v e in
-    rw (text-reads (rows_of v) (value-shaped v p.keeps) (text_short v p.keeps p.rest), le-leb VALUE n h, p.rest)
+    rw (text_reads (rows_of v) (value_shaped v p.keeps) (text_short v p.keeps p.rest), le-leb VALUE n h, p.rest)
 
 -- which is the same chart: the counts and every place within them are the same, and places past the counts are 0
 pub write_then_same : (v : List ℤ) → failing_rule_of v ≡ none → Same v (value_of (rows_of v))

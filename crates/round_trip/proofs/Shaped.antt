@@ -19,20 +19,20 @@ use Rattle.round_trip.proofs.Records.{RowKept}
 -- ---- one more at the end
 
 module _ {A : Type 0} where
-  pub map-from-more : {B : Type 0} (f : ℕ → A → B) (k : ℕ) (xs : List A) (x : A)
+  pub map_from_more : {B : Type 0} (f : ℕ → A → B) (k : ℕ) (xs : List A) (x : A)
       → map_from f k (xs ++ (x ∷ [])) ≡ map_from f k xs ++ (f (k + length xs) x ∷ [])
   unfolding map_from
-  map-from-more f k [] x = let e : k + 0 ≡ k = omega arith in rw e
-  map-from-more f k (y ∷ xs) x = let e : suc k + length xs ≡ k + suc (length xs) = omega arith in rw (map-from-more f (suc k) xs x, e)
+  map_from_more f k [] x = let e : k + 0 ≡ k = omega arith in rw e
+  map_from_more f k (y ∷ xs) x = let e : suc k + length xs ≡ k + suc (length xs) = omega arith in rw (map_from_more f (suc k) xs x, e)
 
-  every-from-more : (p : ℕ → A → Bool) (k : ℕ) (xs : List A) (x : A) → every_from p k xs ≡ true → p (k + length xs) x ≡ true
+  every_from_more : (p : ℕ → A → Bool) (k : ℕ) (xs : List A) (x : A) → every_from p k xs ≡ true → p (k + length xs) x ≡ true
       → every_from p k (xs ++ (x ∷ [])) ≡ true
   unfolding every_from
-  every-from-more p k [] x h e = let n : k + 0 ≡ k = omega arith in rw (rw n at e)
-  every-from-more p k (y ∷ xs) x h e =
+  every_from_more p k [] x h e = let n : k + 0 ≡ k = omega arith in rw (rw n at e)
+  every_from_more p k (y ∷ xs) x h e =
       let w = both (p k y) (every_from p (suc k) xs) h in
       let n : k + suc (length xs) ≡ suc k + length xs = omega arith in
-      rw w.0 (every-from-more p (suc k) xs x w.1 (rw n at e))
+      rw w.0 (every_from_more p (suc k) xs x w.1 (rw n at e))
 
 pub long_more : (n : ℕ) (rs : List (List ℤ)) (r : List ℤ) → AllLong n rs → length r ≡ n → AllLong n (rs ++ (r ∷ []))
 unfolding AllLong
@@ -69,7 +69,7 @@ unfolding statable
 fitting_more r xs x l f k =
     let n : length xs ≡ 0 + length xs = omega arith in
     record {
-      ok = every-from-more (statable r) 0 xs x f.ok (rw n at k.ok);
+      ok = every_from_more (statable r) 0 xs x f.ok (rw n at k.ok);
       long = long_more (row_size r) xs x f.long k.long;
       few = rw (length-append xs (x ∷ [])) (omega (arith, k.fits));
     }

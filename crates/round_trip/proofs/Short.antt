@@ -18,11 +18,11 @@ use Rattle.numbers.specs.Reference.{ref}
 use Rattle.numbers.proofs.Laws.{eq_z_true}
 use Rattle.meaning.specs.Chart.{Chart, no_state, no_trans, no_action}
 use Rattle.meaning.specs.declared.chart.Guard.TheVariants.{Always as always, Compares as compares}
-use Rattle.meaning.specs.declared.chart.Kind.TheVariants.{O as kind-o}
-use Rattle.meaning.specs.declared.chart.Owner.TheVariants.{DefaultOf as default-of, EntryOf as entry_of}
-use Rattle.meaning.specs.declared.chart.Owner.TheVariants.{ExitOf as exit-of, TransitionOf as transition-of}
+use Rattle.meaning.specs.declared.chart.Kind.TheVariants.{O as kind_o}
+use Rattle.meaning.specs.declared.chart.Owner.TheVariants.{DefaultOf as default_of, EntryOf as entry_of}
+use Rattle.meaning.specs.declared.chart.Owner.TheVariants.{ExitOf as exit_of, TransitionOf as transition_of}
 use Rattle.meaning.specs.declared.chart.Sign.TheVariants.{Equal as equal, Less as less, More as more}
-use Rattle.meaning.specs.declared.chart.Target.TheVariants.{History as to-history, InPlace as no_target, To as to}
+use Rattle.meaning.specs.declared.chart.Target.TheVariants.{History as to_history, InPlace as no_target, To as to}
 use Rattle.meaning.specs.Grammar.{Record, s_record, v_record, e_record, t_record, a_record, no_record, ORDER, form, most, bytes}
 use Rattle.meaning.specs.Grammar.{kind, guard, target}
 use Rattle.meaning.specs.Lists.{concat_map, map_from}
@@ -39,14 +39,14 @@ use Rattle.laws.proofs.Lists.{and_left, and_right, or_cases, every_from_at}
 use Rattle.laws.proofs.Rules.{GuardFacts, TransitionFacts, OwnerFacts}
 use Rattle.laws.specs.Facts.{TargetFacts}
 use Rattle.laws.proofs.Sound.{SoundChart, sound_chart}
-use Rattle.laws.proofs.Value.{SizedChart, sized-chart, get_d_map}
+use Rattle.laws.proofs.Value.{SizedChart, sized_chart, get_d_map}
 use Rattle.round_trip.proofs.Fields.{Bytes, Sized, NUMBER, short_numeral, absent_number}
 use Rattle.round_trip.proofs.Forms.{most_bytes}
 use Rattle.round_trip.proofs.Numbers.{digits_one, digits_grow, named_length}
-use Rattle.round_trip.proofs.Records.{row-short}
+use Rattle.round_trip.proofs.Records.{row_short}
 use Rattle.round_trip.proofs.Shaped.{Shaped}
 use Rattle.round_trip.proofs.Splits.{ended_append}
-use Rattle.round_trip.proofs.Values.{value-shaped}
+use Rattle.round_trip.proofs.Values.{value_shaped}
 
 -- ---- bytes by the sizes
 
@@ -112,30 +112,30 @@ target_named : (c : Chart) (s : ℕ) (h x : ℤ)
 unfolding target_by is_absent
 target_named c s h x e f r = go (is_letter 104 h) (is_absent h) refl refl f
   where
-    zero-not-absent : is_absent h ≡ true → is_letter 0 h ≡ true → ⊥
-    zero-not-absent a z = let q : false ≡ true = rw (eq_z_true h (pos 0) z) at a in false≢true q
+    zero_not_absent : is_absent h ≡ true → is_letter 0 h ≡ true → ⊥
+    zero_not_absent a z = let q : false ≡ true = rw (eq_z_true h (pos 0) z) at a in false≢true q
 
-    not-in-place : is_letter 104 h ≡ false → is_absent h ≡ true → ⊥
-    not-in-place n a = ⊎_elim
+    not_in_place : is_letter 104 h ≡ false → is_absent h ≡ true → ⊥
+    not_in_place n a = ⊎_elim
         (λ q. true≢false (sym (and_right (is_absent h) (is_absent x) q) ∙ absent_number x r))
         (λ q. ⊎_elim
         (λ w. true≢false (sym (and_left (is_letter 104 h) (in_range x) w) ∙ n))
-        (λ w. zero-not-absent a (and_left (is_letter 0 h) (in_range x) w))
+        (λ w. zero_not_absent a (and_left (is_letter 0 h) (in_range x) w))
         (or_cases (is_letter 104 h && in_range x) (is_letter 0 h && in_range x) q))
         (or_cases (is_absent h && is_absent x) ((is_letter 104 h && in_range x) || (is_letter 0 h && in_range x)) e)
 
     go : (p q : Bool) → is_letter 104 h ≡ p → is_absent h ≡ q
-        → TargetFacts c s (cond p (to-history (ref x)) (cond q no_target (to (ref x)))) → ref x < length c.states
+        → TargetFacts c s (cond p (to_history (ref x)) (cond q no_target (to (ref x)))) → ref x < length c.states
     go true q n a f = f.0
     go false false n a f = f.0
-    go false true n a f = absurd (not-in-place n a)
+    go false true n a f = absurd (not_in_place n a)
 
 owner_named : (c : Chart) (k n : ℤ) → OwnerFacts c (owner_by k n) → ref n < max (length c.states) (length c.transitions)
 unfolding owner_by
 owner_named c k n f = go (is_letter 101 k) (is_letter 120 k) (is_letter 100 k) f
   where
     go : (p q s : Bool)
-        → OwnerFacts c (cond p (entry_of (ref n)) (cond q (exit-of (ref n)) (cond s (default-of (ref n)) (transition-of (ref n)))))
+        → OwnerFacts c (cond p (entry_of (ref n)) (cond q (exit_of (ref n)) (cond s (default_of (ref n)) (transition_of (ref n)))))
         → ref n < max (length c.states) (length c.transitions)
     go true q s f = omega arith
     go false true s f = omega arith
@@ -149,11 +149,11 @@ reference_is z e = rw (absent_number z e)
 
 -- a state that has a default is of kind o
 default_of_o : (k z : ℤ) → (one_of_letters (bytes "o") k && in_range z) || (one_of_letters (bytes "ab") k && is_absent z) ≡ true
-    → in_range z ≡ true → kind_by k ≡ kind-o
+    → in_range z ≡ true → kind_by k ≡ kind_o
 unfolding kind_by
 default_of_o k z e r = go (is_letter 111 k) (one_of_letters (bytes "ab") k) refl (rw (absent_number z r, r) at e)
   where
-    go : (p q : Bool) → is_letter 111 k ≡ p → ((p || false) && true) || (q && false) ≡ true → kind_by k ≡ kind-o
+    go : (p q : Bool) → is_letter 111 k ≡ p → ((p || false) && true) || (q && false) ≡ true → kind_by k ≡ kind_o
     go true q h e = rw h
     go false true h e = absurd (false≢true e)
     go false false h e = absurd (false≢true e)
@@ -165,84 +165,84 @@ module _ (r : Rows) (sound : SoundChart (chart_by r)) (sized : SizedChart (chart
   -- states
 
   module _ (i : ℕ) (l : i < length (r s_record)) where
-    abbrev s-row : List ℤ
-    s-row = get_or (r s_record) i []
+    abbrev s_row : List ℤ
+    s_row = get_or (r s_record) i []
 
-    state-at : state_row c i ≡ state_by s-row
+    state_at : state_row c i ≡ state_by s_row
     unfolding state_row chart_by
-    state-at = get_d_map state_by (r s_record) i no_state [] l
+    state_at = get_d_map state_by (r s_record) i no_state [] l
 
-    state-in : i < STATES
+    state_in : i < STATES
     unfolding chart_by
-    state-in = omega (arith, sized.states, length-map (r s_record) state_by)
+    state_in = omega (arith, sized.states, length-map (r s_record) state_by)
 
-    parent_is : in_range (num s-row 0) ≡ true → parent_of c i ≡ ref (num s-row 0)
+    parent_is : in_range (num s_row 0) ≡ true → parent_of c i ≡ ref (num s_row 0)
     unfolding parent_of state_by
-    parent_is h = ap (λ x. x.parent) state-at ∙ reference_is (num s-row 0) h
+    parent_is h = ap (λ x. x.parent) state_at ∙ reference_is (num s_row 0) h
 
-    default-is : in_range (num s-row 2) ≡ true → default_child c i ≡ ref (num s-row 2)
+    default_is : in_range (num s_row 2) ≡ true → default_child c i ≡ ref (num s_row 2)
     unfolding default_child state_by
-    default-is h = ap (λ x. x.default) state-at ∙ reference_is (num s-row 2) h
+    default_is h = ap (λ x. x.default) state_at ∙ reference_is (num s_row 2) h
 
-    kind_is : kind_of c i ≡ kind_by (num s-row 1)
+    kind_is : kind_of c i ≡ kind_by (num s_row 1)
     unfolding kind_of state_by
-    kind_is = ap (λ x. x.kind) state-at
+    kind_is = ap (λ x. x.kind) state_at
 
   -- the root has no parent, and the parent of another comes before it
-  parent-named : (i : ℕ) (l : i < length (r s_record)) → statable s_record i (s-row i l) ≡ true → in_range (num (s-row i l) 0) ≡ true
-      → ref (num (s-row i l) 0) ≤ STATES
+  parent_named : (i : ℕ) (l : i < length (r s_record)) → statable s_record i (s_row i l) ≡ true → in_range (num (s_row i l) 0) ≡ true
+      → ref (num (s_row i l) 0) ≤ STATES
   unfolding statable
-  parent-named zero l e h =
-      let a = and_left (is_absent (num (s-row 0 l) 0)) (fits kind 1 (s-row 0 l)) e in
-      absurd (true≢false (sym a ∙ absent_number (num (s-row 0 l) 0) h))
-  parent-named (suc i) l e h = omega (arith, parent_is (suc i) l h, sound.ordered.falls i, state-in (suc i) l)
+  parent_named zero l e h =
+      let a = and_left (is_absent (num (s_row 0 l) 0)) (fits kind 1 (s_row 0 l)) e in
+      absurd (true≢false (sym a ∙ absent_number (num (s_row 0 l) 0) h))
+  parent_named (suc i) l e h = omega (arith, parent_is (suc i) l h, sound.ordered.falls i, state_in (suc i) l)
 
   kind_fits : (i : ℕ) (row : List ℤ) → statable s_record i row ≡ true → fits kind 1 row ≡ true
   unfolding statable
   kind_fits zero row e = and_right (is_absent (num row 0)) (fits kind 1 row) e
   kind_fits (suc i) row e = and_right (in_range (num row 0)) (fits kind 1 row) e
 
-  default-named : (i : ℕ) (l : i < length (r s_record)) → statable s_record i (s-row i l) ≡ true → in_range (num (s-row i l) 2) ≡ true
-      → ref (num (s-row i l) 2) ≤ STATES
-  default-named i l e h =
-      let o = kind_is i l ∙ default_of_o (num (s-row i l) 1) (num (s-row i l) 2) (kind_fits i (s-row i l) e) h in
-      omega (arith, default-is i l h, (sound.default i o).1, sized.states)
+  default_named : (i : ℕ) (l : i < length (r s_record)) → statable s_record i (s_row i l) ≡ true → in_range (num (s_row i l) 2) ≡ true
+      → ref (num (s_row i l) 2) ≤ STATES
+  default_named i l e h =
+      let o = kind_is i l ∙ default_of_o (num (s_row i l) 1) (num (s_row i l) 2) (kind_fits i (s_row i l) e) h in
+      omega (arith, default_is i l h, (sound.default i o).1, sized.states)
 
-  s-sized : (i : ℕ) (l : i < length (r s_record)) → statable s_record i (s-row i l) ≡ true → Sized S_ROW 0 (s-row i l)
-  s-sized i l e = (parent, (short_numeral (num row 1), (default, tt)))
+  s_sized : (i : ℕ) (l : i < length (r s_record)) → statable s_record i (s_row i l) ≡ true → Sized S_ROW 0 (s_row i l)
+  s_sized i l e = (parent, (short_numeral (num row 1), (default, tt)))
     where
       row : List ℤ
-      row = s-row i l
+      row = s_row i l
 
       parent : Bytes (wide STATES) (num row 0)
-      parent h = named_length (num row 0) STATES (parent-named i l e h) (omega arith)
+      parent h = named_length (num row 0) STATES (parent_named i l e h) (omega arith)
 
       default : Bytes (wide STATES) (num row 2)
-      default h = named_length (num row 2) STATES (default-named i l e h) (omega arith)
+      default h = named_length (num row 2) STATES (default_named i l e h) (omega arith)
 
   -- transitions
 
   module _ (i : ℕ) (l : i < length (r t_record)) where
-    abbrev t-row : List ℤ
-    t-row = get_or (r t_record) i []
+    abbrev t_row : List ℤ
+    t_row = get_or (r t_record) i []
 
-    t-facts : TransitionFacts c (trans_by t-row)
+    t_facts : TransitionFacts c (trans_by t_row)
     unfolding trans_row chart_by
-    t-facts =
+    t_facts =
         subst (TransitionFacts c) (get_d_map trans_by (r t_record) i no_trans [] l)
         (sound.transitions i (omega (arith, length-map (r t_record) trans_by, l)))
 
-    module _ (e : statable t_record i t-row ≡ true) where
-      guarded : fits guard 2 t-row ≡ true
+    module _ (e : statable t_record i t_row ≡ true) where
+      guarded : fits guard 2 t_row ≡ true
       unfolding statable
       guarded =
-          and_right (in_range (num t-row 1)) (fits guard 2 t-row)
-          (and_right (in_range (num t-row 0)) (in_range (num t-row 1) && fits guard 2 t-row) e)
+          and_right (in_range (num t_row 1)) (fits guard 2 t_row)
+          (and_right (in_range (num t_row 0)) (in_range (num t_row 1) && fits guard 2 t_row) e)
 
-      aimed : fits target 5 t-row ≡ true
+      aimed : fits target 5 t_row ≡ true
       aimed =
-          go (is_absent (num t-row 2)) (is_absent (num t-row 3)) (is_absent (num t-row 4)) (in_range (num t-row 2))
-          (one_of_letters (bytes "=<>") (num t-row 3)) (in_range (num t-row 4)) (fits target 5 t-row) guarded
+          go (is_absent (num t_row 2)) (is_absent (num t_row 3)) (is_absent (num t_row 4)) (in_range (num t_row 2))
+          (one_of_letters (bytes "=<>") (num t_row 3)) (in_range (num t_row 4)) (fits target 5 t_row) guarded
         where
           -- in either form of a guard the target follows
           last : (a b d t : Bool) → a && (b && (d && t)) ≡ true → t ≡ true
@@ -251,48 +251,48 @@ module _ (r : Rows) (sound : SoundChart (chart_by r)) (sized : SizedChart (chart
           go : (a b d p q s t : Bool) → (a && (b && (d && t))) || (p && (q && (s && t))) ≡ true → t ≡ true
           go a b d p q s t e = ⊎_elim (last a b d t) (last p q s t) (or_cases (a && (b && (d && t))) (p && (q && (s && t))) e)
 
-      t-sized : Sized T_ROW 0 t-row
+      t_sized : Sized T_ROW 0 t_row
       unfolding trans_by
-      t-sized = (source, (trigger, (variable, (constant 3, (constant 4, (constant 5, (aim, tt)))))))
+      t_sized = (source, (trigger, (variable, (constant 3, (constant 4, (constant 5, (aim, tt)))))))
         where
-          constant : (k : ℕ) → Bytes NUMBER (num t-row k)
-          constant k = short_numeral (num t-row k)
+          constant : (k : ℕ) → Bytes NUMBER (num t_row k)
+          constant k = short_numeral (num t_row k)
 
-          source : Bytes (wide STATES) (num t-row 0)
-          source h = named_length (num t-row 0) STATES (omega (arith, t-facts.source, sized.states)) (omega arith)
+          source : Bytes (wide STATES) (num t_row 0)
+          source h = named_length (num t_row 0) STATES (omega (arith, t_facts.source, sized.states)) (omega arith)
 
-          trigger : Bytes (wide EVENTS) (num t-row 1)
-          trigger h = named_length (num t-row 1) EVENTS (omega (arith, t-facts.trigger, sized.events)) (omega arith)
+          trigger : Bytes (wide EVENTS) (num t_row 1)
+          trigger h = named_length (num t_row 1) EVENTS (omega (arith, t_facts.trigger, sized.events)) (omega arith)
 
-          variable : Bytes (wide VARIABLES) (num t-row 2)
+          variable : Bytes (wide VARIABLES) (num t_row 2)
           variable h =
-              let named = guard_named c (num t-row 2) (num t-row 3) (num t-row 4) (fits target 5 t-row) guarded t-facts.guard h in
-              named_length (num t-row 2) VARIABLES (omega (arith, named, sized.vars)) (omega arith)
+              let named = guard_named c (num t_row 2) (num t_row 3) (num t_row 4) (fits target 5 t_row) guarded t_facts.guard h in
+              named_length (num t_row 2) VARIABLES (omega (arith, named, sized.vars)) (omega arith)
 
-          aim : Bytes (wide STATES) (num t-row 6)
+          aim : Bytes (wide STATES) (num t_row 6)
           aim h =
-              let named = target_named c (ref (num t-row 0)) (num t-row 5) (num t-row 6) aimed t-facts.target h in
-              named_length (num t-row 6) STATES (omega (arith, named, sized.states)) (omega arith)
+              let named = target_named c (ref (num t_row 0)) (num t_row 5) (num t_row 6) aimed t_facts.target h in
+              named_length (num t_row 6) STATES (omega (arith, named, sized.states)) (omega arith)
 
   -- actions
 
   module _ (i : ℕ) (l : i < length (r a_record)) where
-    abbrev a-row : List ℤ
-    a-row = get_or (r a_record) i []
+    abbrev a_row : List ℤ
+    a_row = get_or (r a_record) i []
 
-    a-facts : OwnerFacts c (owner_by (num a-row 0) (num a-row 1))
+    a_facts : OwnerFacts c (owner_by (num a_row 0) (num a_row 1))
     unfolding action_by chart_by
-    a-facts =
+    a_facts =
         subst (λ x. OwnerFacts c x.owner) (get_d_map action_by (r a_record) i no_action [] l)
         (sound.owners i (omega (arith, length-map (r a_record) action_by, l)))
 
-    a-sized : Sized A_ROW 0 a-row
-    a-sized = (short_numeral (num a-row 0), (owner, tt))
+    a_sized : Sized A_ROW 0 a_row
+    a_sized = (short_numeral (num a_row 0), (owner, tt))
       where
-        owner : Bytes (wide (max STATES TRANSITIONS)) (num a-row 1)
+        owner : Bytes (wide (max STATES TRANSITIONS)) (num a_row 1)
         owner h =
-            let named = owner_named c (num a-row 0) (num a-row 1) a-facts in
-            named_length (num a-row 1) (max STATES TRANSITIONS) (omega (arith, named, sized.states, sized.transitions)) (omega arith)
+            let named = owner_named c (num a_row 0) (num a_row 1) a_facts in
+            named_length (num a_row 1) (max STATES TRANSITIONS) (omega (arith, named, sized.states, sized.transitions)) (omega arith)
 
 -- ---- lines one behind another
 
@@ -334,37 +334,37 @@ first_short no_record i = le_refl _
 
 module _ (r : Rows) (shaped : Shaped r) (sound : SoundChart (chart_by r)) (sized : SizedChart (chart_by r)) where
   row_sized : (q : Record) (i : ℕ) → i < length (r q) → statable q i (get_or (r q) i []) ≡ true → Sized (widths q) 0 (get_or (r q) i [])
-  row_sized s_record i l e = s-sized r sound sized i l e
+  row_sized s_record i l e = s_sized r sound sized i l e
   row_sized v_record i l e = tt
   row_sized e_record i l e = tt
-  row_sized t_record i l e = t-sized r sound sized i l e
-  row_sized a_record i l e = a-sized r sound sized i l
+  row_sized t_record i l e = t_sized r sound sized i l e
+  row_sized a_record i l e = a_sized r sound sized i l
   row_sized no_record i l e = tt
 
-  line-short : (q : Record) (i : ℕ) → i < length (r q) → suc (length (text_of_row q i (get_or (r q) i []))) ≤ LINE q
+  line_short : (q : Record) (i : ℕ) → i < length (r q) → suc (length (text_of_row q i (get_or (r q) i []))) ≤ LINE q
   unfolding statable
-  line-short q i l =
+  line_short q i l =
       let z : 0 + i ≡ i = omega arith in
       let e = rw z at (every_from_at (statable q) 0 (r q) (shaped.fitting q).ok i l []) in
       let n : i < most q = omega (arith, l, (shaped.fitting q).few) in
-      let b = row-short q i (get_or (r q) i []) e n (wide (most q)) (widths q) (turn_short (most q) i n) (row_sized q i l e) in
+      let b = row_short q i (get_or (r q) i []) e n (wide (most q)) (widths q) (turn_short (most q) i n) (row_sized q i l e) in
       omega (arith, b, first_short q i)
 
-  lines-few : (qs : List Record) → length (ended (concat_map (lines_of r) qs)) ≤ bytes_in qs
+  lines_few : (qs : List Record) → length (ended (concat_map (lines_of r) qs)) ≤ bytes_in qs
   unfolding concat_map ended
-  lines-few [] = omega arith
-  lines-few (q ∷ qs) =
-      let k = kind_short (text_of_row q) (LINE q) (most q) (r q) (line-short q) (shaped.fitting q).few in
+  lines_few [] = omega arith
+  lines_few (q ∷ qs) =
+      let k = kind_short (text_of_row q) (LINE q) (most q) (r q) (line_short q) (shaped.fitting q).few in
       rw (
         ended_append (lines_of r q) (concat_map (lines_of r) qs),
         length-append (ended (lines_of r q)) (ended (concat_map (lines_of r) qs)),
       )
-      (omega (arith, k, lines-few qs))
+      (omega (arith, k, lines_few qs))
 
   rows_short : length (text_by r) ≤ TEXT
   unfolding text_by
-  rows_short = le_trans (lines-few ORDER) enough
+  rows_short = le_trans (lines_few ORDER) enough
 
 pub text_short : (v : List ℤ) → rule_0 v ≡ true → failing_rule (chart_by (rows_of v)) ≡ none → length (text_by (rows_of v)) ≤ TEXT
 unfolding chart_of
-text_short v keeps rest = rows_short (rows_of v) (value-shaped v keeps) (sound_chart (chart_by (rows_of v)) rest) (sized-chart v keeps)
+text_short v keeps rest = rows_short (rows_of v) (value_shaped v keeps) (sound_chart (chart_by (rows_of v)) rest) (sized_chart v keeps)

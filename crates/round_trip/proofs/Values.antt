@@ -16,7 +16,7 @@ use Rattle.sizes.specs.Sizes.{LEAST_STATES}
 use Rattle.numbers.specs.Reference.{ref}
 use Rattle.laws.proofs.Lists.{and_left, and_right}
 use Rattle.laws.proofs.Parts.{same_true, same_part_true, part_every}
-use Rattle.laws.proofs.Value.{part-ok, many_few, size_by_most}
+use Rattle.laws.proofs.Value.{part_ok, many_few, size_by_most}
 use Rattle.meaning.specs.Grammar.{Record, s_record, v_record, e_record, t_record, a_record, no_record, most, row_size, same}
 use Rattle.meaning.specs.Lists.{every, exists, every_from, concat_map, padded, chunks}
 use Rattle.meaning.specs.Value.{Rows, Part, counted, laid, PARTS, room_of, room_in, same_part, begins, place, VALUE, num}
@@ -66,13 +66,13 @@ flat_chunks (suc n) k l h =
 -- ---- areas
 
 module _ (k most : ℕ) (rs : List (List ℤ)) (long : AllLong k rs) (few : length rs ≤ most) where
-  flat-fits : length (flat rs) ≤ most * k
-  flat-fits = let h = mul-le-mul_right k few in rw (flat_length k rs long) h
+  flat_fits : length (flat rs) ≤ most * k
+  flat_fits = let h = mul-le-mul_right k few in rw (flat_length k rs long) h
 
-  pub area-length : length (area (most * k) rs) ≡ most * k
+  pub area_length : length (area (most * k) rs) ≡ most * k
   unfolding padded
-  area-length =
-      let h = flat-fits in
+  area_length =
+      let h = flat_fits in
       rw (
         length-append (flat rs) (replicate (most * k - length (flat rs)) (pos 0)),
         length-replicate {A = ℤ}
@@ -80,9 +80,9 @@ module _ (k most : ℕ) (rs : List (List ℤ)) (long : AllLong k rs) (few : leng
       ) (omega arith)
 
   -- the rows of an area, whatever follows it
-  area-rows : (t : List ℤ) → chunks (length rs) k (area (most * k) rs ++ t) ≡ rs
+  area_rows : (t : List ℤ) → chunks (length rs) k (area (most * k) rs ++ t) ≡ rs
   unfolding padded
-  area-rows t =
+  area_rows t =
       rw (append_assoc (flat rs) (replicate (most * k - length (flat rs)) (pos 0)) t)
       (chunks_flat k rs (replicate (most * k - length (flat rs)) (pos 0) ++ t) long)
 
@@ -107,12 +107,12 @@ size_is most n h = rw (le-leb n most h)
 module _ (rows : Rows) (f : Fit rows) (z : List ℤ) where
   part_length : (p : Part) → length (part_of rows p) ≡ room_of p
   part_length (counted r) = refl
-  part_length (laid r) = area-length (row_size r) (most r) (rows r) (f.long r) (f.few r)
+  part_length (laid r) = area_length (row_size r) (most r) (rows r) (f.long r) (f.few r)
 
-  pub parts-length : (ps : List Part) → length (concat_map (part_of rows) ps) ≡ room_in ps
+  pub parts_length : (ps : List Part) → length (concat_map (part_of rows) ps) ≡ room_in ps
   unfolding concat_map
-  parts-length [] = refl
-  parts-length (p ∷ ps) = rw (length-append (part_of rows p) (concat_map (part_of rows) ps), part_length p, parts-length ps)
+  parts_length [] = refl
+  parts_length (p ∷ ps) = rw (length-append (part_of rows p) (concat_map (part_of rows) ps), part_length p, parts_length ps)
 
   -- what stands from the place of a part on
   pub record From (ps : List Part) (p : Part) : Type 0 where
@@ -149,12 +149,12 @@ module _ (rows : Rows) (f : Fit rows) (z : List ℤ) where
   abbrev v : List ℤ
   v = value_of rows ++ z
 
-  laid-at : (r : Record) → exists (same_part (laid r)) PARTS ≡ true
+  laid_at : (r : Record) → exists (same_part (laid r)) PARTS ≡ true
       → chunks (length (rows r)) (row_size r) (drop (place (laid r)) v) ≡ rows r
   unfolding value_of
-  laid-at r h =
+  laid_at r h =
       let w = from PARTS (laid r) h in
-      rw w.is (area-rows (row_size r) (most r) (rows r) (f.long r) (f.few r) w.rest)
+      rw w.is (area_rows (row_size r) (most r) (rows r) (f.long r) (f.few r) w.rest)
 
   pub count_at : (r : Record) → exists (same_part (counted r)) PARTS ≡ true → num v (place (counted r)) ≡ pos (length (rows r))
   unfolding value_of
@@ -163,17 +163,17 @@ module _ (rows : Rows) (f : Fit rows) (z : List ℤ) where
       let n : place (counted r) + 0 ≡ place (counted r) = omega arith in
       rw (← n, ← get_or-drop (place (counted r)) v 0 (pos 0), w.is)
 
-  size-at : (r : Record) → exists (same_part (counted r)) PARTS ≡ true → size_by (most r) (num v (place (counted r))) ≡ length (rows r)
-  size-at r h = rw (count_at r h) (size_is (most r) (length (rows r)) (f.few r))
+  size_at : (r : Record) → exists (same_part (counted r)) PARTS ≡ true → size_by (most r) (num v (place (counted r))) ≡ length (rows r)
+  size_at r h = rw (count_at r h) (size_is (most r) (length (rows r)) (f.few r))
 
   module _ (one : length (rows e_record) ≡ 1) where
     back_at : (r : Record) → rows_of v r ≡ rows r
     unfolding rows_of exists
-    back_at s_record = rw (size-at s_record refl) (laid-at s_record refl)
-    back_at v_record = rw (size-at v_record refl) (laid-at v_record refl)
-    back_at e_record = ap (λ (n : ℕ). chunks n 1 (drop (place (laid e_record)) v)) (sym one) ∙ laid-at e_record refl
-    back_at t_record = rw (size-at t_record refl) (laid-at t_record refl)
-    back_at a_record = rw (size-at a_record refl) (laid-at a_record refl)
+    back_at s_record = rw (size_at s_record refl) (laid_at s_record refl)
+    back_at v_record = rw (size_at v_record refl) (laid_at v_record refl)
+    back_at e_record = ap (λ (n : ℕ). chunks n 1 (drop (place (laid e_record)) v)) (sym one) ∙ laid_at e_record refl
+    back_at t_record = rw (size_at t_record refl) (laid_at t_record refl)
+    back_at a_record = rw (size_at a_record refl) (laid_at a_record refl)
     back_at no_record =
         sym (nothing (rows_of v no_record) (rw chunks_length (size_by_most 0 (num v VALUE)))) ∙ nothing (rows no_record) (f.few no_record)
 
@@ -182,7 +182,7 @@ module _ (rows : Rows) (f : Fit rows) (z : List ℤ) where
 
 pub value_length : (rows : Rows) → Fit rows → length (value_of rows) ≡ VALUE
 unfolding value_of
-value_length rows f = parts-length rows f [] PARTS
+value_length rows f = parts_length rows f [] PARTS
 
 -- the same with nothing past it
 module _ (rows : Rows) (f : Fit rows) (r : Record) where
@@ -208,8 +208,8 @@ count_fitting : (low high n : ℕ) → low ≤ n → n ≤ high → count_fits l
 count_fitting low high n h k = rw (le-leb low n h, le-leb n high k)
 
 module _ (rows : Rows) (s : Shaped rows) (two : LEAST_STATES ≤ length (rows s_record)) where
-  least-met : (r : Record) → least r ≤ length (rows r)
-  least-met r = go (same r s_record) refl
+  least_met : (r : Record) → least r ≤ length (rows r)
+  least_met r = go (same r s_record) refl
     where
       go : (t : Bool) → same r s_record ≡ t → cond t LEAST_STATES 0 ≤ length (rows r)
       go true e = rw (same_true r s_record e) two
@@ -223,7 +223,7 @@ module _ (rows : Rows) (s : Shaped rows) (two : LEAST_STATES ≤ length (rows s_
       fit = shaped_fit rows s.fitting
 
       go : (p : Part) → exists (same_part p) PARTS ≡ true → part_fits (value_of rows) p ≡ true
-      go (counted r) h = rw (count_of rows fit r h) (count_fitting (least r) (most r) (length (rows r)) (least-met r) (fit.few r))
+      go (counted r) h = rw (count_of rows fit r h) (count_fitting (least r) (most r) (length (rows r)) (least_met r) (fit.few r))
       go (laid r) h = rw (back rows s) (s.fitting r).ok
 
 -- ---- the rows of a value that keeps R0
@@ -238,30 +238,30 @@ module _ (v : List ℤ) (keeps : rule_0 v ≡ true) where
   enough = leb-true VALUE (length v) (and_left (leb VALUE (length v)) (every (part_fits v) PARTS) keeps)
 
   -- the numbers of a kind's rows
-  pub rows-within : (r : Record) → exists (same_part (laid r)) PARTS ≡ true → how_many v r * row_size r ≤ length (drop (place (laid r)) v)
-  rows-within r h =
+  pub rows_within : (r : Record) → exists (same_part (laid r)) PARTS ≡ true → how_many v r * row_size r ≤ length (drop (place (laid r)) v)
+  rows_within r h =
       let m : how_many v r * row_size r ≤ most r * row_size r = mul-le-mul_right (row_size r) (many_few v r) in
       let e = enough in
       let w = part_within PARTS (laid r) h in
       rw (length-drop (place (laid r)) v) (omega arith)
 
-  fitting-of : (r : Record) → exists (same_part (laid r)) PARTS ≡ true → Fitting r (rows_of v r)
+  fitting_of : (r : Record) → exists (same_part (laid r)) PARTS ≡ true → Fitting r (rows_of v r)
   unfolding rows_of
-  fitting-of r h = record {
-    ok = part-ok v keeps (laid r) h;
-    long = chunks_long (how_many v r) (row_size r) (drop (place (laid r)) v) (rows-within r h);
+  fitting_of r h = record {
+    ok = part_ok v keeps (laid r) h;
+    long = chunks_long (how_many v r) (row_size r) (drop (place (laid r)) v) (rows_within r h);
     few = rw (chunks_length (how_many v r) (row_size r) (drop (place (laid r)) v)) (many_few v r);
   }
 
-  pub value-shaped : Shaped (rows_of v)
+  pub value_shaped : Shaped (rows_of v)
   unfolding rows_of exists
-  value-shaped = record { fitting = all; one = chunks_length 1 1 (drop 2 v) }
+  value_shaped = record { fitting = all; one = chunks_length 1 1 (drop 2 v) }
     where
       all : (r : Record) → Fitting r (rows_of v r)
-      all s_record = fitting-of s_record refl
-      all v_record = fitting-of v_record refl
-      all e_record = fitting-of e_record refl
-      all t_record = fitting-of t_record refl
-      all a_record = fitting-of a_record refl
+      all s_record = fitting_of s_record refl
+      all v_record = fitting_of v_record refl
+      all e_record = fitting_of e_record refl
+      all t_record = fitting_of t_record refl
+      all a_record = fitting_of a_record refl
       all no_record =
           subst (Fitting no_record) (nothing (rows_of v no_record) (rw chunks_length (many_few v no_record))) (fitting_none no_record)

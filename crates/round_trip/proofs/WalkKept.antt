@@ -11,7 +11,7 @@ use lib.IntN.{ℤ}
 use lib.ListN.{length}
 use Rattle.sizes.specs.Sizes.{TEXT}
 use Rattle.laws.proofs.Lists.{and_left, and_right, or_off_left, or_off_right, not_true}
-use Rattle.laws.proofs.Parts.{same_true, named-is, every_record}
+use Rattle.laws.proofs.Parts.{same_true, named_is, every_record}
 use Rattle.meaning.specs.Lists.{every, exists, concat_map, map_from}
 use Rattle.meaning.specs.Value.{Rows}
 use Rattle.meaning.specs.Split.{LF, fields, lines, tails, ended}
@@ -23,7 +23,7 @@ use Rattle.round_trip.proofs.Numbers.{no}
 use Rattle.round_trip.proofs.Splits.{glued, glued_lines, ended_append}
 use Rattle.round_trip.proofs.Fields.{Good, zero_good}
 use Rattle.round_trip.proofs.Records.{RowKept, row_kept, row_room}
-use Rattle.round_trip.proofs.Shaped.{Shaped, Fitting, fitting_none, fitting_more, map-from-more, nothing, own_row, other_row}
+use Rattle.round_trip.proofs.Shaped.{Shaped, Fitting, fitting_none, fitting_more, map_from_more, nothing, own_row, other_row}
 
 -- ---- the lines of some kinds
 
@@ -49,8 +49,8 @@ module _ (rows : Rows) (r : Record) (x : List ℤ) where
   abbrev more : Rows
   more = with_row r x rows
 
-  other-lines : (q : Record) → same r q ≡ false → lines_of more q ≡ lines_of rows q
-  other-lines q s = ap (map_from (text_of_row q) 0) (other_row rows r x q s)
+  other_lines : (q : Record) → same r q ≡ false → lines_of more q ≡ lines_of rows q
+  other_lines q s = ap (map_from (text_of_row q) 0) (other_row rows r x q s)
 
   -- kinds of which nothing was read have no line, also with a row more of another kind
   no_lines : (qs : List Record) → none_in rows qs ≡ true → exists (same r) qs ≡ false → lines_in more qs ≡ []
@@ -63,20 +63,20 @@ module _ (rows : Rows) (r : Record) (x : List ℤ) where
         no_lines qs (and_right (eqb (length (rows q)) 0) (none_in rows qs) e) (or_off_right (same r q) (exists (same r) qs) o),
       )
 
-  empty-lines : (qs : List Record) → none_in rows qs ≡ true → lines_in rows qs ≡ []
+  empty_lines : (qs : List Record) → none_in rows qs ≡ true → lines_in rows qs ≡ []
   unfolding concat_map every map_from
-  empty-lines [] e = refl
-  empty-lines (q ∷ qs) e =
+  empty_lines [] e = refl
+  empty_lines (q ∷ qs) e =
       rw (
         none_is (rows q) (and_left (eqb (length (rows q)) 0) (none_in rows qs) e),
-        empty-lines qs (and_right (eqb (length (rows q)) 0) (none_in rows qs) e),
+        empty_lines qs (and_right (eqb (length (rows q)) 0) (none_in rows qs) e),
       )
 
   module _ (l : List ℕ) (written : text_of_row r (length (rows r)) x ≡ l) where
-    own-lines : lines_of more r ≡ lines_of rows r ++ (l ∷ [])
-    own-lines =
+    own_lines : lines_of more r ≡ lines_of rows r ++ (l ∷ [])
+    own_lines =
         let n : 0 + length (rows r) ≡ length (rows r) = omega arith in
-        rw (own_row rows r x, map-from-more (text_of_row r) 0 (rows r) x, n, written)
+        rw (own_row rows r x, map_from_more (text_of_row r) 0 (rows r) x, n, written)
 
     -- its line is the last where nothing of a later kind was read
     lines_more : (qs : List Record) → once qs r ≡ true → none_in rows (behind_in qs r) ≡ true
@@ -91,8 +91,8 @@ module _ (rows : Rows) (r : Record) (x : List ℤ) where
             → lines_in more (q ∷ qs) ≡ lines_in rows (q ∷ qs) ++ (l ∷ [])
         go true s o e ih =
             let k : q ≡ r = sym (same_true r q s) in
-            rw (k, own-lines, no_lines qs e (not_true (exists (same r) qs) o), empty-lines qs e) (simp append-nil)
-        go false s o e ih = rw (other-lines q s, ih o e) (sym (append_assoc (lines_of rows q) (lines_in rows qs) (l ∷ [])))
+            rw (k, own_lines, no_lines qs e (not_true (exists (same r) qs) o), empty_lines qs e) (simp append-nil)
+        go false s o e ih = rw (other_lines q s, ih o e) (sym (append_assoc (lines_of rows q) (lines_in rows qs) (l ∷ [])))
 
 -- ---- one more line
 
@@ -118,20 +118,20 @@ module _ (rows : Rows) (s : Sound rows) (l : List ℕ) where
           rw h (fitting_more q (rows q) x l (s q) (subst (λ p. RowKept p (length (rows p)) l x) e k))
       fits_in q false h = rw h (s q)
 
-  in-order-kept : (r : Record) (b : Bool) → r ≡ record_of (fields l) → in_order (turns_of rows) r ≡ b
+  in_order_kept : (r : Record) (b : Bool) → r ≡ record_of (fields l) → in_order (turns_of rows) r ≡ b
       → Good (line_in_order b r (length (rows r)) (fields l)).mark
       → Step rows l (with_row r (line_in_order b r (length (rows r)) (fields l)).row rows)
   unfolding in_order
-  in-order-kept r false e o g = absurd (g.right refl)
-  in-order-kept r true e o g =
+  in_order_kept r false e o g = absurd (g.right refl)
+  in_order_kept r true e o g =
       let h : length (rows r) < most r = row_room r (length (rows r)) (fields l) g in
-      let n = named-is (letter_of (field (fields l) 0)) (length (rows r)) (subst (λ q. length (rows r) < most q) e h) in
+      let n = named_is (letter_of (field (fields l) 0)) (length (rows r)) (subst (λ q. length (rows r) < most q) e h) in
       row_step r _ (and_left (none_in rows (later r)) _ o) (row_kept r (length (rows r)) l (n ∙ ap name (sym e)) g)
 
   line_kept : Good (line_of (record_of (fields l)) (turns_of rows) (fields l)).mark
       → Step rows l (with_row (record_of (fields l)) (line_of (record_of (fields l)) (turns_of rows) (fields l)).row rows)
   unfolding line_of
-  line_kept g = in-order-kept (record_of (fields l)) (in_order (turns_of rows) (record_of (fields l))) refl refl g
+  line_kept g = in_order_kept (record_of (fields l)) (in_order (turns_of rows) (record_of (fields l))) refl refl g
 
 -- ---- the walk
 

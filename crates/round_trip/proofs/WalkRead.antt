@@ -19,7 +19,7 @@ use Rattle.meaning.specs.Text.{Result, done, turns_of, with_row, no_rows, line_t
 use Rattle.round_trip.specs.Rows.{AllLong}
 use Rattle.round_trip.proofs.Splits.{Free, AllFree, all_free_append, lines_ended}
 use Rattle.round_trip.proofs.Fields.{both}
-use Rattle.round_trip.proofs.Records.{row-free, row_named, row_reads}
+use Rattle.round_trip.proofs.Records.{row_free, row_named, row_reads}
 use Rattle.round_trip.proofs.Shaped.{Shaped, Fitting, nothing}
 
 -- ---- lines that are taken
@@ -53,8 +53,8 @@ abbrev with_rows : Record → List (List ℤ) → Rows → Rows
 with_rows r xs rows q = cond (same r q) (rows q ++ xs) (rows q)
 
 module _ (r : Record) (rows : Rows) (fresh : rows r ≡ []) where
-  own-rows : (ys : List (List ℤ)) → with_rows r ys rows r ≡ ys
-  own-rows ys = rw (same_self r, fresh)
+  own_rows : (ys : List (List ℤ)) → with_rows r ys rows r ≡ ys
+  own_rows ys = rw (same_self r, fresh)
 
   one_more : (ys : List (List ℤ)) (x : List ℤ) → with_row r x (with_rows r ys rows) ≡ with_rows r (ys ++ (x ∷ [])) rows
   unfolding with_row
@@ -79,26 +79,26 @@ module _ (r : Record) (rows : Rows) (fresh : rows r ≡ []) where
         → length ys < most r → Goes (with_rows r ys rows) (text_of_row r (length ys) x) (with_rows r (ys ++ (x ∷ [])) rows)
     unfolding line_of statable
     row_goes ys x h ok long few n next =
-        rw (row_named r (length ys) x ok few, opens ys h, own-rows ys, row_reads r (length ys) x ok few long) (ap next (one_more ys x))
+        rw (row_named r (length ys) x ok few, opens ys h, own_rows ys, row_reads r (length ys) x ok few long) (ap next (one_more ys x))
 
-    rows-read : (ys xs : List (List ℤ)) (k : ℕ) → k ≡ length ys → k + length xs ≤ length whole → every_from (statable r) k xs ≡ true
+    rows_read : (ys xs : List (List ℤ)) (k : ℕ) → k ≡ length ys → k + length xs ≤ length whole → every_from (statable r) k xs ≡ true
         → AllLong (row_size r) xs → k + length xs ≤ most r
         → Reads (with_rows r ys rows) (map_from (text_of_row r) k xs) (with_rows r (ys ++ xs) rows)
     unfolding map_from every_from AllLong
-    rows-read ys [] k e w ok long few = rw append-nil none
-    rows-read ys (x ∷ xs) k e w ok long few =
+    rows_read ys [] k e w ok long few = rw append-nil none
+    rows_read ys (x ∷ xs) k e w ok long few =
         let b = both (statable r k x) (every_from (statable r) (suc k) xs) ok in
         let m : suc k ≡ length (ys ++ (x ∷ [])) = rw (length-append ys (x ∷ [])) (omega arith) in
         let g : Goes (with_rows r ys rows) (text_of_row r k x) (with_rows r (ys ++ (x ∷ [])) rows) =
         rw e (row_goes ys x (omega arith) (rw e at b.0) long.0 (omega arith)) in
-        let t = rows-read (ys ++ (x ∷ [])) xs (suc k) m (omega arith) b.1 long.1 (omega arith) in
+        let t = rows_read (ys ++ (x ∷ [])) xs (suc k) m (omega arith) b.1 long.1 (omega arith) in
         one g (rw (append_assoc ys (x ∷ []) xs) at t)
 
-    kind-read : Fitting r whole → Reads rows (map_from (text_of_row r) 0 whole) (with_rows r whole rows)
-    kind-read f =
+    kind_read : Fitting r whole → Reads rows (map_from (text_of_row r) 0 whole) (with_rows r whole rows)
+    kind_read f =
         let few = f.few in
         subst (λ (w : Rows). Reads w (map_from (text_of_row r) 0 whole) (with_rows r whole rows)) (sym none_more)
-        (rows-read [] whole 0 refl (omega arith) f.ok f.long (omega arith))
+        (rows_read [] whole 0 refl (omega arith) f.ok f.long (omega arith))
 
 -- ---- all lines
 
@@ -108,15 +108,15 @@ unfolding AllFree map_from every_from statable
 rows_free r k [] ok few = tt
 rows_free r k (x ∷ xs) ok few =
     let b = both (statable r k x) (every_from (statable r) (suc k) xs) ok in
-    (row-free r k x b.0 (omega arith), rows_free r (suc k) xs b.1 (omega arith))
+    (row_free r k x b.0 (omega arith), rows_free r (suc k) xs b.1 (omega arith))
 
 module _ (r : Rows) (s : Shaped r) where
-  lines-free : (qs : List Record) → AllFree LF (concat_map (lines_of r) qs)
+  lines_free : (qs : List Record) → AllFree LF (concat_map (lines_of r) qs)
   unfolding concat_map AllFree
-  lines-free [] = tt
-  lines-free (q ∷ qs) =
+  lines_free [] = tt
+  lines_free (q ∷ qs) =
       let few = (s.fitting q).few in
-      all_free_append LF (lines_of r q) (concat_map (lines_of r) qs) (rows_free q 0 (r q) (s.fitting q).ok (omega arith)) (lines-free qs)
+      all_free_append LF (lines_of r q) (concat_map (lines_of r) qs) (rows_free q 0 (r q) (s.fitting q).ok (omega arith)) (lines_free qs)
 
   -- kind by kind: the rows of those read, the last one first
   abbrev of : List Record → Rows
@@ -126,24 +126,24 @@ module _ (r : Rows) (s : Shaped r) where
   abbrev all : Rows
   all = of (a_record ∷ t_record ∷ e_record ∷ v_record ∷ s_record ∷ [])
 
-  no-row-yet : (ys : List (List ℤ)) → length ys < length (r e_record) → length ys ≡ 0
-  no-row-yet ys h = omega (arith, h, s.one)
+  no_row_yet : (ys : List (List ℤ)) → length ys < length (r e_record) → length ys ≡ 0
+  no_row_yet ys h = omega (arith, h, s.one)
 
   all_read : Reads no_rows (concat_map (lines_of r) ORDER) all
   unfolding concat_map in_order every exists
   all_read =
       then (next [] s_record refl (λ ys h. refl)) (then (next (s_record ∷ []) v_record refl (λ ys h. refl))
-      (then (next (v_record ∷ s_record ∷ []) e_record refl (λ ys h. rw (no-row-yet ys h)))
+      (then (next (v_record ∷ s_record ∷ []) e_record refl (λ ys h. rw (no_row_yet ys h)))
       (then (next (e_record ∷ v_record ∷ s_record ∷ []) t_record refl (λ ys h. rw s.one))
       (then (next (t_record ∷ e_record ∷ v_record ∷ s_record ∷ []) a_record refl (λ ys h. rw s.one)) none))))
     where
       next : (qs : List Record) (q : Record) → of qs q ≡ []
           → ((ys : List (List ℤ)) → length ys < length (r q) → in_order (turns_of (with_rows q ys (of qs))) q ≡ true)
           → Reads (of qs) (lines_of r q) (of (q ∷ qs))
-      next qs q fresh opens = kind-read q (of qs) fresh (r q) opens (s.fitting q)
+      next qs q fresh opens = kind_read q (of qs) fresh (r q) opens (s.fitting q)
 
-  all-rows : all ≡ r
-  all-rows = fun_ext go
+  all_rows : all ≡ r
+  all_rows = fun_ext go
     where
       go : (q : Record) → all q ≡ r q
       go s_record = refl
@@ -154,17 +154,17 @@ module _ (r : Rows) (s : Shaped r) where
       go no_record = nothing (r no_record) (s.fitting no_record).few
 
   met : (n : ℕ) → ending n all [] ≡ done r
-  met n = rw s.one (ap done all-rows)
+  met n = rw s.one (ap done all_rows)
 
   -- ---- the text
 
   -- rows that a text can state: their text, where it is not too long, reads as those rows
-  lines-read : walk 1 no_rows (lines (text_by r)) ≡ done r
+  lines_read : walk 1 no_rows (lines (text_by r)) ≡ done r
   unfolding text_by
-  lines-read =
-      ap (λ (ls : List (List ℕ)). walk 1 no_rows ls) (lines_ended (concat_map (lines_of r) ORDER) (lines-free ORDER))
+  lines_read =
+      ap (λ (ls : List (List ℕ)). walk 1 no_rows ls) (lines_ended (concat_map (lines_of r) ORDER) (lines_free ORDER))
       ∙ walk_reads 1 all_read ∙ met _
 
-  pub text-reads : length (text_by r) ≤ TEXT → read_text (text_by r) ≡ done r
+  pub text_reads : length (text_by r) ≤ TEXT → read_text (text_by r) ≡ done r
   unfolding read_text
-  text-reads short = rw (le-ltb TEXT (length (text_by r)) short) lines-read
+  text_reads short = rw (le-ltb TEXT (length (text_by r)) short) lines_read

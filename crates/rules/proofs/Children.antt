@@ -11,25 +11,25 @@ use lib.ListN.{length, get_or, set, replicate, length-append, length-set, length
 use lib.Seq.{get_or-set_same, get_or-set_other}
 use Rattle.sizes.specs.Sizes.{STATES}
 use Rattle.meaning.specs.declared.chart.Kind.{Kind}
-use Rattle.meaning.specs.declared.chart.Kind.TheVariants.{O as kind-o, A as kind-a, B as kind-b}
+use Rattle.meaning.specs.declared.chart.Kind.TheVariants.{O as kind_o, A as kind_a, B as kind_b}
 use Rattle.meaning.specs.Lists.{has, keep, every, from}
 use Rattle.meaning.specs.Chart.{Chart}
 use Rattle.meaning.specs.Tree.{parent_of, kind_of, default_child, is_o, is_child, ancestors, children, all_states}
 use Rattle.meaning.specs.Rules.{is_state, parent_fits, children_fit, default_fits}
-use Rattle.tree.proofs.Climb.{child-root, child-below}
+use Rattle.tree.proofs.Climb.{child_root, child_below}
 use Rattle.rules.specs.Family.{young, Family, count_fits_kind}
 
 -- ---- R2 and R4 of one state
 
 module _ (c : Chart) where
-  pub parent-root : (n : ℕ) → n ≡ 0 → true ≡ parent_fits c n
+  pub parent_root : (n : ℕ) → n ≡ 0 → true ≡ parent_fits c n
   unfolding parent_fits
-  parent-root n e = rw e
+  parent_root n e = rw e
 
-  pub parent-last : (n : ℕ) → (n ≡ 0 → ⊥) → parent_of c n ≡ n - 1 → true ≡ parent_fits c n
+  pub parent_last : (n : ℕ) → (n ≡ 0 → ⊥) → parent_of c n ≡ n - 1 → true ≡ parent_fits c n
   unfolding parent_fits has
-  parent-last zero z e = absurd (z refl)
-  parent-last (suc n) z e = let d : suc n - 1 ≡ n = omega arith in rw (eq-eqb (parent_of c (suc n)) n (e ∙ d))
+  parent_last zero z e = absurd (z refl)
+  parent_last (suc n) z e = let d : suc n - 1 ≡ n = omega arith in rw (eq-eqb (parent_of c (suc n)) n (e ∙ d))
 
   pub parent_above : (n : ℕ) {r : Bool} → (n ≡ 0 → ⊥) → (parent_of c n ≡ n - 1 → ⊥)
       → r ≡ has (parent_of c n) (ancestors c (n - 1)) → r ≡ parent_fits c n
@@ -39,27 +39,27 @@ module _ (c : Chart) where
       let d : suc n - 1 ≡ n = omega arith in
       rw (ne_eqb (parent_of c (suc n)) n (λ q. e (q ∙ sym d))) (rw d at g)
 
-  pub default-other : (s : ℕ) (k : Kind) → is_o k ≡ false → true ≡ default_fits c s k
+  pub default_other : (s : ℕ) (k : Kind) → is_o k ≡ false → true ≡ default_fits c s k
   unfolding default_fits is_o
-  default-other s kind-o e = absurd (true≢false e)
-  default-other s kind-a e = refl
-  default-other s kind-b e = refl
+  default_other s kind_o e = absurd (true≢false e)
+  default_other s kind_a e = refl
+  default_other s kind_b e = refl
 
-  pub default-o : (s : ℕ) (k : Kind) {r : Bool} → is_o k ≡ true
+  pub default_o : (s : ℕ) (k : Kind) {r : Bool} → is_o k ≡ true
       → r ≡ is_state c (default_child c s) && is_child c s (default_child c s) → r ≡ default_fits c s k
   unfolding default_fits is_o
-  default-o s kind-o e g = g
-  default-o s kind-a e g = absurd (false≢true e)
-  default-o s kind-b e g = absurd (false≢true e)
+  default_o s kind_o e g = g
+  default_o s kind_a e g = absurd (false≢true e)
+  default_o s kind_b e g = absurd (false≢true e)
 
   -- ---- R3 by counts
 
-  pub children-counted : (k : Kind) (ds : List ℕ)
+  pub children_counted : (k : Kind) (ds : List ℕ)
       → children_fit c k ds ≡ count_fits_kind k (length ds) (every (λ d. is_o (kind_of c d)) ds)
   unfolding children_fit count_fits_kind
-  children-counted kind-o ds = refl
-  children-counted kind-a ds = refl
-  children-counted kind-b ds = refl
+  children_counted kind_o ds = refl
+  children_counted kind_a ds = refl
+  children_counted kind_b ds = refl
 
 -- ---- one number more
 
@@ -92,20 +92,20 @@ append_nil [] = refl
 append_nil (x ∷ xs) = ap (λ l. x ∷ l) (append_nil xs)
 
 module _ (c : Chart) (n s : ℕ) where
-  young-more : young c (suc n) s ≡ young c n s ++ keep (is_child c s) (n ∷ [])
+  young_more : young c (suc n) s ≡ young c n s ++ keep (is_child c s) (n ∷ [])
   unfolding young
-  young-more =
+  young_more =
       let z : 0 + n ≡ n = omega arith in
       ap (keep (is_child c s)) (from_more 0 n ∙ rw z) ∙ keep_append (is_child c s) (from 0 n) (n ∷ [])
 
   -- state n is no child of s: all stays as it is
-  young-same : is_child c s n ≡ false → young c (suc n) s ≡ young c n s
+  young_same : is_child c s n ≡ false → young c (suc n) s ≡ young c n s
   unfolding keep
-  young-same e = young-more ∙ rw e (append_nil (young c n s))
+  young_same e = young_more ∙ rw e (append_nil (young c n s))
 
-  young-child : is_child c s n ≡ true → young c (suc n) s ≡ young c n s ++ (n ∷ [])
+  young_child : is_child c s n ≡ true → young c (suc n) s ≡ young c n s ++ (n ∷ [])
   unfolding keep
-  young-child e = young-more ∙ rw e
+  young_child e = young_more ∙ rw e
 
 -- ---- the pass: before it, a state that is nobody's child, and one that is counted at its parent
 
@@ -121,56 +121,56 @@ family_none c = record {
 module _ (c : Chart) (n : ℕ) (counts : List ℕ) (plain : List Bool) (before : Family c n counts plain) where
   -- s has no child more
   same_count : (s : ℕ) → s < STATES → is_child c s n ≡ false → get_or counts s 0 ≡ length (young c (n + 1) s)
-  same_count s h e = before.counted s h ∙ ap length (sym (young-same c n s e) ∙ ap (λ m. young c m s) (sym (add-one n)))
+  same_count s h e = before.counted s h ∙ ap length (sym (young_same c n s e) ∙ ap (λ m. young c m s) (sym (add-one n)))
 
-  same-told : (s : ℕ) → s < STATES → is_child c s n ≡ false → get_or plain s false ≡ every (λ d. is_o (kind_of c d)) (young c (n + 1) s)
-  same-told s h e =
+  same_told : (s : ℕ) → s < STATES → is_child c s n ≡ false → get_or plain s false ≡ every (λ d. is_o (kind_of c d)) (young c (n + 1) s)
+  same_told s h e =
       before.told s h
-      ∙ ap (every (λ d. is_o (kind_of c d))) (sym (young-same c n s e) ∙ ap (λ m. young c m s) (sym (add-one n)))
+      ∙ ap (every (λ d. is_o (kind_of c d))) (sym (young_same c n s e) ∙ ap (λ m. young c m s) (sym (add-one n)))
 
   -- s has the child n
-  more-count : (s : ℕ) → s < STATES → is_child c s n ≡ true → get_or counts s 0 + 1 ≡ length (young c (n + 1) s)
-  more-count s h e =
+  more_count : (s : ℕ) → s < STATES → is_child c s n ≡ true → get_or counts s 0 + 1 ≡ length (young c (n + 1) s)
+  more_count s h e =
       let l : length (young c (n + 1) s) ≡ length (young c n s) + 1 =
-      ap (λ m. length (young c m s)) (add-one n) ∙ ap length (young-child c n s e) ∙ length-append (young c n s) (n ∷ []) in
+      ap (λ m. length (young c m s)) (add-one n) ∙ ap length (young_child c n s e) ∙ length-append (young c n s) (n ∷ []) in
       let k : get_or counts s 0 ≡ length (young c n s) = before.counted s h in
       omega arith
 
-  more-told : (s : ℕ) → s < STATES → is_child c s n ≡ true
+  more_told : (s : ℕ) → s < STATES → is_child c s n ≡ true
       → get_or plain s false && is_o (kind_of c n) ≡ every (λ d. is_o (kind_of c d)) (young c (n + 1) s)
   unfolding every
-  more-told s h e =
-      rw (before.told s h, add-one n, young-child c n s e, every_append (λ d. is_o (kind_of c d)) (young c n s) (n ∷ []))
+  more_told s h e =
+      rw (before.told s h, add-one n, young_child c n s e, every_append (λ d. is_o (kind_of c d)) (young c n s) (n ∷ []))
       (ap (λ t. every (λ d. is_o (kind_of c d)) (young c n s) && t) (sym (and-true (is_o (kind_of c n)))))
 
-  family-skip : ((s : ℕ) → s < STATES → is_child c s n ≡ false) → Family c (n + 1) counts plain
-  family-skip e = record {
+  family_skip : ((s : ℕ) → s < STATES → is_child c s n ≡ false) → Family c (n + 1) counts plain
+  family_skip e = record {
     counts_long = before.counts_long;
     plain_long = before.plain_long;
     counted = λ s h. same_count s h (e s h);
-    told = λ s h. same-told s h (e s h);
+    told = λ s h. same_told s h (e s h);
   }
 
-  pub family-root : n ≡ 0 → Family c (n + 1) counts plain
-  family-root e = family-skip (λ s h. child-root c s n e)
+  pub family_root : n ≡ 0 → Family c (n + 1) counts plain
+  family_root e = family_skip (λ s h. child_root c s n e)
 
-  pub family-far : (n ≡ 0 → ⊥) → STATES ≤ parent_of c n → Family c (n + 1) counts plain
-  family-far z far = family-skip (λ s h. child-below c s n z ∙ ne_eqb (parent_of c n) s (λ e. omega arith))
+  pub family_far : (n ≡ 0 → ⊥) → STATES ≤ parent_of c n → Family c (n + 1) counts plain
+  family_far z far = family_skip (λ s h. child_below c s n z ∙ ne_eqb (parent_of c n) s (λ e. omega arith))
 
   -- a child is counted at its parent p
   module _ (p : ℕ) (r : Bool) (z : n ≡ 0 → ⊥) (e : p ≡ parent_of c n)
       (h : p < STATES) (g : r ≡ get_or plain p false && is_o (kind_of c n)) where
     mine : is_child c p n ≡ true
-    mine = child-below c p n z ∙ eq-eqb (parent_of c n) p (sym e)
+    mine = child_below c p n z ∙ eq-eqb (parent_of c n) p (sym e)
 
     other : (s : ℕ) → (s ≡ p → ⊥) → is_child c s n ≡ false
-    other s d = child-below c s n z ∙ ne_eqb (parent_of c n) s (λ q. d (sym (e ∙ q)))
+    other s d = child_below c s n z ∙ ne_eqb (parent_of c n) s (λ q. d (sym (e ∙ q)))
 
     count_at : (s : ℕ) → s < STATES → (t : Bool) → eqb s p ≡ t
         → get_or (set counts p (get_or counts p 0 + 1)) s 0 ≡ length (young c (n + 1) s)
     count_at s k true t =
         let q : s ≡ p = eqb-true s p t in
-        rw q (get_or-set_same counts p (get_or counts p 0 + 1) 0 (rw before.counts_long h) ∙ more-count p h mine)
+        rw q (get_or-set_same counts p (get_or counts p 0 + 1) 0 (rw before.counts_long h) ∙ more_count p h mine)
     count_at s k false t =
         get_or-set_other counts p s (get_or counts p 0 + 1) 0 (eqb-false s p t) ∙ same_count s k (other s (eqb-false s p t))
 
@@ -178,11 +178,11 @@ module _ (c : Chart) (n : ℕ) (counts : List ℕ) (plain : List Bool) (before :
         → get_or (set plain p r) s false ≡ every (λ d. is_o (kind_of c d)) (young c (n + 1) s)
     told_at s k true t =
         let q : s ≡ p = eqb-true s p t in
-        rw q (get_or-set_same plain p r false (rw before.plain_long h) ∙ g ∙ more-told p h mine)
-    told_at s k false t = get_or-set_other plain p s r false (eqb-false s p t) ∙ same-told s k (other s (eqb-false s p t))
+        rw q (get_or-set_same plain p r false (rw before.plain_long h) ∙ g ∙ more_told p h mine)
+    told_at s k false t = get_or-set_other plain p s r false (eqb-false s p t) ∙ same_told s k (other s (eqb-false s p t))
 
-    pub family-more : Family c (n + 1) (set counts p (get_or counts p 0 + 1)) (set plain p r)
-    family-more = record {
+    pub family_more : Family c (n + 1) (set counts p (get_or counts p 0 + 1)) (set plain p r)
+    family_more = record {
       counts_long = length-set counts p (get_or counts p 0 + 1) ∙ before.counts_long;
       plain_long = length-set plain p r ∙ before.plain_long;
       counted = λ s k. count_at s k (eqb s p) refl;
@@ -216,4 +216,4 @@ young_all c s = refl
 pub counted_fits : (c : Chart) (counts : List ℕ) (plain : List Bool) (s : ℕ) → Family c (length c.states) counts plain → s < STATES
     → count_fits_kind (kind_of c s) (get_or counts s 0) (get_or plain s false) ≡ children_fit c (kind_of c s) (children c s)
 counted_fits c counts plain s f h =
-    rw (f.counted s h, f.told s h, young_all c s) (sym (children-counted c (kind_of c s) (children c s)))
+    rw (f.counted s h, f.told s h, young_all c s) (sym (children_counted c (kind_of c s) (children c s)))

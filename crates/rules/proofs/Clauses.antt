@@ -89,13 +89,13 @@ SameAct a x y =
 act_is : (a x y : ℤ) → SameAct a x y
 act_is a x y = go (is_letter 115 a) (is_letter 97 a) (is_letter 113 a) refl refl refl
   where
-    both-numbers : (in_range x && in_range y) || false ≡ in_range x && in_range y
-    both-numbers = or_false (in_range x && in_range y)
+    both_numbers : (in_range x && in_range y) || false ≡ in_range x && in_range y
+    both_numbers = or_false (in_range x && in_range y)
 
     go : (s p q : Bool) → is_letter 115 a ≡ s → is_letter 97 a ≡ p → is_letter 113 a ≡ q → SameAct a x y
-    go true p q hs hp hq = subst (λ (z : ℤ). SameAct z x y) (sym (eq_z_true a (pos 115) hs)) both-numbers
-    go false true q hs hp hq = subst (λ (z : ℤ). SameAct z x y) (sym (eq_z_true a (pos 97) hp)) both-numbers
-    go false false true hs hp hq = subst (λ (z : ℤ). SameAct z x y) (sym (eq_z_true a (pos 113) hq)) both-numbers
+    go true p q hs hp hq = subst (λ (z : ℤ). SameAct z x y) (sym (eq_z_true a (pos 115) hs)) both_numbers
+    go false true q hs hp hq = subst (λ (z : ℤ). SameAct z x y) (sym (eq_z_true a (pos 97) hp)) both_numbers
+    go false false true hs hp hq = subst (λ (z : ℤ). SameAct z x y) (sym (eq_z_true a (pos 113) hq)) both_numbers
     go false false false hs hp hq = rw (hs, hp, hq)
 
 pub action_is : (i : ℕ) (row : List ℤ) → statable a_record i row

@@ -13,32 +13,32 @@ use Rattle.meaning.specs.Lists.{every, every_from, from}
 -- ---- each element of a list
 
 module _ {A : Type 0} (p : A → Bool) (l : List A) (d : A) (i : ℕ) {b : Bool} where
-  pub every-stop : i < length l → p (get_or l i d) ≡ false → every p (drop i l) ≡ b → false ≡ b
+  pub every_stop : i < length l → p (get_or l i d) ≡ false → every p (drop i l) ≡ b → false ≡ b
   unfolding every
-  every-stop h e g = rw (drop-cons l i d h, e) at g
+  every_stop h e g = rw (drop-cons l i d h, e) at g
 
-  pub every-next : i < length l → p (get_or l i d) ≡ true → every p (drop i l) ≡ b → every p (drop (i + 1) l) ≡ b
+  pub every_next : i < length l → p (get_or l i d) ≡ true → every p (drop i l) ≡ b → every p (drop (i + 1) l) ≡ b
   unfolding every
-  every-next h e g = rw (add-one i) (rw (drop-cons l i d h, e) at g)
+  every_next h e g = rw (add-one i) (rw (drop-cons l i d h, e) at g)
 
-  pub every-done : length l ≤ i → every p (drop i l) ≡ b → true ≡ b
+  pub every_done : length l ≤ i → every p (drop i l) ≡ b → true ≡ b
   unfolding every
-  every-done h g = rw (drop_of_length-le l h) at g
+  every_done h g = rw (drop_of_length-le l h) at g
 
 -- ---- each element with its place
 
 module _ {A : Type 0} (p : ℕ → A → Bool) (l : List A) (d : A) (i : ℕ) {b : Bool} where
-  pub placed-stop : i < length l → p i (get_or l i d) ≡ false → every_from p i (drop i l) ≡ b → false ≡ b
+  pub placed_stop : i < length l → p i (get_or l i d) ≡ false → every_from p i (drop i l) ≡ b → false ≡ b
   unfolding every_from
-  placed-stop h e g = rw (drop-cons l i d h, e) at g
+  placed_stop h e g = rw (drop-cons l i d h, e) at g
 
-  pub placed-next : i < length l → p i (get_or l i d) ≡ true → every_from p i (drop i l) ≡ b → every_from p (i + 1) (drop (i + 1) l) ≡ b
+  pub placed_next : i < length l → p i (get_or l i d) ≡ true → every_from p i (drop i l) ≡ b → every_from p (i + 1) (drop (i + 1) l) ≡ b
   unfolding every_from
-  placed-next h e g = rw (add-one i) (rw (drop-cons l i d h, e) at g)
+  placed_next h e g = rw (add-one i) (rw (drop-cons l i d h, e) at g)
 
-  pub placed-done : length l ≤ i → every_from p i (drop i l) ≡ b → true ≡ b
+  pub placed_done : length l ≤ i → every_from p i (drop i l) ≡ b → true ≡ b
   unfolding every_from
-  placed-done h g = rw (drop_of_length-le l h) at g
+  placed_done h g = rw (drop_of_length-le l h) at g
 
 -- ---- each number below n
 
@@ -51,13 +51,13 @@ unfolding from
 from_none i n h = let z : n - i ≡ 0 = omega arith in rw z
 
 module _ (p : ℕ → Bool) (n i : ℕ) {b : Bool} where
-  pub all-stop : i < n → p i ≡ false → every p (from i (n - i)) ≡ b → false ≡ b
+  pub all_stop : i < n → p i ≡ false → every p (from i (n - i)) ≡ b → false ≡ b
   unfolding every
-  all-stop h e g = rw (from_cons i n h, e) at g
+  all_stop h e g = rw (from_cons i n h, e) at g
 
-  pub all-next : i < n → p i ≡ true → every p (from i (n - i)) ≡ b → every p (from (i + 1) (n - (i + 1))) ≡ b
+  pub all_next : i < n → p i ≡ true → every p (from i (n - i)) ≡ b → every p (from (i + 1) (n - (i + 1))) ≡ b
   unfolding every
-  all-next h e g = rw (add-one i) (rw (from_cons i n h, e) at g)
+  all_next h e g = rw (add-one i) (rw (from_cons i n h, e) at g)
 
   pub all_done : n ≤ i → every p (from i (n - i)) ≡ b → true ≡ b
   unfolding every

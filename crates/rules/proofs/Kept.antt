@@ -56,6 +56,6 @@ module _ (v : List ℤ) where
   cases true r e = (r, e)
   cases false r e = none_some 0 e
 
-  pub value-kept : failing_rule_of v ≡ none → (rule_0 v ≡ true) × (failing_rule (chart_of v) ≡ none)
+  pub value_kept : failing_rule_of v ≡ none → (rule_0 v ≡ true) × (failing_rule (chart_of v) ≡ none)
   unfolding failing_rule_of
-  value-kept e = cases (rule_0 v) refl e
+  value_kept e = cases (rule_0 v) refl e

@@ -13,11 +13,11 @@ use Rattle.meaning.specs.Lists.{every, every_from}
 use Rattle.meaning.specs.Value.{counted, laid, PARTS, place, num, how_many, rows_of, count_fits, statable, least, part_fits}
 use Rattle.chart_rows.specs.Area.{AreaOf}
 use Rattle.chart_rows.specs.declared.kinds.Area.{Area}
-use Rattle.chart_rows.proofs.Named.{same-no}
+use Rattle.chart_rows.proofs.Named.{same_no}
 use Rattle.chart_rows.proofs.Rows.{length_chunks, num_first}
 use Rattle.rules.specs.Clauses.{row_in, counted_fits, kind_fits}
 use Rattle.rules.proofs.Tests.{refuted, held}
-use Rattle.rules.proofs.Every.{every-stop, every-next, every-done, placed-stop, placed-next, placed-done}
+use Rattle.rules.proofs.Every.{every_stop, every_next, every_done, placed_stop, placed_next, placed_done}
 use Rattle.rules.proofs.Letters.{row_of}
 
 -- ---- a row
@@ -44,19 +44,19 @@ module _ (v : List ℤ) (r : Record) (n i : ℕ) (e : n ≡ how_many v r) where
   long = length_chunks (how_many v r) (row_size r) (drop (place (laid r)) v) ∙ sym e
 
   pub rows_end : {b : Bool} → n ≤ i → every_from (statable r) i (drop i (rows_of v r)) ≡ b → true ≡ b
-  rows_end h g = placed-done (statable r) (rows_of v r) [] i (rw long h) g
+  rows_end h g = placed_done (statable r) (rows_of v r) [] i (rw long h) g
 
   module _ (t : Bool) (h : i < n) (f : t ≡ statable r i (row_in r i v)) where
     here : t ≡ statable r i (get_or (rows_of v r) i [])
     unfolding rows_of
     here = f ∙ ap (statable r i) (sym (row_of (how_many v r) (row_size r) (place (laid r)) v i (rw e at h)))
 
-    pub row-stops : {b : Bool} → not t ≡ true → every_from (statable r) i (drop i (rows_of v r)) ≡ b → false ≡ b
-    row-stops z g = placed-stop (statable r) (rows_of v r) [] i (rw long h) (refuted here z) g
+    pub row_stops : {b : Bool} → not t ≡ true → every_from (statable r) i (drop i (rows_of v r)) ≡ b → false ≡ b
+    row_stops z g = placed_stop (statable r) (rows_of v r) [] i (rw long h) (refuted here z) g
 
     pub row_goes : {b : Bool} → not t ≡ false → every_from (statable r) i (drop i (rows_of v r)) ≡ b
         → every_from (statable r) (i + 1) (drop (i + 1) (rows_of v r)) ≡ b
-    row_goes z g = placed-next (statable r) (rows_of v r) [] i (rw long h) (held here z) g
+    row_goes z g = placed_next (statable r) (rows_of v r) [] i (rw long h) (held here z) g
 
 -- ---- the count of a kind
 
@@ -69,24 +69,24 @@ few a_record = omega arith
 few no_record = omega arith
 
 module _ (v : List ℤ) (k : ℕ) where
-  pub states-counted : {t : Bool} → k ≡ 83 → t ≡ count_fits LEAST_STATES (most s_record) (num v 0) → t ≡ counted_fits v (record_by k)
+  pub states_counted : {t : Bool} → k ≡ 83 → t ≡ count_fits LEAST_STATES (most s_record) (num v 0) → t ≡ counted_fits v (record_by k)
   unfolding record_by
-  states-counted e f = rw e f
+  states_counted e f = rw e f
 
-  pub events-counted : k ≡ 69 → true ≡ counted_fits v (record_by k)
+  pub events_counted : k ≡ 69 → true ≡ counted_fits v (record_by k)
   unfolding record_by
-  events-counted e = rw e
+  events_counted e = rw e
 
   pub kind_counted : {t : Bool} → (k ≡ 83 → ⊥) → (k ≡ 69 → ⊥) → (a : Area) → AreaOf (record_by k) a
       → t ≡ count_fits 0 a.most (num v a.count) → t ≡ counted_fits v (record_by k)
   kind_counted s e a i f =
       let r : Record = record_by k in
-      let l : 0 ≡ least r = rw (same-no k s_record (omega arith) s) in
+      let l : 0 ≡ least r = rw (same_no k s_record (omega arith) s) in
       let m : count_fits 0 a.most (num v a.count) ≡ count_fits 0 (most r) (num v (place (counted r))) = rw (i.most, i.count) in
       f
       ∙ m
       ∙ ap (λ (n : ℕ). count_fits n (most r) (num v (place (counted r)))) l
-      ∙ ap (λ (b : Bool). cond b true (part_fits v (counted r))) (sym (same-no k e_record (omega arith) e))
+      ∙ ap (λ (b : Bool). cond b true (part_fits v (counted r))) (sym (same_no k e_record (omega arith) e))
 
 -- ---- the loop over the kinds
 
@@ -112,11 +112,11 @@ all_kinds v =
 
 module _ (v : List ℤ) (i : ℕ) {b : Bool} (g : every (kind_fits v) (drop i ORDER) ≡ b) where
   module _ (h : i < 5) (k : ℕ) (e : record_by k ≡ get_or ORDER i no_record) (t : Bool) (f : t ≡ kind_fits v (record_by k)) where
-    pub kind-stops : not t ≡ true → false ≡ b
-    kind-stops z = every-stop (kind_fits v) ORDER no_record i h (refuted (f ∙ ap (kind_fits v) e) z) g
+    pub kind_stops : not t ≡ true → false ≡ b
+    kind_stops z = every_stop (kind_fits v) ORDER no_record i h (refuted (f ∙ ap (kind_fits v) e) z) g
 
-    pub kind-goes : not t ≡ false → every (kind_fits v) (drop (i + 1) ORDER) ≡ b
-    kind-goes z = every-next (kind_fits v) ORDER no_record i h (held (f ∙ ap (kind_fits v) e) z) g
+    pub kind_goes : not t ≡ false → every (kind_fits v) (drop (i + 1) ORDER) ≡ b
+    kind_goes z = every_next (kind_fits v) ORDER no_record i h (held (f ∙ ap (kind_fits v) e) z) g
 
-  pub kinds-end : 5 ≤ i → true ≡ b
-  kinds-end h = every-done (kind_fits v) ORDER no_record i h g
+  pub kinds_end : 5 ≤ i → true ≡ b
+  kinds_end h = every_done (kind_fits v) ORDER no_record i h g

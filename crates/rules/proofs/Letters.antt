@@ -24,11 +24,11 @@ pub row_of : (n k a : ℕ) (v : List ℤ) (i : ℕ) → i < n → get_or (chunks
 row_of n k a v i h = chunk_at n k (drop a v) i h ∙ ap (take k) (drop-drop (i * k) a v)
 
 module _ (v : List ℤ) (b : ℕ) where
-  pub state-read : (n : ℕ) → statable s_record n (take STATE_ROW (drop b v))
+  pub state_read : (n : ℕ) → statable s_record n (take STATE_ROW (drop b v))
       ≡ number_if (not (eqb n 0)) (get_or v b (pos 0))
       && (one_of_letters (111 ∷ 97 ∷ 98 ∷ []) (get_or v (b + 1) (pos 0))
       && number_if (is_letter 111 (get_or v (b + 1) (pos 0))) (get_or v (b + 2) (pos 0)))
-  state-read n =
+  state_read n =
       rw (
         state_is n (take STATE_ROW (drop b v)),
         num_first STATE_ROW b v (omega arith),
@@ -41,12 +41,12 @@ module _ (v : List ℤ) (b : ℕ) where
   unfolding statable
   var_read i = rw (num_first VAR_ROW b v (omega arith), num_at VAR_ROW b v 1 (omega arith), num_at VAR_ROW b v 2 (omega arith))
 
-  pub trans-read : (i : ℕ) → statable t_record i (take TRANS_ROW (drop b v))
+  pub trans_read : (i : ℕ) → statable t_record i (take TRANS_ROW (drop b v))
       ≡ in_range (get_or v b (pos 0))
       && (in_range (get_or v (b + 1) (pos 0))
       && (guard_statable (get_or v (b + 2) (pos 0)) (get_or v (b + 3) (pos 0)) (get_or v (b + 4) (pos 0))
       && target_statable (get_or v (b + 5) (pos 0)) (get_or v (b + 6) (pos 0))))
-  trans-read i =
+  trans_read i =
       rw (
         trans_is i (take TRANS_ROW (drop b v)),
         num_first TRANS_ROW b v (omega arith),
@@ -58,13 +58,13 @@ module _ (v : List ℤ) (b : ℕ) where
         num_at TRANS_ROW b v 6 (omega arith),
       )
 
-  pub action-read : (i : ℕ) → statable a_record i (take ACT_ROW (drop b v))
+  pub action_read : (i : ℕ) → statable a_record i (take ACT_ROW (drop b v))
       ≡ one_of_letters (101 ∷ 120 ∷ 100 ∷ 116 ∷ []) (get_or v b (pos 0))
       && (in_range (get_or v (b + 1) (pos 0))
       && (one_of_letters (115 ∷ 97 ∷ 107 ∷ 113 ∷ 111 ∷ []) (get_or v (b + 2) (pos 0))
       && (in_range (get_or v (b + 3) (pos 0))
       && number_if (one_of_letters (115 ∷ 97 ∷ 113 ∷ []) (get_or v (b + 2) (pos 0))) (get_or v (b + 4) (pos 0)))))
-  action-read i =
+  action_read i =
       rw (
         action_is i (take ACT_ROW (drop b v)),
         num_first ACT_ROW b v (omega arith),

@@ -33,17 +33,17 @@ answer_failed o r a e z = rw (e, z)
 -- ---- the loop over the rules: those from i on name the same first failing one
 
 module _ (l : List Bool) (i : ℕ) {o : Option ℕ} where
-  pub rule-fails : i < length l → get_or l i true ≡ false → first_failing i (drop i l) ≡ o → some i ≡ o
+  pub rule_fails : i < length l → get_or l i true ≡ false → first_failing i (drop i l) ≡ o → some i ≡ o
   unfolding first_failing
-  rule-fails h e g = rw (drop-cons l i true h, e) at g
+  rule_fails h e g = rw (drop-cons l i true h, e) at g
 
-  pub rule-kept : i < length l → get_or l i true ≡ true → first_failing i (drop i l) ≡ o → first_failing (i + 1) (drop (i + 1) l) ≡ o
+  pub rule_kept : i < length l → get_or l i true ≡ true → first_failing i (drop i l) ≡ o → first_failing (i + 1) (drop (i + 1) l) ≡ o
   unfolding first_failing
-  rule-kept h e g = rw (add-one i) (rw (drop-cons l i true h, e) at g)
+  rule_kept h e g = rw (add-one i) (rw (drop-cons l i true h, e) at g)
 
-  pub rules-kept : length l ≤ i → first_failing i (drop i l) ≡ o → none ≡ o
+  pub rules_kept : length l ≤ i → first_failing i (drop i l) ≡ o → none ≡ o
   unfolding first_failing
-  rules-kept h g = rw (drop_of_length-le l h) at g
+  rules_kept h g = rw (drop_of_length-le l h) at g
 
 -- a number that names no rule
 above : (k m : ℕ) → k ≤ m → (m ≡ k → ⊥) → k + 1 ≤ m
@@ -54,10 +54,10 @@ pub no_rule : (b₁ b₂ b₃ b₄ b₅ b₆ b₇ : Bool) (n : ℕ)
     → true ≡ get_or (true ∷ b₁ ∷ b₂ ∷ b₃ ∷ b₄ ∷ b₅ ∷ b₆ ∷ b₇ ∷ []) n true
 no_rule b₁ b₂ b₃ b₄ b₅ b₆ b₇ zero n₁ n₂ n₃ n₄ n₅ n₆ n₇ = refl
 no_rule b₁ b₂ b₃ b₄ b₅ b₆ b₇ (suc n) n₁ n₂ n₃ n₄ n₅ n₆ n₇ =
-    sym (get_or-eq_default (true ∷ b₁ ∷ b₂ ∷ b₃ ∷ b₄ ∷ b₅ ∷ b₆ ∷ b₇ ∷ []) true (past (suc n) (suc-positive n) n₁ n₂ n₃ n₄ n₅ n₆ n₇))
+    sym (get_or-eq_default (true ∷ b₁ ∷ b₂ ∷ b₃ ∷ b₄ ∷ b₅ ∷ b₆ ∷ b₇ ∷ []) true (past (suc n) (suc_positive n) n₁ n₂ n₃ n₄ n₅ n₆ n₇))
   where
-    suc-positive : (m : ℕ) → 1 ≤ suc m
-    suc-positive m = omega arith
+    suc_positive : (m : ℕ) → 1 ≤ suc m
+    suc_positive m = omega arith
 
     past : (m : ℕ) → 1 ≤ m → (m ≡ 1 → ⊥) → (m ≡ 2 → ⊥) → (m ≡ 3 → ⊥) → (m ≡ 4 → ⊥) → (m ≡ 5 → ⊥) → (m ≡ 6 → ⊥) → (m ≡ 7 → ⊥) → 8 ≤ m
     past m h n₁ n₂ n₃ n₄ n₅ n₆ n₇ = above 7 m (above 6 m (above 5 m (above 4 m (above 3 m (above 2 m (above 1 m h n₁) n₂) n₃) n₄) n₅) n₆) n₇

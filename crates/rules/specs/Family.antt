@@ -2,7 +2,7 @@
 use Rattle.std.specs.Prelude.{ℕ, ◌<◌, ◌≡◌, Bool, false, ◌&&◌, List, length, get_or, eqb, leb}
 use Rattle.sizes.specs.Sizes.{STATES}
 use Rattle.meaning.specs.declared.chart.Kind.{Kind}
-use Rattle.meaning.specs.declared.chart.Kind.TheVariants.{O as kind-o, A as kind-a, B as kind-b}
+use Rattle.meaning.specs.declared.chart.Kind.TheVariants.{O as kind_o, A as kind_a, B as kind_b}
 use Rattle.meaning.specs.Lists.{every, keep, from}
 use Rattle.meaning.specs.Chart.{Chart}
 use Rattle.meaning.specs.Tree.{kind_of, is_o, is_child}
@@ -20,6 +20,6 @@ pub record Family (c : Chart) (n : ℕ) (counts : List ℕ) (plain : List Bool) 
 
 -- R3 "b has no child, o at least one, a at least two, all of them o"
 unfoldable pub count_fits_kind : Kind → ℕ → Bool → Bool
-count_fits_kind kind-o n plain = leb 1 n
-count_fits_kind kind-a n plain = leb 2 n && plain
-count_fits_kind kind-b n plain = eqb n 0
+count_fits_kind kind_o n plain = leb 1 n
+count_fits_kind kind_a n plain = leb 2 n && plain
+count_fits_kind kind_b n plain = eqb n 0

@@ -64,18 +64,18 @@ module _ (u : State) (z : Sized u) where
   head_long : length head ≡ MARKS
   head_long = let h = length-map u.active mark in omega (arith, z.active)
 
-  tail-long : length tail ≡ QUEUE_NUMBERS
-  tail-long = let h = flat_long u.queue.items in omega (arith, z.items)
+  tail_long : length tail ≡ QUEUE_NUMBERS
+  tail_long = let h = flat_long u.queue.items in omega (arith, z.items)
 
-  slots-long : length (head ++ u.slots) ≡ VARS_AT
-  slots-long = length-append head u.slots ∙ rw (head_long, z.slots)
+  slots_long : length (head ++ u.slots) ≡ VARS_AT
+  slots_long = length-append head u.slots ∙ rw (head_long, z.slots)
 
-  vars-long : length (head ++ u.slots ++ u.vars) ≡ LENGTH_AT
-  vars-long = length-append (head ++ u.slots) u.vars ∙ rw (slots-long, z.vars)
+  vars_long : length (head ++ u.slots ++ u.vars) ≡ LENGTH_AT
+  vars_long = length-append (head ++ u.slots) u.vars ∙ rw (slots_long, z.vars)
 
-  pub saved-long : length (saved u) ≡ STATE_NUMBERS
+  pub saved_long : length (saved u) ≡ STATE_NUMBERS
   unfolding saved
-  saved-long = length-append (head ++ u.slots ++ u.vars) tail ∙ rw (vars-long, tail-long)
+  saved_long = length-append (head ++ u.slots ++ u.vars) tail ∙ rw (vars_long, tail_long)
 
   module _ (rest : List ℤ) where
     abbrev ns : List ℤ
@@ -85,55 +85,55 @@ module _ (u : State) (z : Sized u) where
     unfolding saved
     head_first = simp append_assoc
 
-    slots-first : ns ≡ (head ++ u.slots) ++ (u.vars ++ (tail ++ rest))
+    slots_first : ns ≡ (head ++ u.slots) ++ (u.vars ++ (tail ++ rest))
     unfolding saved
-    slots-first = simp append_assoc
+    slots_first = simp append_assoc
 
-    vars-first : ns ≡ (head ++ u.slots ++ u.vars) ++ (tail ++ rest)
+    vars_first : ns ≡ (head ++ u.slots ++ u.vars) ++ (tail ++ rest)
     unfolding saved
-    vars-first = append_assoc (head ++ u.slots ++ u.vars) tail rest
+    vars_first = append_assoc (head ++ u.slots ++ u.vars) tail rest
 
-    slots-part : part SLOTS_AT STATES ns ≡ u.slots
-    slots-part = rw head_first (part_of head u.slots (u.vars ++ (tail ++ rest)) SLOTS_AT STATES head_long z.slots)
+    slots_part : part SLOTS_AT STATES ns ≡ u.slots
+    slots_part = rw head_first (part_of head u.slots (u.vars ++ (tail ++ rest)) SLOTS_AT STATES head_long z.slots)
 
-    vars-part : part VARS_AT VARIABLES ns ≡ u.vars
-    vars-part = rw slots-first (part_of (head ++ u.slots) u.vars (tail ++ rest) VARS_AT VARIABLES slots-long z.vars)
+    vars_part : part VARS_AT VARIABLES ns ≡ u.vars
+    vars_part = rw slots_first (part_of (head ++ u.slots) u.vars (tail ++ rest) VARS_AT VARIABLES slots_long z.vars)
 
-    queue-part : part LENGTH_AT QUEUE_NUMBERS ns ≡ tail
-    queue-part = rw vars-first (part_of (head ++ u.slots ++ u.vars) tail rest LENGTH_AT QUEUE_NUMBERS vars-long tail-long)
+    queue_part : part LENGTH_AT QUEUE_NUMBERS ns ≡ tail
+    queue_part = rw vars_first (part_of (head ++ u.slots ++ u.vars) tail rest LENGTH_AT QUEUE_NUMBERS vars_long tail_long)
 
-    active-part : part 1 STATES ns ≡ map mark u.active
+    active_part : part 1 STATES ns ≡ map mark u.active
     unfolding part
-    active-part =
+    active_part =
         rw head_first
         (take_at (map mark u.active) (u.slots ++ (u.vars ++ (tail ++ rest))) STATES (length-map u.active mark ∙ z.active))
 
-    marks-part : take MARKS ns ≡ head
-    marks-part = rw head_first (take_at head (u.slots ++ (u.vars ++ (tail ++ rest))) MARKS head_long)
+    marks_part : take MARKS ns ≡ head
+    marks_part = rw head_first (take_at head (u.slots ++ (u.vars ++ (tail ++ rest))) MARKS head_long)
 
     length_part : get_or ns LENGTH_AT (pos 0) ≡ small u.queue.len
     length_part =
-        rw vars-first
-        (get_or_at (head ++ u.slots ++ u.vars) (small u.queue.len) (item_numbers u.queue.items ++ rest) (pos 0) LENGTH_AT vars-long)
+        rw vars_first
+        (get_or_at (head ++ u.slots ++ u.vars) (small u.queue.len) (item_numbers u.queue.items ++ rest) (pos 0) LENGTH_AT vars_long)
 
     first_part : get_or ns 0 (pos 0) ≡ mark u.started
     first_part = rw head_first refl
 
-    queue-back : u.queue.len < NOWHERE → queue_by tail ≡ u.queue
+    queue_back : u.queue.len < NOWHERE → queue_by tail ≡ u.queue
     unfolding queue_by
-    queue-back h = rw (small_is u.queue.len h, places_back u.queue.items)
+    queue_back h = rw (small_is u.queue.len h, places_back u.queue.items)
 
-    saved-states : u.queue.len < NOWHERE → states_widget ns ≡ true
+    saved_states : u.queue.len < NOWHERE → states_widget ns ≡ true
     unfolding states_widget every
-    saved-states h =
+    saved_states h =
         let l = length-append (saved u) rest in
-        let k = saved-long in
+        let k = saved_long in
         rw (
           le-leb STATE_NUMBERS (length ns) (omega arith),
           length_part,
           small_is u.queue.len h,
           not_below_0 u.queue.len,
-          marks-part,
+          marks_part,
           mark_fits u.started,
         ) (marks_fit u.active)
 
@@ -142,15 +142,15 @@ module _ (u : State) (z : Sized u) where
     unfolding widget_of stated
     loaded h =
         rw (
-          saved-states h,
+          saved_states h,
           first_part,
           set_mark u.started,
-          active-part,
+          active_part,
           set_marks u.active,
-          slots-part,
-          vars-part,
-          queue-part,
-          queue-back h,
+          slots_part,
+          vars_part,
+          queue_part,
+          queue_back h,
         )
 
 -- ---- numbers that state a widget
@@ -169,9 +169,9 @@ module _ (ns : List ℤ) (h : states_widget ns ≡ true) where
   unfolding states_widget
   enough = leb-true STATE_NUMBERS (length ns) (and_left long counted (and_left (long && counted) marked h))
 
-  all-marks : every is_mark (take MARKS ns) ≡ true
+  all_marks : every is_mark (take MARKS ns) ≡ true
   unfolding states_widget
-  all-marks = and_right (long && counted) marked h
+  all_marks = and_right (long && counted) marked h
 
   not_below : lt_z (get_or ns LENGTH_AT (pos 0)) (pos 0) ≡ false
   unfolding states_widget
@@ -194,44 +194,44 @@ module _ (ns : List ℤ) (h : states_widget ns ≡ true) where
   head_back (x ∷ xs) e l = marks_set (x ∷ take STATES xs) e
 
   -- the queue
-  tail-back : (xs : List ℤ) → length xs ≡ QUEUE_NUMBERS → lt_z (get_or xs 0 (pos 0)) (pos 0) ≡ false → ref (get_or xs 0 (pos 0)) < NOWHERE
+  tail_back : (xs : List ℤ) → length xs ≡ QUEUE_NUMBERS → lt_z (get_or xs 0 (pos 0)) (pos 0) ≡ false → ref (get_or xs 0 (pos 0)) < NOWHERE
       → small (queue_by xs).len ∷ item_numbers (queue_by xs).items ≡ xs
   unfolding queue_by
-  tail-back [] l e f = absurd (omega arith)
-  tail-back (x ∷ xs) l e f = rw (small_ref x e f, flat_back xs (omega arith))
+  tail_back [] l e f = absurd (omega arith)
+  tail_back (x ∷ xs) l e f = rw (small_ref x e f, flat_back xs (omega arith))
 
   queue_long : length (part LENGTH_AT QUEUE_NUMBERS ns) ≡ QUEUE_NUMBERS
   unfolding part
   queue_long = let k = enough in length-take-le QUEUE_NUMBERS (drop LENGTH_AT ns) (rw length-drop (omega arith))
 
-  queue-first : get_or (part LENGTH_AT QUEUE_NUMBERS ns) 0 (pos 0) ≡ get_or ns LENGTH_AT (pos 0)
+  queue_first : get_or (part LENGTH_AT QUEUE_NUMBERS ns) 0 (pos 0) ≡ get_or ns LENGTH_AT (pos 0)
   unfolding part
-  queue-first = get_or-take QUEUE_NUMBERS (drop LENGTH_AT ns) 0 (pos 0) (omega arith) ∙ get_or-drop LENGTH_AT ns 0 (pos 0)
+  queue_first = get_or-take QUEUE_NUMBERS (drop LENGTH_AT ns) 0 (pos 0) (omega arith) ∙ get_or-drop LENGTH_AT ns 0 (pos 0)
 
-  is-stated : widget_of ns ≡ stated ns
+  is_stated : widget_of ns ≡ stated ns
   unfolding widget_of
-  is-stated = rw h
+  is_stated = rw h
 
-  stated-back : ref (get_or ns LENGTH_AT (pos 0)) < NOWHERE → saved (stated ns) ≡ take STATE_NUMBERS ns
+  stated_back : ref (get_or ns LENGTH_AT (pos 0)) < NOWHERE → saved (stated ns) ≡ take STATE_NUMBERS ns
   unfolding saved stated
-  stated-back f =
+  stated_back f =
       let k = enough in
       let q = part LENGTH_AT QUEUE_NUMBERS ns in
       ap (λ m. m ++ part SLOTS_AT STATES ns ++ part VARS_AT VARIABLES ns ++ (small (queue_by q).len ∷ item_numbers (queue_by q).items))
-      (head_back ns all-marks (omega arith))
+      (head_back ns all_marks (omega arith))
       ∙ ap (λ t. take MARKS ns ++ part SLOTS_AT STATES ns ++ part VARS_AT VARIABLES ns ++ t)
-      (tail-back q queue_long (rw queue-first not_below) (rw queue-first f))
+      (tail_back q queue_long (rw queue_first not_below) (rw queue_first f))
       ∙ sym in_parts
 
   -- numbers that state a widget are those of the state that they give
-  pub saved-back : ref (get_or ns LENGTH_AT (pos 0)) < NOWHERE → saved (widget_of ns) ≡ take STATE_NUMBERS ns
-  saved-back f = ap saved is-stated ∙ stated-back f
+  pub saved_back : ref (get_or ns LENGTH_AT (pos 0)) < NOWHERE → saved (widget_of ns) ≡ take STATE_NUMBERS ns
+  saved_back f = ap saved is_stated ∙ stated_back f
 
   -- storing what was loaded changes nothing
   pub stored_back : ref (get_or ns LENGTH_AT (pos 0)) < NOWHERE → stored (widget_of ns) ns ≡ ns
   unfolding stored
   stored_back f =
-      rw (le-ltb (length ns) STATE_NUMBERS enough, saved-back f) (take-append-drop STATE_NUMBERS ns)
+      rw (le-ltb (length ns) STATE_NUMBERS enough, saved_back f) (take-append-drop STATE_NUMBERS ns)
 
 -- a replay that is refused before its first event is posted leaves every number as it was
 pub unmoved : (ns : List ℤ) → ref (get_or ns LENGTH_AT (pos 0)) < NOWHERE → moved_on (widget_of ns) ns ≡ ns

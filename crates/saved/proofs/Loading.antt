@@ -18,7 +18,7 @@ use Rattle.queue.specs.declared.Queue.{Queue}
 use Rattle.queue.specs.Numbers.{QUEUE_NUMBERS, queue_by}
 use Rattle.meaning.specs.declared.State.{State}
 use Rattle.meaning.specs.Lists.{every}
-use Rattle.laws.proofs.Lists.{and_both, every-at, every_append}
+use Rattle.laws.proofs.Lists.{and_both, every_at, every_append}
 use Rattle.promises.specs.Saved.{MARKS, SLOTS_AT, VARS_AT, LENGTH_AT, part, is_mark, is_set, states_widget, stated, no_widget, widget_of}
 use Rattle.saved.proofs.Pasted.{paste_front, paste_whole}
 

@@ -35,40 +35,40 @@ module _ (started : Bool) where
   abbrev none : State
   none = no_widget started
 
-  tests-refuse : (c : Chart) (k : Ctx) → tests c none k ≡ refuse (answered started)
+  tests_refuse : (c : Chart) (k : Ctx) → tests c none k ≡ refuse (answered started)
   unfolding tests ◌then◌ bind require no_widget own legal is_active
-  tests-refuse c k = elim started [
+  tests_refuse c k = elim started [
     | true ↦ refl
     | false ↦ refl
   ]
 
-  plan-tests-refuse : (p : Plan) (k : Ctx) → plan_tests p none k ≡ refuse (answered started)
+  plan_tests_refuse : (p : Plan) (k : Ctx) → plan_tests p none k ≡ refuse (answered started)
   unfolding plan_tests ◌then◌ bind require no_widget plan_own is_active
-  plan-tests-refuse p k = elim started [
+  plan_tests_refuse p k = elim started [
     | true ↦ refl
     | false ↦ refl
   ]
 
-  pub run-refused : (c : Chart) (n : ℕ) → run c none n ≡ as_found (answered started) 0 none
+  pub run_refused : (c : Chart) (n : ℕ) → run c none n ≡ as_found (answered started) 0 none
   unfolding run outcome
-  run-refused c n = ap (outcome none) (then_refused (tests c none) _ _ _ (tests-refuse c _))
+  run_refused c n = ap (outcome none) (then_refused (tests c none) _ _ _ (tests_refuse c _))
 
-  pub post-refused : (c : Chart) (e a : ℤ) → post c none e a ≡ as_found (answered started) 0 none
+  pub post_refused : (c : Chart) (e a : ℤ) → post c none e a ≡ as_found (answered started) 0 none
   unfolding post outcome
-  post-refused c e a = ap (outcome none) (then_refused (tests c none) _ _ _ (tests-refuse c _))
+  post_refused c e a = ap (outcome none) (then_refused (tests c none) _ _ _ (tests_refuse c _))
 
-  pub discard-refused : (c : Chart) → discard c none ≡ as_found (answered started) 0 none
+  pub discard_refused : (c : Chart) → discard c none ≡ as_found (answered started) 0 none
   unfolding discard outcome
-  discard-refused c = ap (outcome none) (then_refused (tests c none) _ _ _ (tests-refuse c _))
+  discard_refused c = ap (outcome none) (then_refused (tests c none) _ _ _ (tests_refuse c _))
 
-  pub plan-run-refused : (p : Plan) (n : ℕ) → plan_run p none n ≡ as_found (answered started) 0 none
+  pub plan_run_refused : (p : Plan) (n : ℕ) → plan_run p none n ≡ as_found (answered started) 0 none
   unfolding plan_run outcome
-  plan-run-refused p n = ap (outcome none) (then_refused (plan_tests p none) _ _ _ (plan-tests-refuse p _))
+  plan_run_refused p n = ap (outcome none) (then_refused (plan_tests p none) _ _ _ (plan_tests_refuse p _))
 
-  pub plan-post-refused : (p : Plan) (e a : ℤ) → plan_post p none e a ≡ as_found (answered started) 0 none
+  pub plan_post_refused : (p : Plan) (e a : ℤ) → plan_post p none e a ≡ as_found (answered started) 0 none
   unfolding plan_post outcome
-  plan-post-refused p e a = ap (outcome none) (then_refused (plan_tests p none) _ _ _ (plan-tests-refuse p _))
+  plan_post_refused p e a = ap (outcome none) (then_refused (plan_tests p none) _ _ _ (plan_tests_refuse p _))
 
-  pub plan-discard-refused : (p : Plan) → plan_discard p none ≡ as_found (answered started) 0 none
+  pub plan_discard_refused : (p : Plan) → plan_discard p none ≡ as_found (answered started) 0 none
   unfolding plan_discard outcome
-  plan-discard-refused p = ap (outcome none) (then_refused (plan_tests p none) _ _ _ (plan-tests-refuse p _))
+  plan_discard_refused p = ap (outcome none) (then_refused (plan_tests p none) _ _ _ (plan_tests_refuse p _))

@@ -67,20 +67,20 @@ module _ (u : State) (z : Sized u) (ns : List ℤ) (l : STATE_NUMBERS ≤ length
   abbrev marks : List ℤ
   marks = first ++ map mark u.active
 
-  pub first-written : (x : ℤ) → x ≡ mark u.started → set ns 0 x ≡ on first ns
-  first-written x e = go ns l
+  pub first_written : (x : ℤ) → x ≡ mark u.started → set ns 0 x ≡ on first ns
+  first_written x e = go ns l
     where
       go : (ms : List ℤ) → STATE_NUMBERS ≤ length ms → set ms 0 x ≡ on first ms
       go [] h = absurd (omega arith)
       go (m ∷ ms) h = rw e
 
-  pub all-written : (n0 n1 n2 n3 n4 : List ℤ) → n0 ≡ on first ns
+  pub all_written : (n0 n1 n2 n3 n4 : List ℤ) → n0 ≡ on first ns
       → n1 ≡ paste n0 1 (map mark u.active) STATES → n2 ≡ paste n1 SLOTS_AT u.slots STATES
       → n3 ≡ paste n2 VARS_AT u.vars VARIABLES
       → n4 ≡ paste n3 LENGTH_AT (small u.queue.len ∷ item_numbers u.queue.items) QUEUE_NUMBERS
       → n4 ≡ stored u ns
   unfolding stored saved
-  all-written n0 n1 n2 n3 n4 e0 e1 e2 e3 e4 =
+  all_written n0 n1 n2 n3 n4 e0 e1 e2 e3 e4 =
       let a = length-map u.active mark in
       let q = flat_long u.queue.items in
       let s1 = length-append first (map mark u.active) in

@@ -10,7 +10,7 @@ ghost use Rattle.queue.specs.Numbers.{queue_by};
 ghost use Rattle.meaning.specs.Lists.{every};
 ghost use Rattle.promises.specs.Saved.{MARKS as marks, mark, small, part, is_mark, is_set};
 ghost use Rattle.promises.specs.Saved.{LENGTH_AT as length_at, states_widget, no_widget, widget_of, stored, moved_on};
-ghost use Rattle.queue.specs.Numbers.{QUEUE_NUMBERS as queue-numbers, item_numbers};
+ghost use Rattle.queue.specs.Numbers.{QUEUE_NUMBERS as queue_numbers, item_numbers};
 
 use meaning::State;
 use queue::Queue;
@@ -130,7 +130,7 @@ fn load_active(numbers: &[i32]) -> [bool; STATES]
 
 fn load_queue(numbers: &[i32]) -> Queue
     requires { all ≤ length numbers.now }
-    ensures { result ≡ queue_by (part length_at queue-numbers numbers.now) }
+    ensures { result ≡ queue_by (part length_at queue_numbers numbers.now) }
 {
     let mut waiting: [i32; QUEUE_NUMBERS] = [0; QUEUE_NUMBERS];
     copy(numbers, LENGTH_AT, &mut waiting, 0, QUEUE_NUMBERS);
@@ -180,7 +180,7 @@ fn store_active(active: [bool; STATES], numbers: &mut [i32])
 fn store_queue(queue: Queue, numbers: &mut [i32])
     requires { all ≤ length numbers.old }
     ensures { numbers.new
-        ≡ paste numbers.old length_at (small queue.len ∷ item_numbers queue.items) queue-numbers }
+        ≡ paste numbers.old length_at (small queue.len ∷ item_numbers queue.items) queue_numbers }
 {
     let len = small(queue.len);
     let waiting = lend(queue);

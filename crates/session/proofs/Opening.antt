@@ -21,7 +21,7 @@ use Rattle.round_trip.proofs.Round.{read_then_rules, passes}
 use Rattle.round_trip.proofs.Values.{enough}
 use Rattle.console.specs.Session.{Turns, Passed, passed_all, finished, all_printed}
 use Rattle.console.specs.Session.{Under as Seen}
-use Rattle.console.proofs.Session.{fresh, session_printed, all-by-parts, under-append, printed-append, printed-none}
+use Rattle.console.proofs.Session.{fresh, session_printed, all_by_parts, under_append, printed_append, printed_none}
 use Rattle.session.specs.declared.Opened.{Opened}
 use Rattle.session.specs.Turned.{Takes, Opens, quiet, turned, LARGEST}
 
@@ -51,10 +51,10 @@ read_is text v l e m k =
     m ∙ rw (none_left, append-nil)
 
 module _ (text : List ℕ) (a : Answer) (l : List ℤ) (before after : List ℕ) (at : ℕ) (r : Opened) where
-  pub open-refused : a ≡ answer_of (read text VALUE) → (a.number ≡ 0 → ⊥) → r.going ≡ false
+  pub open_refused : a ≡ answer_of (read text VALUE) → (a.number ≡ 0 → ⊥) → r.going ≡ false
       → Takes (quiet a.number unstarted) before at after (turned r) → Opens (read text VALUE) l before at after r
   unfolding Opens
-  open-refused e h g w = go (read text VALUE) e
+  open_refused e h g w = go (read text VALUE) e
     where
       go : (o : Result (List ℤ)) → a ≡ answer_of o → Opens o l before at after r
       go (done v) e = absurd (h (ap (λ x. x.number) e))
@@ -79,8 +79,8 @@ module _ (text : List ℕ) (a : Answer) (l : List ℤ) (e : a ≡ answer_of (rea
           let y : n ≡ 0 = sym (ap (λ x. x.number) e) ∙ z in
           absurd (never_zero text VALUE p (s ∙ ap (λ b. refused b p) y))
 
-  pub read-ruled : Ruled l
-  read-ruled = rw read_done.here read_done.ruled
+  pub read_ruled : Ruled l
+  read_ruled = rw read_done.here read_done.ruled
 
   pub open_started : (before after : List ℕ) (at : ℕ) (r : Opened) → r.going ≡ true
       → Takes (reported (start (chart_of l) unstarted ROOM)) before at after (turned r) → Opens (read text VALUE) l before at after r
@@ -91,28 +91,28 @@ module _ (text : List ℕ) (a : Answer) (l : List ℤ) (e : a ≡ answer_of (rea
 -- ---- what a caller learns
 
 module _ (l : List ℤ) (before after : List ℕ) (at : ℕ) (r : Opened) where
-  pub opens-whole : (o : Result (List ℤ)) → Opens o l before at after r → at + LARGEST ≤ length before → r.at ≤ at + LARGEST
+  pub opens_whole : (o : Result (List ℤ)) → Opens o l before at after r → at + LARGEST ≤ length before → r.at ≤ at + LARGEST
   unfolding Opens
-  opens-whole (refused n p) w = w.takes.whole
-  opens-whole (done v) w = w.takes.whole
+  opens_whole (refused n p) w = w.takes.whole
+  opens_whole (done v) w = w.takes.whole
 
-  pub opens-ruled : (o : Result (List ℤ)) → Opens o l before at after r → r.going ≡ true → Ruled l
+  pub opens_ruled : (o : Result (List ℤ)) → Opens o l before at after r → r.going ≡ true → Ruled l
   unfolding Opens
-  opens-ruled (refused n p) w h = absurd (false≢true (sym w.going ∙ h))
-  opens-ruled (done v) w h = rw w.value w.ruled
+  opens_ruled (refused n p) w h = absurd (false≢true (sym w.going ∙ h))
+  opens_ruled (done v) w h = rw w.value w.ruled
 
 -- ---- the whole output: what opening prints, and then, byte by byte, what the session prints
 
 module _ (text input : List ℕ) where
-  pub whole-refused : (n p : ℕ) → read text VALUE ≡ refused n p → (quiet n unstarted).printed ≡ output text input
+  pub whole_refused : (n p : ℕ) → read text VALUE ≡ refused n p → (quiet n unstarted).printed ≡ output text input
   unfolding output output_by
-  whole-refused n p e = rw e
+  whole_refused n p e = rw e
 
-  pub whole-started : (v : List ℤ) → read text VALUE ≡ done v
+  pub whole_started : (v : List ℤ) → read text VALUE ≡ done v
       → (let t = reported (start (chart_of v) unstarted ROOM) in
       t.printed ++ all_printed (do_line (chart_of v)) (fresh t.state) input) ≡ output text input
   unfolding output output_by
-  whole-started v e = rw e (session_printed (chart_of v) (reported (start (chart_of v) unstarted ROOM)) input)
+  whole_started v e = rw e (session_printed (chart_of v) (reported (start (chart_of v) unstarted ROOM)) input)
 
 -- ---- the same in stretches, as the program meets the input: each is what one walk passes (its promise is `Walks`)
 
@@ -129,23 +129,23 @@ in_turn f u (l ∷ ls) =
     record { under = q.under; printed = p.printed ++ q.printed }
 
 module _ (f : Turns) where
-  pub in-turn-under : (u : Seen) (ls : List (List ℕ)) → (in_turn f u ls).under ≡ (passed_all f u (joined ls)).under
+  pub in_turn_under : (u : Seen) (ls : List (List ℕ)) → (in_turn f u ls).under ≡ (passed_all f u (joined ls)).under
   unfolding in_turn joined
-  in-turn-under u [] = sym (ap (λ p. p.under) (printed-none f u))
-  in-turn-under u (l ∷ ls) = in-turn-under (passed_all f u l).under ls ∙ sym (under-append f u l (joined ls))
+  in_turn_under u [] = sym (ap (λ p. p.under) (printed_none f u))
+  in_turn_under u (l ∷ ls) = in_turn_under (passed_all f u l).under ls ∙ sym (under_append f u l (joined ls))
 
-  pub in-turn-printed : (u : Seen) (ls : List (List ℕ)) → (in_turn f u ls).printed ≡ (passed_all f u (joined ls)).printed
+  pub in_turn_printed : (u : Seen) (ls : List (List ℕ)) → (in_turn f u ls).printed ≡ (passed_all f u (joined ls)).printed
   unfolding in_turn joined
-  in-turn-printed u [] = sym (ap (λ p. p.printed) (printed-none f u))
-  in-turn-printed u (l ∷ ls) =
-      ap (λ bs. (passed_all f u l).printed ++ bs) (in-turn-printed (passed_all f u l).under ls) ∙ sym (printed-append f u l (joined ls))
+  in_turn_printed u [] = sym (ap (λ p. p.printed) (printed_none f u))
+  in_turn_printed u (l ∷ ls) =
+      ap (λ bs. (passed_all f u l).printed ++ bs) (in_turn_printed (passed_all f u l).under ls) ∙ sym (printed_append f u l (joined ls))
 
-  stretches-printed : (u : Seen) (ls : List (List ℕ))
+  stretches_printed : (u : Seen) (ls : List (List ℕ))
       → (let p = in_turn f u ls in p.printed ++ (finished f p.under).printed) ≡ all_printed f u (joined ls)
-  stretches-printed u ls =
-      ap (λ bs. bs ++ (finished f (in_turn f u ls).under).printed) (in-turn-printed u ls)
-      ∙ ap (λ w. (passed_all f u (joined ls)).printed ++ (finished f w).printed) (in-turn-under u ls)
-      ∙ sym (all-by-parts f u (joined ls))
+  stretches_printed u ls =
+      ap (λ bs. bs ++ (finished f (in_turn f u ls).under).printed) (in_turn_printed u ls)
+      ∙ ap (λ w. (passed_all f u (joined ls)).printed ++ (finished f w).printed) (in_turn_under u ls)
+      ∙ sym (all_by_parts f u (joined ls))
 
 -- the start, the stretches in turn and the end of the input print the whole output, wherever the input was cut
 pub whole_in_stretches : (text : List ℕ) (ls : List (List ℕ)) (v : List ℤ) → read text VALUE ≡ done v
@@ -153,4 +153,4 @@ pub whole_in_stretches : (text : List ℕ) (ls : List (List ℕ)) (v : List ℤ)
     t.printed ++ (p.printed ++ (finished f p.under).printed)) ≡ output text (joined ls)
 whole_in_stretches text ls v e =
     let t = reported (start (chart_of v) unstarted ROOM) in
-    ap (λ bs. t.printed ++ bs) (stretches-printed (do_line (chart_of v)) (fresh t.state) ls) ∙ whole-started text (joined ls) v e
+    ap (λ bs. t.printed ++ bs) (stretches_printed (do_line (chart_of v)) (fresh t.state) ls) ∙ whole_started text (joined ls) v e

@@ -21,7 +21,7 @@ use Rattle.meaning.specs.Calls.{Outcome, called, lent, outcome, as_found, start,
 use Rattle.meaning.specs.Program.{ROOM, report, reported, do_line, after_post}
 use Rattle.meaning.specs.Rules.{Ruled}
 use Rattle.promises.specs.Promises.{Started, Ran}
-use Rattle.chart_engine.proofs.ByRules.{start-on, run_on}
+use Rattle.chart_engine.proofs.ByRules.{start_on, run_on}
 use Rattle.console.specs.declared.scan.Scan.{Scan}
 use Rattle.console.specs.Scan.{empty, line_at, began}
 use Rattle.console.specs.Session.{Turns, ended, by_began, passed, finished}
@@ -40,11 +40,11 @@ Reported number entries trace before at after to =
 
 module _ (before after : List ℕ) (at to : ℕ) where
   -- a call of the engine, reported
-  pub call-takes : (o : Outcome) (r : Called) (l : List ℤ) → r ≡ called o → l ≡ lent ROOM o → length l ≡ ROOM
+  pub call_takes : (o : Outcome) (r : Called) (l : List ℤ) → r ≡ called o → l ≡ lent ROOM o → length l ≡ ROOM
       → Reported r.answer.number r.entries l before at after to
       → Takes (reported o) before at after (record { state = r.state; at = to })
   unfolding called lent
-  call-takes o r l e m k w = record {
+  call_takes o r l e m k w = record {
     widget = ap (λ x. x.state) e;
     bytes = w.0 ∙ ap (λ b. put_all b (pen before at)) (rw e (report_lent o.number ROOM o.trace l m k));
     whole = λ h. let z : largest l ≡ LARGEST = rw k in let p = w.1 (omega arith) in omega arith;
@@ -53,22 +53,22 @@ module _ (before after : List ℕ) (at to : ℕ) where
   -- a start and a run on a chart that was accepted
   module _ (v : List ℤ) (u : State) (h : Ruled v) (t l : List ℤ) (j : length t ≡ ROOM) (k : length l ≡ ROOM) (r : Called)
       (w : Reported r.answer.number r.entries l before at after to) where
-    pub start-takes : Started v u t r l
+    pub start_takes : Started v u t r l
         → Takes (reported (start (chart_of v) u ROOM)) before at after (record { state = r.state; at = to })
-    start-takes p =
-        let e : start_of v u ROOM ≡ start (chart_of v) u ROOM = start-on v u h ROOM in
-        call-takes (start (chart_of v) u ROOM) r l (rw (j, e) at p.result) (rw (j, e) at p.lent) k w
+    start_takes p =
+        let e : start_of v u ROOM ≡ start (chart_of v) u ROOM = start_on v u h ROOM in
+        call_takes (start (chart_of v) u ROOM) r l (rw (j, e) at p.result) (rw (j, e) at p.lent) k w
 
-    pub run-takes : Ran v u t r l → Takes (reported (run (chart_of v) u ROOM)) before at after (record { state = r.state; at = to })
-    run-takes p =
+    pub run_takes : Ran v u t r l → Takes (reported (run (chart_of v) u ROOM)) before at after (record { state = r.state; at = to })
+    run_takes p =
         let e : run_of v u ROOM ≡ run (chart_of v) u ROOM = run_on v u h ROOM in
-        call-takes (run (chart_of v) u ROOM) r l (rw (j, e) at p.result) (rw (j, e) at p.lent) k w
+        call_takes (run (chart_of v) u ROOM) r l (rw (j, e) at p.result) (rw (j, e) at p.lent) k w
 
   -- an answer with no entry, reported from a trace that holds none
-  pub none-takes : (number : ℕ) (u : State) (l : List ℤ) → length l ≡ 1 → Reported number 0 l before at after to
+  pub none_takes : (number : ℕ) (u : State) (l : List ℤ) → length l ≡ 1 → Reported number 0 l before at after to
       → Takes (quiet number u) before at after (record { state = u; at = to })
   unfolding shown
-  none-takes number u l k w = record {
+  none_takes number u l k w = record {
     widget = refl;
     bytes = w.0 ∙ (let z : ENTRY * entries_held 0 l ≡ 0 = omega arith in rw z);
     whole = λ h. let z : largest l ≡ 48 = rw k in let p = w.1 (omega arith) in omega arith;
@@ -96,32 +96,32 @@ unfolding after_post
 after_done c o h = rw (eq-eqb o.number 0 h, after_post)
 
 module _ (c : Chart) (u : State) (l : Input) (before after : List ℕ) (at : ℕ) (r : Turned) where
-  pub turn-wrong : l ≡ Wrong → Takes (quiet 1 u) before at after r → Takes (do_line c u l) before at after r
+  pub turn_wrong : l ≡ Wrong → Takes (quiet 1 u) before at after r → Takes (do_line c u l) before at after r
   unfolding do_line
-  turn-wrong e w = rw e w
+  turn_wrong e w = rw e w
 
   module _ (e a : ℤ) (is : l ≡ Posts e a) (p : Called) (posted : p ≡ called (post c u e a)) where
-    pub turn-refused : (p.answer.number ≡ 0 → ⊥) → Takes (quiet p.answer.number p.state) before at after r
+    pub turn_refused : (p.answer.number ≡ 0 → ⊥) → Takes (quiet p.answer.number p.state) before at after r
         → Takes (do_line c u l) before at after r
     unfolding do_line called
-    turn-refused h w =
+    turn_refused h w =
         let k : (post c u e a).number ≡ 0 → ⊥ = λ z. h (ap (λ x. x.answer.number) posted ∙ z) in
         rw (is, after_refused c (post c u e a) k, post_quiet c u e a k) (rw posted at w)
 
-    pub turn-ran : p.answer.number ≡ 0 → Takes (reported (run c p.state ROOM)) before at after r
+    pub turn_ran : p.answer.number ≡ 0 → Takes (reported (run c p.state ROOM)) before at after r
         → Takes (do_line c u l) before at after r
     unfolding do_line called
-    turn-ran h w = rw (is, after_done c (post c u e a) (sym (ap (λ x. x.answer.number) posted) ∙ h)) (rw posted at w)
+    turn_ran h w = rw (is, after_done c (post c u e a) (sym (ap (λ x. x.answer.number) posted) ∙ h)) (rw posted at w)
 
 -- ---- a line that ends, as a step of the session
 module _ (f : Turns) (s : Scan) (u : State) (before : List ℕ) (at : ℕ) where
   abbrev under : Seen
   under = record { state = u; scan = s }
 
-  pub line-takes : (after : List ℕ) (l : Input) (k : Scan) (r : Turned) → l ≡ line_at s → k ≡ empty
+  pub line_takes : (after : List ℕ) (l : Input) (k : Scan) (r : Turned) → l ≡ line_at s → k ≡ empty
       → Takes (f u l) before at after r
       → Passes (ended (f u (line_at s))) before at after (record { state = r.state; scan = k; at = r.at })
-  line-takes after l k r e g w = go (rw e at w)
+  line_takes after l k r e g w = go (rw e at w)
     where
       go : Takes (f u (line_at s)) before at after r
           → Passes (ended (f u (line_at s))) before at after (record { state = r.state; scan = k; at = r.at })
@@ -129,14 +129,14 @@ module _ (f : Turns) (s : Scan) (u : State) (before : List ℕ) (at : ℕ) where
 
   module _ (after : List ℕ) (r : Under) (w : Passes (ended (f u (line_at s))) before at after r) where
     -- by its LF
-    pub byte-ends : (b : ℕ) → b ≡ LF → Passes (passed f under b) before at after r
+    pub byte_ends : (b : ℕ) → b ≡ LF → Passes (passed f under b) before at after r
     unfolding passed
-    byte-ends b h = rw (eq-eqb b LF h) w
+    byte_ends b h = rw (eq-eqb b LF h) w
 
     -- by the end of the input
-    pub end-begun : began s ≡ true → Passes (finished f under) before at after r
+    pub end_begun : began s ≡ true → Passes (finished f under) before at after r
     unfolding finished
-    end-begun h = rw h w
+    end_begun h = rw h w
 
   pub end_none : began s ≡ false → Passes (finished f under) before at before (record { state = u; scan = s; at = at })
   unfolding finished put_all

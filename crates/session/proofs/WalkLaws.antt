@@ -17,13 +17,13 @@ use Rattle.console.specs.Session.{Under as Seen}
 use Rattle.console.specs.declared.scan.Collected.{Collected}
 use Rattle.console.specs.Scan.{fed, line_at, scan_on}
 use Rattle.console.specs.Stretch.{inside, Collects}
-use Rattle.console.proofs.Session.{under-append, printed-append, under_one, printed-one, printed-none}
-use Rattle.console.proofs.Stretch.{further, inside_more, passed-inside, inside-passed, slice_next}
+use Rattle.console.proofs.Session.{under_append, printed_append, under_one, printed_one, printed_none}
+use Rattle.console.proofs.Stretch.{further, inside_more, passed_inside, inside_passed, slice_next}
 use Rattle.session.specs.declared.Under.{Under}
 use Rattle.session.specs.declared.Walked.{Walked}
 use Rattle.session.specs.Turned.{Passes, LARGEST, seen}
 use Rattle.session.specs.Walked.{Walks, roomy, reach, one_more, walked}
-use Rattle.session.proofs.Steps.{byte-ends}
+use Rattle.session.proofs.Steps.{byte_ends}
 
 -- ---- how far
 
@@ -62,7 +62,7 @@ reach_inside f u p (b ∷ bs) rest e h =
     let next : Seen = record { state = u.state; scan = fed u.scan b } in
     let more = reach_inside f next p bs rest e (inside_more b bs h).1 in
     reach_more f u p b (bs ++ rest) e
-    ∙ ap (λ q. suc (reach f q.under (put_all q.printed p) (bs ++ rest))) (passed-inside f u b bs h)
+    ∙ ap (λ q. suc (reach f q.under (put_all q.printed p) (bs ++ rest))) (passed_inside f u b bs h)
     ∙ omega arith
 
 -- the test for room
@@ -115,11 +115,11 @@ module _ (f : Turns) (part : List ℕ) (from : ℕ) (u : Seen) (before : List �
     stopped e = record { upto = omega (arith, w.ahead); under = w.under; bytes = w.bytes; whole = w.whole }
 
     -- at the part's end, and where there might not be room
-    pub walk-done : length part ≤ i → Walks f part from u before at out (record { upto = i; under = here })
-    walk-done h = stopped (reach_none f (seen here) (pen out here.at) (drop i part) (rw (length-drop i part) (omega arith)))
+    pub walk_done : length part ≤ i → Walks f part from u before at out (record { upto = i; under = here })
+    walk_done h = stopped (reach_none f (seen here) (pen out here.at) (drop i part) (rw (length-drop i part) (omega arith)))
 
-    pub walk-full : roomy (pen out here.at) ≡ false → Walks f part from u before at out (record { upto = i; under = here })
-    walk-full e = stopped (reach_full f (seen here) (pen out here.at) (drop i part) e)
+    pub walk_full : roomy (pen out here.at) ≡ false → Walks f part from u before at out (record { upto = i; under = here })
+    walk_full e = stopped (reach_full f (seen here) (pen out here.at) (drop i part) e)
 
     -- the bytes inside a line
     module _ (c : Collected) (e : roomy (pen out here.at) ≡ true) (k : Collects part i here.scan c) where
@@ -132,9 +132,9 @@ module _ (f : Turns) (part : List ℕ) (from : ℕ) (u : Seen) (before : List �
       went_on : seen then ≡ further (seen here) stretch
       went_on = ap (λ s. record { state = here.state; scan = s }) k.line
 
-      reach-then : reach f (seen here) (pen out here.at) (drop i part)
+      reach_then : reach f (seen here) (pen out here.at) (drop i part)
           ≡ (c.upto - i) + reach f (seen then) (pen out here.at) (drop c.upto part)
-      reach-then =
+      reach_then =
           ap (reach f (seen here) (pen out here.at)) (sym (slice_rest part i c.upto k.order k.within))
           ∙ reach_inside f (seen here) (pen out here.at) stretch (drop c.upto part) e k.none
           ∙ ap (λ n. n + reach f (further (seen here) stretch) (pen out here.at) (drop c.upto part))
@@ -144,29 +144,29 @@ module _ (f : Turns) (part : List ℕ) (from : ℕ) (u : Seen) (before : List �
       joined : slice from i part ++ stretch ≡ slice from c.upto part
       joined = slice_append part from i c.upto w.order k.order k.within
 
-      under-then : seen then ≡ (walked f u part from c.upto).under
-      under-then =
+      under_then : seen then ≡ (walked f u part from c.upto).under
+      under_then =
           went_on
-          ∙ sym (ap (λ p. p.under) (inside-passed f (seen here) stretch k.none))
+          ∙ sym (ap (λ p. p.under) (inside_passed f (seen here) stretch k.none))
           ∙ ap (λ v. (passed_all f v stretch).under) w.under
-          ∙ sym (under-append f u (slice from i part) stretch)
+          ∙ sym (under_append f u (slice from i part) stretch)
           ∙ ap (λ l. (passed_all f u l).under) joined
 
-      printed-then : (walked f u part from i).printed ≡ (walked f u part from c.upto).printed
-      printed-then =
+      printed_then : (walked f u part from i).printed ≡ (walked f u part from c.upto).printed
+      printed_then =
           sym (append-nil (walked f u part from i).printed)
-          ∙ ap (λ p. (walked f u part from i).printed ++ p.printed) (sym (inside-passed f (seen here) stretch k.none))
+          ∙ ap (λ p. (walked f u part from i).printed ++ p.printed) (sym (inside_passed f (seen here) stretch k.none))
           ∙ ap (λ v. (walked f u part from i).printed ++ (passed_all f v stretch).printed) w.under
-          ∙ sym (printed-append f u (slice from i part) stretch)
+          ∙ sym (printed_append f u (slice from i part) stretch)
           ∙ ap (λ l. (passed_all f u l).printed) joined
 
       pub walk_inside : Walking c.upto out then
       walk_inside = record {
         order = omega (arith, w.order, k.order);
         long = w.long;
-        ahead = omega (arith, w.ahead, k.order, reach-then);
-        under = under-then;
-        bytes = w.bytes ∙ ap (λ l. put_all l (pen before at)) printed-then;
+        ahead = omega (arith, w.ahead, k.order, reach_then);
+        under = under_then;
+        bytes = w.bytes ∙ ap (λ l. put_all l (pen before at)) printed_then;
         whole = w.whole;
       }
 
@@ -179,9 +179,9 @@ module _ (f : Turns) (part : List ℕ) (from : ℕ) (u : Seen) (before : List �
       moved : seen next ≡ q.under
       moved = same_seen next q.under p.widget p.line
 
-      reach-next : reach f (seen here) (pen out here.at) (drop i part)
+      reach_next : reach f (seen here) (pen out here.at) (drop i part)
           ≡ suc (reach f (seen next) (pen after next.at) (drop (i + 1) part))
-      reach-next =
+      reach_next =
           ap (reach f (seen here) (pen out here.at)) (drop_next part i h)
           ∙ reach_more f (seen here) (pen out here.at) (get_or part i 0) (drop (i + 1) part) e
           ∙ ap (λ k. suc (reach f k (put_all q.printed (pen out here.at)) (drop (i + 1) part))) (sym moved)
@@ -192,14 +192,14 @@ module _ (f : Turns) (part : List ℕ) (from : ℕ) (u : Seen) (before : List �
           moved
           ∙ sym (under_one f (seen here) (get_or part i 0))
           ∙ ap (λ k. (passed_all f k (get_or part i 0 ∷ [])).under) w.under
-          ∙ sym (under-append f u (slice from i part) (get_or part i 0 ∷ []))
+          ∙ sym (under_append f u (slice from i part) (get_or part i 0 ∷ []))
           ∙ ap (λ l. (passed_all f u l).under) (sym (slice_next part from i w.order h))
 
-      printed-next : (walked f u part from i).printed ++ q.printed ≡ (walked f u part from (i + 1)).printed
-      printed-next =
-          ap (λ l. (walked f u part from i).printed ++ l) (sym (printed-one f (seen here) (get_or part i 0)))
+      printed_next : (walked f u part from i).printed ++ q.printed ≡ (walked f u part from (i + 1)).printed
+      printed_next =
+          ap (λ l. (walked f u part from i).printed ++ l) (sym (printed_one f (seen here) (get_or part i 0)))
           ∙ ap (λ k. (walked f u part from i).printed ++ (passed_all f k (get_or part i 0 ∷ [])).printed) w.under
-          ∙ sym (printed-append f u (slice from i part) (get_or part i 0 ∷ []))
+          ∙ sym (printed_append f u (slice from i part) (get_or part i 0 ∷ []))
           ∙ ap (λ l. (passed_all f u l).printed) (sym (slice_next part from i w.order h))
 
       bytes_next : pen after next.at ≡ put_all (walked f u part from (i + 1)).printed (pen before at)
@@ -207,13 +207,13 @@ module _ (f : Turns) (part : List ℕ) (from : ℕ) (u : Seen) (before : List �
           p.bytes
           ∙ ap (put_all q.printed) w.bytes
           ∙ sym (all_append (walked f u part from i).printed q.printed (pen before at))
-          ∙ ap (λ l. put_all l (pen before at)) printed-next
+          ∙ ap (λ l. put_all l (pen before at)) printed_next
 
       pub walk_more : Walking (i + 1) after next
       walk_more = record {
         order = omega (arith, w.order);
         long = ap (λ k. length k.bytes) p.bytes ∙ all_long q.printed (pen out here.at) ∙ w.long;
-        ahead = omega (arith, w.ahead, reach-next);
+        ahead = omega (arith, w.ahead, reach_next);
         under = under_next;
         bytes = bytes_next;
         whole = λ k.
@@ -227,16 +227,16 @@ module _ (f : Turns) (part : List ℕ) (from : ℕ) (u : Seen) (before : List �
     pub walk_ends : c.upto ≡ length part
         → Walks f part from u before at out
         (record { upto = c.upto; under = record { state = here.state; scan = c.scan; at = here.at } })
-    walk_ends h = walk-done c.upto out (record { state = here.state; scan = c.scan; at = here.at })
+    walk_ends h = walk_done c.upto out (record { state = here.state; scan = c.scan; at = here.at })
         (walk_inside i out here w c e k) (omega arith)
 
-    pub walk-line : (c.upto ≡ length part → ⊥) → (after : List ℕ) (next : Under)
+    pub walk_line : (c.upto ≡ length part → ⊥) → (after : List ℕ) (next : Under)
         → Passes (ended (f here.state (line_at c.scan))) out here.at after next → Walking (c.upto + 1) after next
-    walk-line h after next p =
+    walk_line h after next p =
         let inner : c.upto < length part = omega (arith, k.within) in
         walk_more c.upto out (record { state = here.state; scan = c.scan; at = here.at })
         (walk_inside i out here w c e k) after next inner e
-        (byte-ends f c.scan here.state out here.at after next p (get_or part c.upto 0) (k.stop inner))
+        (byte_ends f c.scan here.state out here.at after next p (get_or part c.upto 0) (k.stop inner))
 
 -- before its first byte
 pub walk_begins : (f : Turns) (part : List ℕ) (from : ℕ) (under : Under) (out : List ℕ)
@@ -244,7 +244,7 @@ pub walk_begins : (f : Turns) (part : List ℕ) (from : ℕ) (under : Under) (ou
 unfolding put_all
 walk_begins f part from under out =
     let z : passed_all f (seen under) (slice from from part) ≡ record { under = seen under; printed = [] } =
-    ap (passed_all f (seen under)) (slice_empty from part) ∙ printed-none f (seen under) in
+    ap (passed_all f (seen under)) (slice_empty from part) ∙ printed_none f (seen under) in
     record {
       order = omega arith;
       long = refl;
@@ -259,16 +259,16 @@ walk_begins f part from under out =
 module _ (f : Turns) (part : List ℕ) (from : ℕ) (u : Seen) (before : List ℕ) (at : ℕ) (after : List ℕ) (r : Walked)
     (w : Walks f part from u before at after r) where
   -- the walk stays in the part
-  pub walks-within : from ≤ length part → (from ≤ r.upto) × (r.upto ≤ length part)
-  walks-within h =
+  pub walks_within : from ≤ length part → (from ≤ r.upto) × (r.upto ≤ length part)
+  walks_within h =
       let n : reach f u (pen before at) (drop from part) ≤ length (drop from part) = reach_within f u (pen before at) (drop from part) in
       let l = length-drop from part in
       let e = w.upto in
       (omega arith, omega arith)
 
   -- and goes on where there is room
-  pub walks-on : from < length part → at + LARGEST ≤ length before → from < r.upto
-  walks-on h k =
+  pub walks_on : from < length part → at + LARGEST ≤ length before → from < r.upto
+  walks_on h k =
       let q = passed f u (get_or part from 0) in
       let n = reach f q.under (put_all q.printed (pen before at)) (drop (suc from) part) in
       let e : reach f u (pen before at) (drop from part) ≡ suc n =
@@ -278,14 +278,14 @@ module _ (f : Turns) (part : List ℕ) (from : ℕ) (u : Seen) (before : List �
       omega arith
 
   -- what it has left does to the widget and the line what all of it does
-  pub walks-rest : from ≤ length part
+  pub walks_rest : from ≤ length part
       → (passed_all f (seen r.under) (drop r.upto part)).under ≡ (passed_all f u (drop from part)).under
-  walks-rest h =
-      let v = walks-within h in
+  walks_rest h =
+      let v = walks_within h in
       ap (λ k. (passed_all f k (drop r.upto part)).under) w.under
-      ∙ sym (under-append f u (slice from r.upto part) (drop r.upto part))
+      ∙ sym (under_append f u (slice from r.upto part) (drop r.upto part))
       ∙ ap (λ l. (passed_all f u l).under) (slice_rest part from r.upto v.0 v.1)
 
   -- all that the bytes print stands behind what was there: nothing of it was lost
-  pub walks-collected : at ≤ length before → take r.under.at after ≡ take at before ++ (walked f u part from r.upto).printed
-  walks-collected h = all_stood (walked f u part from r.upto).printed before at (pen after r.under.at) w.bytes (w.whole h)
+  pub walks_collected : at ≤ length before → take r.under.at after ≡ take at before ++ (walked f u part from r.upto).printed
+  walks_collected h = all_stood (walked f u part from r.upto).printed before at (pen after r.under.at) w.bytes (w.whole h)

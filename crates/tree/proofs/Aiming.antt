@@ -20,7 +20,7 @@ use Rattle.tree.specs.declared.ways.Aim.TheVariants.{Goes, Stays}
 use Rattle.tree.specs.declared.ways.Goal.{Goal}
 use Rattle.tree.specs.declared.ways.Goal.TheVariants.{Target as target, Owner as owner}
 use Rattle.tree.specs.declared.ways.Course.{Course}
-use Rattle.tree.specs.declared.ways.Course.TheVariants.{Defaults as default-course, Slots as slot-course, Towards}
+use Rattle.tree.specs.declared.ways.Course.TheVariants.{Defaults as default_course, Slots as slot_course, Towards}
 use Rattle.tree.specs.Aims.{aim_by, aimed_at}
 use Rattle.tree.specs.Courses.{slot_of, course_way, restored, onward_goal, onward_from, Inside, Owned, Bound}
 
@@ -63,19 +63,19 @@ course_as c sl s e q = q ∙ ap (λ y. course_way c sl y s) (sym e)
 
 -- how a descent to a goal goes on, by what the goal is
 module _ (sl : List ℤ) (s : ℕ) {goal : Goal} where
-  pub onward-target : {t : ℕ} → goal ≡ target t → Towards goal ≡ onward_goal sl goal s
-  onward-target e = subst (λ g. Towards g ≡ onward_goal sl g s) (sym e) refl
+  pub onward_target : {t : ℕ} → goal ≡ target t → Towards goal ≡ onward_goal sl goal s
+  onward_target e = subst (λ g. Towards g ≡ onward_goal sl g s) (sym e) refl
 
   module _ {b : ℕ} (e : goal ≡ owner b) where
-    by-test : {x : Bool} → eqb s b ≡ x → {y : Course} → y ≡ cond x (restored (slot_of sl s)) (Towards (owner b)) → y ≡ onward_goal sl goal s
-    by-test q {y} h = subst (λ g. y ≡ onward_goal sl g s) (sym e)
+    by_test : {x : Bool} → eqb s b ≡ x → {y : Course} → y ≡ cond x (restored (slot_of sl s)) (Towards (owner b)) → y ≡ onward_goal sl goal s
+    by_test q {y} h = subst (λ g. y ≡ onward_goal sl g s) (sym e)
         (h ∙ ap (λ z. cond z (restored (slot_of sl s)) (Towards (owner b))) (sym q))
 
-    pub onward-past : (s ≡ b → ⊥) → Towards (owner b) ≡ onward_goal sl goal s
-    onward-past n = by-test (ne_eqb s b n) refl
+    pub onward_past : (s ≡ b → ⊥) → Towards (owner b) ≡ onward_goal sl goal s
+    onward_past n = by_test (ne_eqb s b n) refl
 
-    pub onward-owner : s ≡ b → {p : Place} → p ≡ slot_of sl s → {x : Place} → p ≡ x → restored x ≡ onward_goal sl goal s
-    onward-owner n h y = by-test (eq-eqb s b n) (ap restored (sym y ∙ h))
+    pub onward_owner : s ≡ b → {p : Place} → p ≡ slot_of sl s → {x : Place} → p ≡ x → restored x ≡ onward_goal sl goal s
+    onward_owner n h y = by_test (eq-eqb s b n) (ap restored (sym y ∙ h))
 
 -- how any descent goes on, by what its course is
 pub onward_as : (sl : List ℤ) (s : ℕ) {course x : Course} → course ≡ x → {y : Course} → y ≡ onward_from sl x s
@@ -84,8 +84,8 @@ onward_as sl s e q = q ∙ ap (λ z. onward_from sl z s) (sym e)
 
 -- the course that goes on is bound as the one before
 pub onward_bound : (c : Chart) (sl : List ℤ) (s : ℕ) (course : Course) → Bound c course → Bound c (onward_from sl course s)
-onward_bound c sl s default-course b = tt
-onward_bound c sl s slot-course b = tt
+onward_bound c sl s default_course b = tt
+onward_bound c sl s slot_course b = tt
 onward_bound c sl s (Towards (target t)) b = b
 onward_bound c sl s (Towards (owner o)) b = go (eqb s o) (slot_of sl s)
   where

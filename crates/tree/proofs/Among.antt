@@ -15,10 +15,10 @@ use Rattle.laws.specs.Facts.{Sound}
 use Rattle.laws.proofs.Lists.{is_false}
 use Rattle.laws.proofs.Sound.{SoundChart, child_later}
 use Rattle.laws.proofs.Tree.{keep_cut}
-use Rattle.laws.proofs.Ways.{defaults-sound, towards-sound, owner-sound}
+use Rattle.laws.proofs.Ways.{defaults_sound, towards_sound, owner_sound}
 use Rattle.meaning.specs.Chart.{Chart}
 use Rattle.meaning.specs.declared.chart.Kind.{Kind}
-use Rattle.meaning.specs.declared.chart.Kind.TheVariants.{A as kind-a, B as kind-b, O as kind-o}
+use Rattle.meaning.specs.declared.chart.Kind.TheVariants.{A as kind_a, B as kind_b, O as kind_o}
 use Rattle.meaning.specs.Entry.{Visit, Way, on_to, defaults, stops, plain, goes_on, all_below, by_defaults, slot_way, towards}
 use Rattle.meaning.specs.Entry.{towards_owner}
 use Rattle.meaning.specs.Lists.{concat_map, from, keep, has, first_that}
@@ -27,7 +27,7 @@ use Rattle.meaning.specs.Value.{chart_of}
 use Rattle.meaning.specs.Rules.{Ruled}
 use Rattle.tree.specs.Courses.{path_child}
 use Rattle.tree.proofs.Passing.{sound}
-use Rattle.tree.proofs.Levels.{all-goes}
+use Rattle.tree.proofs.Levels.{all_goes}
 use Rattle.tree.specs.Courses.{way_by, slot_of, stored_way, goal_way, course_way, defaulting, visit_as, OnChild, Inside, Bound, Led}
 use Rattle.tree.specs.Courses.{Kids}
 use Rattle.tree.specs.declared.ways.Next.{Next}
@@ -35,7 +35,7 @@ use Rattle.tree.specs.declared.ways.Next.TheVariants.{OnTo, Defaults, Stops}
 use Rattle.tree.specs.declared.ways.Goal.{Goal}
 use Rattle.tree.specs.declared.ways.Goal.TheVariants.{Target, Owner}
 use Rattle.tree.specs.declared.ways.Course.{Course}
-use Rattle.tree.specs.declared.ways.Course.TheVariants.{Defaults as default-course, Slots as slot-course, Towards}
+use Rattle.tree.specs.declared.ways.Course.TheVariants.{Defaults as default_course, Slots as slot_course, Towards}
 
 -- ---- the children to enter
 
@@ -61,39 +61,39 @@ kids_of : (c : Chart) (next : Way) (s first end : ℕ) → s < length c.states �
 kids_of c next s first end l g = record {
   within = g.within;
   level = g.goes;
-  goes = λ way h q. all-goes c way h s l ∙ ap (goes_on c (all_below c way) s (kind_of c s)) q ∙ g.goes (all_below c way);
+  goes = λ way h q. all_goes c way h s l ∙ ap (goes_on c (all_below c way) s (kind_of c s)) q ∙ g.goes (all_below c way);
 }
 
 module _ (c : Chart) (s : ℕ) (way : Way) where
-  kids-one : (d : ℕ) → kind_of c s ≡ kind-o → way ≡ on_to d → is_child c s d ≡ true → d < length c.states → Goes c way s d (d + 1)
+  kids_one : (d : ℕ) → kind_of c s ≡ kind_o → way ≡ on_to d → is_child c s d ≡ true → d < length c.states → Goes c way s d (d + 1)
   unfolding goes_on defaulting
-  kids-one d k w t l = record {
+  kids_one d k w t l = record {
     within = omega arith;
-    goes = λ deep. ap (λ x. goes_on c deep s x way) k ∙ ap (goes_on c deep s kind-o) w
+    goes = λ deep. ap (λ x. goes_on c deep s x way) k ∙ ap (goes_on c deep s kind_o) w
         ∙ sym (from_one (λ x. visit_as (defaulting (kind_of c s) way) s x ∷ deep x) (is_child c s) d t
-        ∙ ap (λ x. visit_as (defaulting x way) s d ∷ deep d) k ∙ ap (λ x. visit_as (defaulting kind-o x) s d ∷ deep d) w);
+        ∙ ap (λ x. visit_as (defaulting x way) s d ∷ deep d) k ∙ ap (λ x. visit_as (defaulting kind_o x) s d ∷ deep d) w);
   }
 
-  kids-default : kind_of c s ≡ kind-o → way ≡ defaults → is_child c s (default_child c s) ≡ true
+  kids_default : kind_of c s ≡ kind_o → way ≡ defaults → is_child c s (default_child c s) ≡ true
       → default_child c s < length c.states → Goes c way s (default_child c s) (default_child c s + 1)
   unfolding goes_on defaulting
-  kids-default k w t l = record {
+  kids_default k w t l = record {
     within = omega arith;
-    goes = λ deep. ap (λ x. goes_on c deep s x way) k ∙ ap (goes_on c deep s kind-o) w
+    goes = λ deep. ap (λ x. goes_on c deep s x way) k ∙ ap (goes_on c deep s kind_o) w
         ∙ sym (from_one (λ x. visit_as (defaulting (kind_of c s) way) s x ∷ deep x) (is_child c s) (default_child c s) t
         ∙ ap (λ x. visit_as (defaulting x way) s (default_child c s) ∷ deep (default_child c s)) k
-        ∙ ap (λ x. visit_as (defaulting kind-o x) s (default_child c s) ∷ deep (default_child c s)) w);
+        ∙ ap (λ x. visit_as (defaulting kind_o x) s (default_child c s) ∷ deep (default_child c s)) w);
   }
 
-  kids-stop : kind_of c s ≡ kind-o → way ≡ stops → s < length c.states → Goes c way s s s
+  kids_stop : kind_of c s ≡ kind_o → way ≡ stops → s < length c.states → Goes c way s s s
   unfolding goes_on
-  kids-stop k w l = record {
+  kids_stop k w l = record {
     within = omega arith;
-    goes = λ deep. ap (λ x. goes_on c deep s x way) k ∙ ap (goes_on c deep s kind-o) w
+    goes = λ deep. ap (λ x. goes_on c deep s x way) k ∙ ap (goes_on c deep s kind_o) w
         ∙ sym (from_none (λ x. visit_as (defaulting (kind_of c s) way) s x ∷ deep x) (is_child c s) s);
   }
 
-  kids_none : kind_of c s ≡ kind-b → s < length c.states → Goes c way s s s
+  kids_none : kind_of c s ≡ kind_b → s < length c.states → Goes c way s s s
   unfolding goes_on
   kids_none k l = record {
     within = omega arith;
@@ -101,19 +101,19 @@ module _ (c : Chart) (s : ℕ) (way : Way) where
         ∙ sym (from_none (λ x. visit_as (defaulting (kind_of c s) way) s x ∷ deep x) (is_child c s) s);
   }
 
-  children-after : SoundChart c → s < length c.states → children c s ≡ keep (is_child c s) (from (s + 1) (length c.states - (s + 1)))
+  children_after : SoundChart c → s < length c.states → children c s ≡ keep (is_child c s) (from (s + 1) (length c.states - (s + 1)))
   unfolding children all_states
-  children-after h l =
+  children_after h l =
       let n : length c.states ≡ (s + 1) + (length c.states - (s + 1)) = omega arith in
       ap (λ k. keep (is_child c s) (from 0 k)) n
       ∙ keep_cut (is_child c s) (s + 1) (length c.states - (s + 1)) (λ x m. is_false _
       (λ t. omega (arith, child_later c h.ordered s x t)))
 
-  kids-all : SoundChart c → kind_of c s ≡ kind-a → s < length c.states → Goes c way s (s + 1) (length c.states)
+  kids_all : SoundChart c → kind_of c s ≡ kind_a → s < length c.states → Goes c way s (s + 1) (length c.states)
   unfolding goes_on defaulting
-  kids-all h k l = record {
+  kids_all h k l = record {
     within = omega arith;
-    goes = λ deep. ap (λ x. goes_on c deep s x way) k ∙ ap (concat_map (λ d. plain d ∷ deep d)) (children-after h l)
+    goes = λ deep. ap (λ x. goes_on c deep s x way) k ∙ ap (concat_map (λ d. plain d ∷ deep d)) (children_after h l)
         ∙ ap (λ x. concat_map
         (λ d. visit_as (defaulting x way) s d ∷ deep d) (keep (is_child c s) (from (s + 1) (length c.states - (s + 1))))) (sym k);
   }
@@ -122,40 +122,40 @@ module _ (c : Chart) (s : ℕ) (way : Way) where
 
 module _ (v : List ℤ) (r : Ruled v) (s : ℕ) (l : s < length (chart_of v).states) (next : Next) (f : OnChild (chart_of v) s
     (way_by next)) (kind : Kind) (e : kind ≡ kind_of (chart_of v) s) where
-  pub on-inside : (d : ℕ) → kind ≡ kind-o → next ≡ OnTo d → d < length (chart_of v).states
-  on-inside d k n = (f d (sym e ∙ k) (ap way_by n)).1
+  pub on_inside : (d : ℕ) → kind ≡ kind_o → next ≡ OnTo d → d < length (chart_of v).states
+  on_inside d k n = (f d (sym e ∙ k) (ap way_by n)).1
 
-  pub among_one : (d : ℕ) → kind ≡ kind-o → next ≡ OnTo d → Kids (chart_of v) (way_by next) s d (d + 1)
-  among_one d k n = let g = f d (sym e ∙ k) (ap way_by n) in kids_of _ _ _ _ _ l (kids-one (chart_of v) s (way_by next) d (sym e
+  pub among_one : (d : ℕ) → kind ≡ kind_o → next ≡ OnTo d → Kids (chart_of v) (way_by next) s d (d + 1)
+  among_one d k n = let g = f d (sym e ∙ k) (ap way_by n) in kids_of _ _ _ _ _ l (kids_one (chart_of v) s (way_by next) d (sym e
       ∙ k) (ap way_by n) g.0 g.1)
 
-  pub default-inside : (d : ℕ) → kind ≡ kind-o → d ≡ default_child (chart_of v) s → d < length (chart_of v).states
-  default-inside d k q = omega (arith, ((sound v r).default s (sym e ∙ k)).1)
+  pub default_inside : (d : ℕ) → kind ≡ kind_o → d ≡ default_child (chart_of v) s → d < length (chart_of v).states
+  default_inside d k q = omega (arith, ((sound v r).default s (sym e ∙ k)).1)
 
-  pub among-default : (d : ℕ) → kind ≡ kind-o → next ≡ Defaults → d ≡ default_child (chart_of v) s
+  pub among_default : (d : ℕ) → kind ≡ kind_o → next ≡ Defaults → d ≡ default_child (chart_of v) s
       → Kids (chart_of v) (way_by next) s d (d + 1)
-  among-default d k n q =
+  among_default d k n q =
       let g = (sound v r).default s (sym e ∙ k) in
       kids_of _ _ _ _ _ l (subst
-      (λ x. Goes (chart_of v) (way_by next) s x (x + 1)) (sym q) (kids-default (chart_of v) s (way_by next) (sym e
+      (λ x. Goes (chart_of v) (way_by next) s x (x + 1)) (sym q) (kids_default (chart_of v) s (way_by next) (sym e
       ∙ k) (ap way_by n) g.0 g.1))
 
-  pub among-stop : kind ≡ kind-o → next ≡ Stops → Kids (chart_of v) (way_by next) s s s
-  among-stop k n = kids_of _ _ _ _ _ l (kids-stop (chart_of v) s (way_by next) (sym e ∙ k) (ap way_by n) l)
+  pub among_stop : kind ≡ kind_o → next ≡ Stops → Kids (chart_of v) (way_by next) s s s
+  among_stop k n = kids_of _ _ _ _ _ l (kids_stop (chart_of v) s (way_by next) (sym e ∙ k) (ap way_by n) l)
 
-  pub among-all : kind ≡ kind-a → (n : ℕ) → n ≡ length (chart_of v).states → Kids (chart_of v) (way_by next) s (s + 1) n
-  among-all k n q = kids_of _ _ _ _ _ l (subst (Goes (chart_of v) (way_by next) s (s + 1)) (sym q) (kids-all (chart_of v) s
+  pub among_all : kind ≡ kind_a → (n : ℕ) → n ≡ length (chart_of v).states → Kids (chart_of v) (way_by next) s (s + 1) n
+  among_all k n q = kids_of _ _ _ _ _ l (subst (Goes (chart_of v) (way_by next) s (s + 1)) (sym q) (kids_all (chart_of v) s
       (way_by next) (sound v r) (sym e ∙ k) l))
 
-  pub among_none : kind ≡ kind-b → Kids (chart_of v) (way_by next) s s s
+  pub among_none : kind ≡ kind_b → Kids (chart_of v) (way_by next) s s s
   among_none k = kids_of _ _ _ _ _ l (kids_none (chart_of v) s (way_by next) (sym e ∙ k) l)
 
 -- ---- by default or not
 
 module _ (c : Chart) (s : ℕ) (next : Next) (kind : Kind) (e : kind ≡ kind_of c s) where
-  pub by-default-is : (k : Kind) (n : Next) → kind ≡ k → next ≡ n → (b : Bool) → b ≡ defaulting k (way_by n)
+  pub by_default_is : (k : Kind) (n : Next) → kind ≡ k → next ≡ n → (b : Bool) → b ≡ defaulting k (way_by n)
       → b ≡ defaulting (kind_of c s) (way_by next)
-  by-default-is k n p q b f = f ∙ sym (ap (λ x. defaulting x (way_by next)) (sym e ∙ p) ∙ ap (λ x. defaulting k (way_by x)) q)
+  by_default_is k n p q b f = f ∙ sym (ap (λ x. defaulting x (way_by next)) (sym e ∙ p) ∙ ap (λ x. defaulting k (way_by x)) q)
 
 -- ---- the ways
 
@@ -193,16 +193,16 @@ pub path_off : (c : Chart) (t s : ℕ) (p : Place) → p ≡ path_child c s t �
 path_off c t s p e q = sym (way_of_path c t s empty (sym e ∙ q))
 
 module _ (c : Chart) (goal : Goal) (s : ℕ) where
-  pub goal-target : (t : ℕ) (next : Next) → goal ≡ Target t → way_by next ≡ towards c t s → way_by next ≡ goal_way c goal s
-  goal-target t next g e = e ∙ sym (ap (λ x. goal_way c x s) g)
+  pub goal_target : (t : ℕ) (next : Next) → goal ≡ Target t → way_by next ≡ towards c t s → way_by next ≡ goal_way c goal s
+  goal_target t next g e = e ∙ sym (ap (λ x. goal_way c x s) g)
 
-  pub goal-here : (b : ℕ) → goal ≡ Owner b → s ≡ b → stops ≡ goal_way c goal s
+  pub goal_here : (b : ℕ) → goal ≡ Owner b → s ≡ b → stops ≡ goal_way c goal s
   unfolding towards_owner
-  goal-here b g e = sym (ap (λ x. goal_way c x s) g ∙ ap (λ t. cond t stops (towards c b s)) (eq-eqb s b e))
+  goal_here b g e = sym (ap (λ x. goal_way c x s) g ∙ ap (λ t. cond t stops (towards c b s)) (eq-eqb s b e))
 
-  pub goal-owner : (b : ℕ) (next : Next) → goal ≡ Owner b → (s ≡ b → ⊥) → way_by next ≡ towards c b s → way_by next ≡ goal_way c goal s
+  pub goal_owner : (b : ℕ) (next : Next) → goal ≡ Owner b → (s ≡ b → ⊥) → way_by next ≡ towards c b s → way_by next ≡ goal_way c goal s
   unfolding towards_owner
-  goal-owner b next g n e = e ∙ sym (ap (λ x. goal_way c x s) g ∙ ap (λ t. cond t stops (towards c b s)) (ne_eqb s b n))
+  goal_owner b next g n e = e ∙ sym (ap (λ x. goal_way c x s) g ∙ ap (λ t. cond t stops (towards c b s)) (ne_eqb s b n))
 
 -- ---- with which child each way goes on
 
@@ -234,18 +234,18 @@ stored_sound v r slots h = record {
 
 pub goal_child : (v : List ℤ) → Ruled v → (goal : Goal) → Inside (chart_of v) goal → (s : ℕ) (next : Next)
     → way_by next ≡ goal_way (chart_of v) goal s → OnChild (chart_of v) s (way_by next)
-goal_child v r (Target t) l s next e d k q = (towards-sound (chart_of v) (sound v r) t l).on s d k (sym e ∙ q)
-goal_child v r (Owner b) l s next e d k q = (owner-sound (chart_of v) (sound v r) b l).on s d k (sym e ∙ q)
+goal_child v r (Target t) l s next e d k q = (towards_sound (chart_of v) (sound v r) t l).on s d k (sym e ∙ q)
+goal_child v r (Owner b) l s next e d k q = (owner_sound (chart_of v) (sound v r) b l).on s d k (sym e ∙ q)
 
 pub goal_sound : (v : List ℤ) → Ruled v → (goal : Goal) → Inside (chart_of v) goal → Sound (chart_of v) (goal_way (chart_of v) goal)
-goal_sound v r (Target t) l = towards-sound (chart_of v) (sound v r) t l
-goal_sound v r (Owner b) l = owner-sound (chart_of v) (sound v r) b l
+goal_sound v r (Target t) l = towards_sound (chart_of v) (sound v r) t l
+goal_sound v r (Owner b) l = owner_sound (chart_of v) (sound v r) b l
 
 -- every course goes on with children
 pub course_sound : (v : List ℤ) → Ruled v → (slots : List ℤ) → Led (chart_of v) slots → (course : Course) → Bound (chart_of v) course
     → Sound (chart_of v) (course_way (chart_of v) slots course)
-course_sound v r slots l default-course b = defaults-sound (chart_of v) (sound v r)
-course_sound v r slots l slot-course b = stored_sound v r slots l
+course_sound v r slots l default_course b = defaults_sound (chart_of v) (sound v r)
+course_sound v r slots l slot_course b = stored_sound v r slots l
 course_sound v r slots l (Towards goal) b = goal_sound v r goal b.0
 
 pub course_child : (v : List ℤ) → Ruled v → (slots : List ℤ) → Led (chart_of v) slots → (course : Course) → Bound (chart_of v) course

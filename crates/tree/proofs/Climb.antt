@@ -12,46 +12,46 @@ use Rattle.meaning.specs.Tree.{parent_of, kind_of, is_o, is_child, climb, ancest
 use Rattle.meaning.specs.Effects.{o_parent}
 
 module _ (c : Chart) where
-  pub child-root : (s d : ℕ) → d ≡ 0 → is_child c s d ≡ false
+  pub child_root : (s d : ℕ) → d ≡ 0 → is_child c s d ≡ false
   unfolding is_child
-  child-root s d e = rw e
+  child_root s d e = rw e
 
-  pub child-below : (s d : ℕ) → (d ≡ 0 → ⊥) → is_child c s d ≡ eqb (parent_of c d) s
+  pub child_below : (s d : ℕ) → (d ≡ 0 → ⊥) → is_child c s d ≡ eqb (parent_of c d) s
   unfolding is_child
-  child-below s zero h = absurd (h refl)
-  child-below s (suc n) h = refl
+  child_below s zero h = absurd (h refl)
+  child_below s (suc n) h = refl
 
-  pub o-parent-root : (s : ℕ) → s ≡ 0 → o_parent c s ≡ Empty
+  pub o_parent_root : (s : ℕ) → s ≡ 0 → o_parent c s ≡ Empty
   unfolding o_parent
-  o-parent-root s e = rw e
+  o_parent_root s e = rw e
 
-  pub o-parent-below : (s : ℕ) → (s ≡ 0 → ⊥) → o_parent c s ≡ cond (is_o (kind_of c (parent_of c s))) (At (parent_of c s)) Empty
+  pub o_parent_below : (s : ℕ) → (s ≡ 0 → ⊥) → o_parent c s ≡ cond (is_o (kind_of c (parent_of c s))) (At (parent_of c s)) Empty
   unfolding o_parent
-  o-parent-below zero h = absurd (h refl)
-  o-parent-below (suc n) h = refl
+  o_parent_below zero h = absurd (h refl)
+  o_parent_below (suc n) h = refl
 
   -- ---- the way up, of at most f steps from s
 
-  pub climbed-root : (a f s : ℕ) → s ≡ 0 → has a (climb c f s) ≡ false
+  pub climbed_root : (a f s : ℕ) → s ≡ 0 → has a (climb c f s) ≡ false
   unfolding climb has
-  climbed-root a zero s e = refl
-  climbed-root a (suc f) s e = rw e
+  climbed_root a zero s e = refl
+  climbed_root a (suc f) s e = rw e
 
-  pub climbed-out : (a f s : ℕ) → f ≡ 0 → has a (climb c f s) ≡ false
+  pub climbed_out : (a f s : ℕ) → f ≡ 0 → has a (climb c f s) ≡ false
   unfolding climb has
-  climbed-out a f s e = rw e
+  climbed_out a f s e = rw e
 
-  pub climbed-here : (a f s : ℕ) → 0 < f → (s ≡ 0 → ⊥) → a ≡ parent_of c s → has a (climb c f s) ≡ true
+  pub climbed_here : (a f s : ℕ) → 0 < f → (s ≡ 0 → ⊥) → a ≡ parent_of c s → has a (climb c f s) ≡ true
   unfolding climb has
-  climbed-here a zero s h z e = absurd (omega arith)
-  climbed-here a (suc f) zero h z e = absurd (z refl)
-  climbed-here a (suc f) (suc n) h z e = rw (eq-eqb a (parent_of c (suc n)) e)
+  climbed_here a zero s h z e = absurd (omega arith)
+  climbed_here a (suc f) zero h z e = absurd (z refl)
+  climbed_here a (suc f) (suc n) h z e = rw (eq-eqb a (parent_of c (suc n)) e)
 
-  pub climbed-on : (a f s : ℕ) → 0 < f → (s ≡ 0 → ⊥) → (a ≡ parent_of c s → ⊥)
+  pub climbed_on : (a f s : ℕ) → 0 < f → (s ≡ 0 → ⊥) → (a ≡ parent_of c s → ⊥)
       → has a (climb c (f - 1) (parent_of c s)) ≡ has a (climb c f s)
   unfolding climb has
-  climbed-on a zero s h z e = absurd (omega arith)
-  climbed-on a (suc f) zero h z e = absurd (z refl)
-  climbed-on a (suc f) (suc n) h z e =
+  climbed_on a zero s h z e = absurd (omega arith)
+  climbed_on a (suc f) zero h z e = absurd (z refl)
+  climbed_on a (suc f) (suc n) h z e =
       let d : suc f - 1 ≡ f = omega arith in
       rw (d, ne_eqb a (parent_of c (suc n)) e)

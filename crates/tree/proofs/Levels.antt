@@ -12,10 +12,10 @@ use Rattle.laws.proofs.Descent.{cong_from}
 use Rattle.laws.specs.Facts.{Ordered, Sound, Under, child}
 use Rattle.laws.proofs.Lists.{is_false}
 use Rattle.laws.proofs.Sound.{child_later, child_parent, no_root_child}
-use Rattle.laws.proofs.Tree.{under-lt, under_trans, has_under, under_has}
+use Rattle.laws.proofs.Tree.{under_lt, under_trans, has_under, under_has}
 use Rattle.meaning.specs.Chart.{Chart}
 use Rattle.meaning.specs.declared.chart.Kind.{Kind}
-use Rattle.meaning.specs.declared.chart.Kind.TheVariants.{A as kind-a, B as kind-b, O as kind-o}
+use Rattle.meaning.specs.declared.chart.Kind.TheVariants.{A as kind_a, B as kind_b, O as kind_o}
 use Rattle.meaning.specs.Entry.{Visit, Way, on_to, defaults, stops, plain, by_default, goes_on, below, all_below}
 use Rattle.meaning.specs.Lists.{from, has, keep}
 use Rattle.meaning.specs.Tree.{all_states, ancestors, children, default_child, descendants, is_child, kind_of}
@@ -30,16 +30,16 @@ module _ (c : Chart) (way : ℕ → Way) (g : Sound c way) where
   goes_same deep more s h = go (kind_of c s) refl (way s) refl
     where
       go : (k : Kind) → kind_of c s ≡ k → (w : Way) → way s ≡ w → goes_on c deep s k w ≡ goes_on c more s k w
-      go kind-o e (on_to d) f = let q = g.on s d e f in ap (λ l. plain d ∷ l) (h d (child_later c g.ordered s d q.0) q.1)
-      go kind-o e defaults f =
+      go kind_o e (on_to d) f = let q = g.on s d e f in ap (λ l. plain d ∷ l) (h d (child_later c g.ordered s d q.0) q.1)
+      go kind_o e defaults f =
           let q = g.by s e f in
           ap (λ l. by_default s (default_child c s) ∷ l) (h (default_child c s) (child_later c g.ordered s (default_child c s)
           q.0) q.1)
-      go kind-o e stops f = refl
-      go kind-a e w f =
+      go kind_o e stops f = refl
+      go kind_a e w f =
           cong_from (λ d. plain d ∷ deep d) (λ d. plain d ∷ more d) (is_child c s) 0 (length c.states)
           (λ x l t. ap (λ y. plain x ∷ y) (h x (child_later c g.ordered s x t) (omega arith)))
-      go kind-b e w f = refl
+      go kind_b e w f = refl
 
   -- enough levels are enough
   enough : (f m s : ℕ) → s < length c.states → length c.states ≤ s + f → length c.states ≤ s + m
@@ -49,9 +49,9 @@ module _ (c : Chart) (way : ℕ → Way) (g : Sound c way) where
   enough (suc f) zero s l h k = absurd (omega arith)
   enough (suc f) (suc m) s l h k = goes_same (below c way f) (below c way m) s (λ d j i. enough f m d i (omega arith) (omega arith))
 
-  pub all-goes : (s : ℕ) → s < length c.states → all_below c way s ≡ goes_on c (all_below c way) s (kind_of c s) (way s)
+  pub all_goes : (s : ℕ) → s < length c.states → all_below c way s ≡ goes_on c (all_below c way) s (kind_of c s) (way s)
   unfolding all_below below
-  all-goes s l = go (length c.states) refl
+  all_goes s l = go (length c.states) refl
     where
       go : (n : ℕ) → length c.states ≡ n → below c way n s ≡ goes_on c (below c way (length c.states)) s (kind_of c s) (way s)
       go zero e = absurd (omega arith)
@@ -61,10 +61,10 @@ module _ (c : Chart) (way : ℕ → Way) (g : Sound c way) where
 -- ---- fewer states are left below a child
 
 module _ (p q : ℕ → Bool) (h : (x : ℕ) → p x ≡ true → q x ≡ true) where
-  keep-most : (a n : ℕ) → length (keep p (from a n)) ≤ length (keep q (from a n))
+  keep_most : (a n : ℕ) → length (keep p (from a n)) ≤ length (keep q (from a n))
   unfolding keep from
-  keep-most a zero = omega arith
-  keep-most a (suc n) = go (p a) (q a) refl refl (keep-most (suc a) n)
+  keep_most a zero = omega arith
+  keep_most a (suc n) = go (p a) (q a) refl refl (keep_most (suc a) n)
     where
       go : (s t : Bool) → p a ≡ s → q a ≡ t → length (keep p (from (suc a) n)) ≤ length (keep q (from (suc a) n))
           → length (cond s (a ∷ keep p (from (suc a) n)) (keep p (from (suc a) n))) ≤ length (cond t (a ∷ keep q (from (suc a) n))
@@ -75,14 +75,14 @@ module _ (p q : ℕ → Bool) (h : (x : ℕ) → p x ≡ true → q x ≡ true) 
       go false false e f i = i
 
   module _ (x : ℕ) (t : q x ≡ true) (u : p x ≡ false) where
-    keep-fewer : (a n : ℕ) → a ≤ x → x < a + n → length (keep p (from a n)) < length (keep q (from a n))
+    keep_fewer : (a n : ℕ) → a ≤ x → x < a + n → length (keep p (from a n)) < length (keep q (from a n))
     unfolding keep from
-    keep-fewer a zero l m = absurd (omega arith)
-    keep-fewer a (suc n) l m = ⊎_elim (λ e. here e)
-        (λ k. later (p a) (q a) refl refl (keep-fewer (suc a) n k (omega arith))) (eq-or-lt_of_le l)
+    keep_fewer a zero l m = absurd (omega arith)
+    keep_fewer a (suc n) l m = ⊎_elim (λ e. here e)
+        (λ k. later (p a) (q a) refl refl (keep_fewer (suc a) n k (omega arith))) (eq-or-lt_of_le l)
       where
         here : a ≡ x → length (keep p (from a (suc n))) < length (keep q (from a (suc n)))
-        here e = let i = keep-most (suc a) n in rw (ap p e ∙ u, ap q e ∙ t) (omega arith)
+        here e = let i = keep_most (suc a) n in rw (ap p e ∙ u, ap q e ∙ t) (omega arith)
 
         later : (s r : Bool) → p a ≡ s → q a ≡ r → length (keep p (from (suc a) n)) < length (keep q (from (suc a) n))
             → length (cond s (a ∷ keep p (from (suc a) n)) (keep p (from (suc a) n))) < length (cond r (a ∷ keep q (from (suc a) n))
@@ -100,7 +100,7 @@ pub child_fewer : (c : Chart) → Ordered c → (s d : ℕ) → is_child c s d �
     → length (descendants c d) < length (descendants c s)
 unfolding descendants all_states
 child_fewer c o s d t l =
-    keep-fewer (λ x. has d (ancestors c x)) (λ x. has s (ancestors c x))
+    keep_fewer (λ x. has d (ancestors c x)) (λ x. has s (ancestors c x))
     (λ x e. under_has c o s x (under_trans (child_under c s d t) (has_under c d x e)))
     d (under_has c o s d (child_under c s d t)) (is_false _
-    (λ e. omega (arith, under-lt c o (has_under c d d e)))) 0 (length c.states) (omega arith) (omega arith)
+    (λ e. omega (arith, under_lt c o (has_under c d d e)))) 0 (length c.states) (omega arith) (omega arith)

@@ -17,8 +17,8 @@ use Rattle.meaning.specs.Rules.{after_rule_0, failing_rule, failing_rule_of}
 use Rattle.meaning.specs.Value.{chart_of, rule_0}
 use Rattle.meaning.specs.Rules.{Ruled}
 use Rattle.tree.specs.Courses.{path_child}
-use Rattle.tree.proofs.Up.{parent-falls, path-none, path-here, path-up, scope-root, scope-here, scope-up-kind, scope-up}
-use Rattle.tree.proofs.On.{end-here, end_more, end-last}
+use Rattle.tree.proofs.Up.{parent_falls, path_none, path_here, path_up, scope_root, scope_here, scope_up_kind, scope_up}
+use Rattle.tree.proofs.On.{end_here, end_more, end_last}
 
 pub passes : (b : Bool) (c : Chart) → after_rule_0 b c ≡ none → (b ≡ true) × (failing_rule c ≡ none)
 passes true c e = (refl, e)
@@ -35,55 +35,55 @@ sound v r = sound_chart (chart_of v) (rules_passed v r).1
 -- ---- one turn of each walk: v is the lent chart, and each law is what its loop owes there
 
 module _ (v : List ℤ) (r : Ruled v) where
-  pub up-falls : (x : ℕ) → 0 < x → (p : ℕ) → p ≡ parent_of (chart_of v) x → p < x
-  up-falls x h p e = omega (arith, parent-falls (chart_of v) (sound v r).ordered x h)
+  pub up_falls : (x : ℕ) → 0 < x → (p : ℕ) → p ≡ parent_of (chart_of v) x → p < x
+  up_falls x h p e = omega (arith, parent_falls (chart_of v) (sound v r).ordered x h)
 
   module _ (s t x : ℕ) (inv : path_child (chart_of v) s x ≡ path_child (chart_of v) s t) where
-    pub path-found : 0 < x → (p : ℕ) → p ≡ parent_of (chart_of v) x → p ≡ s → At x ≡ path_child (chart_of v) s t
-    path-found h p e q = sym (path-here (chart_of v) (sound v r).ordered s x h (sym e ∙ q)) ∙ inv
+    pub path_found : 0 < x → (p : ℕ) → p ≡ parent_of (chart_of v) x → p ≡ s → At x ≡ path_child (chart_of v) s t
+    path_found h p e q = sym (path_here (chart_of v) (sound v r).ordered s x h (sym e ∙ q)) ∙ inv
 
     pub path_on : 0 < x → (p : ℕ) → p ≡ parent_of (chart_of v) x → (p ≡ s → ⊥) → path_child (chart_of v) s p ≡ path_child (chart_of v) s t
-    path_on h p e n = ap (path_child (chart_of v) s) e ∙ path-up (chart_of v) (sound v r).ordered s x h (λ q. n (e ∙ q)) ∙ inv
+    path_on h p e n = ap (path_child (chart_of v) s) e ∙ path_up (chart_of v) (sound v r).ordered s x h (λ q. n (e ∙ q)) ∙ inv
 
-    pub path-end : x ≤ 0 → Empty ≡ path_child (chart_of v) s t
-    path-end h = let z : x ≡ 0 = omega arith in sym (ap (path_child (chart_of v) s) z ∙ path-none (chart_of v) (sound v r).ordered s) ∙ inv
+    pub path_end : x ≤ 0 → Empty ≡ path_child (chart_of v) s t
+    path_end h = let z : x ≡ 0 = omega arith in sym (ap (path_child (chart_of v) s) z ∙ path_none (chart_of v) (sound v r).ordered s) ∙ inv
 
   module _ (s t x : ℕ) (inv : scope (chart_of v) x t ≡ scope (chart_of v) s t) where
-    pub scope-found : 0 < x → (p : ℕ) → p ≡ parent_of (chart_of v) x
+    pub scope_found : 0 < x → (p : ℕ) → p ≡ parent_of (chart_of v) x
         → (k : Kind) → k ≡ kind_of (chart_of v) p → (b d : Bool) → b ≡ is_o k → b ≡ true
         → d ≡ has p (ancestors (chart_of v) t) → d ≡ true → p ≡ scope (chart_of v) s t
-    scope-found h p e k f b d g bt i dt =
+    scope_found h p e k f b d g bt i dt =
         let o : is_o (kind_of (chart_of v) (parent_of (chart_of v) x)) ≡ true = rw (← e, ← f, ← g) bt in
         let a : has (parent_of (chart_of v) x) (ancestors (chart_of v) t) ≡ true = rw (← e, ← i) dt in
-        e ∙ sym (scope-here (chart_of v) (sound v r).ordered x t h o a) ∙ inv
+        e ∙ sym (scope_here (chart_of v) (sound v r).ordered x t h o a) ∙ inv
 
-    pub scope-on-kind : 0 < x → (p : ℕ) → p ≡ parent_of (chart_of v) x
+    pub scope_on_kind : 0 < x → (p : ℕ) → p ≡ parent_of (chart_of v) x
         → (k : Kind) → k ≡ kind_of (chart_of v) p → (b : Bool) → b ≡ is_o k → b ≡ false
         → scope (chart_of v) p t ≡ scope (chart_of v) s t
-    scope-on-kind h p e k f b g bt =
+    scope_on_kind h p e k f b g bt =
         let o : is_o (kind_of (chart_of v) (parent_of (chart_of v) x)) ≡ false = rw (← e, ← f, ← g) bt in
-        ap (λ y. scope (chart_of v) y t) e ∙ scope-up-kind (chart_of v) (sound v r).ordered x t h o ∙ inv
+        ap (λ y. scope (chart_of v) y t) e ∙ scope_up_kind (chart_of v) (sound v r).ordered x t h o ∙ inv
 
-    pub scope-on : 0 < x → (p : ℕ) → p ≡ parent_of (chart_of v) x
+    pub scope_on : 0 < x → (p : ℕ) → p ≡ parent_of (chart_of v) x
         → (k : Kind) → k ≡ kind_of (chart_of v) p → (b d : Bool) → b ≡ is_o k → b ≡ true
         → d ≡ has p (ancestors (chart_of v) t) → d ≡ false → scope (chart_of v) p t ≡ scope (chart_of v) s t
-    scope-on h p e k f b d g bt i dt =
+    scope_on h p e k f b d g bt i dt =
         let o : is_o (kind_of (chart_of v) (parent_of (chart_of v) x)) ≡ true = rw (← e, ← f, ← g) bt in
         let a : has (parent_of (chart_of v) x) (ancestors (chart_of v) t) ≡ false = rw (← e, ← i) dt in
-        ap (λ y. scope (chart_of v) y t) e ∙ scope-up (chart_of v) (sound v r).ordered x t h o a ∙ inv
+        ap (λ y. scope (chart_of v) y t) e ∙ scope_up (chart_of v) (sound v r).ordered x t h o a ∙ inv
 
-    pub scope-end : x ≤ 0 → 0 ≡ scope (chart_of v) s t
-    scope-end h = let z : x ≡ 0 = omega arith in
-        sym (ap (λ y. scope (chart_of v) y t) z ∙ scope-root (chart_of v) (sound v r).ordered t) ∙ inv
+    pub scope_end : x ≤ 0 → 0 ≡ scope (chart_of v) s t
+    scope_end h = let z : x ≡ 0 = omega arith in
+        sym (ap (λ y. scope (chart_of v) y t) z ∙ scope_root (chart_of v) (sound v r).ordered t) ∙ inv
 
   module _ (s : ℕ) (h : s < length (chart_of v).states) (d : ℕ) (i : (s < d) × (d ≤ suc s + length (descendants (chart_of v) s))) where
-    pub end-found : (p : ℕ) → p ≡ parent_of (chart_of v) d → p < s → d ≡ suc s + length (descendants (chart_of v) s)
-    end-found p e l = end-here (chart_of v) (sound v r).ordered s h d i.0 i.1 (omega arith)
+    pub end_found : (p : ℕ) → p ≡ parent_of (chart_of v) d → p < s → d ≡ suc s + length (descendants (chart_of v) s)
+    end_found p e l = end_here (chart_of v) (sound v r).ordered s h d i.0 i.1 (omega arith)
 
     pub end_on : (n : ℕ) → n ≡ length (chart_of v).states → d < n
         → (p : ℕ) → p ≡ parent_of (chart_of v) d → s ≤ p → (s < d + 1) × (d + 1 ≤ suc s + length (descendants (chart_of v) s))
     end_on n f g p e l =
         (omega arith, omega (arith, end_more (chart_of v) (sound v r).ordered s h d i.0 (omega arith) i.1 (omega arith)))
 
-    pub end-all : (n : ℕ) → n ≡ length (chart_of v).states → n ≤ d → d ≡ suc s + length (descendants (chart_of v) s)
-    end-all n f g = end-last (chart_of v) (sound v r).ordered s h d i.1 (omega arith)
+    pub end_all : (n : ℕ) → n ≡ length (chart_of v).states → n ≤ d → d ≡ suc s + length (descendants (chart_of v) s)
+    end_all n f g = end_last (chart_of v) (sound v r).ordered s h d i.1 (omega arith)

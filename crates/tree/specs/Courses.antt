@@ -8,7 +8,7 @@ use Rattle.numbers.specs.declared.Place.TheVariants.{At as holds, Empty as empty
 use Rattle.laws.specs.Facts.{Sound}
 use Rattle.meaning.specs.Chart.{Chart}
 use Rattle.meaning.specs.declared.chart.Kind.{Kind}
-use Rattle.meaning.specs.declared.chart.Kind.TheVariants.{A as kind-a, B as kind-b, O as kind-o}
+use Rattle.meaning.specs.declared.chart.Kind.TheVariants.{A as kind_a, B as kind_b, O as kind_o}
 use Rattle.meaning.specs.Lists.{concat_map, first_that, from, has, keep}
 use Rattle.meaning.specs.Steps.{Step}
 use Rattle.meaning.specs.Tree.{ancestors, kind_of, is_child}
@@ -20,7 +20,7 @@ use Rattle.tree.specs.declared.ways.Next.TheVariants.{OnTo, Defaults, Stops}
 use Rattle.tree.specs.declared.ways.Goal.{Goal}
 use Rattle.tree.specs.declared.ways.Goal.TheVariants.{Target, Owner}
 use Rattle.tree.specs.declared.ways.Course.{Course}
-use Rattle.tree.specs.declared.ways.Course.TheVariants.{Defaults as default-course, Slots as slot-course, Towards}
+use Rattle.tree.specs.declared.ways.Course.TheVariants.{Defaults as default_course, Slots as slot_course, Towards}
 
 -- "the path from below the scope to the target": the child of s on it, where s is a proper ancestor of t
 unfoldable pub path_child : Chart → ℕ → ℕ → Place
@@ -56,32 +56,32 @@ Inside c (Owner b) = b < length c.states
 
 -- the ways of a descent: by default, by the slots, towards a goal
 abbrev pub course_way : Chart → List ℤ → Course → ℕ → Way
-course_way c slots default-course = by_defaults
-course_way c slots slot-course = stored_way slots
+course_way c slots default_course = by_defaults
+course_way c slots slot_course = stored_way slots
 course_way c slots (Towards goal) = goal_way c goal
 
 -- how a state on them is entered
 abbrev pub course_visit : Chart → ℤ → Course → Visit → Step Ctx
-course_visit c a default-course = visit c a
-course_visit c a slot-course = revisit c a
+course_visit c a default_course = visit c a
+course_visit c a slot_course = revisit c a
 course_visit c a (Towards goal) = goal_visit c a goal
 
 -- the same without what follows below the owner of a history
 abbrev pub arrival : Chart → ℤ → Course → Visit → Step Ctx
-arrival c a default-course = visit c a
-arrival c a slot-course = revisit c a
+arrival c a default_course = visit c a
+arrival c a slot_course = revisit c a
 arrival c a (Towards goal) = visit c a
 
 -- whether it goes by the slots
 abbrev pub restoring : Course → Bool
-restoring default-course = false
-restoring slot-course = true
+restoring default_course = false
+restoring slot_course = true
 restoring (Towards goal) = false
 
 -- "If its slot is filled, its stored child is entered and so on down by the slots .. If empty, the default is taken"
 abbrev pub restored : Place → Course
-restored (holds d) = slot-course
-restored empty = default-course
+restored (holds d) = slot_course
+restored empty = default_course
 
 -- how a descent goes on below s, which it just entered
 abbrev pub onward_goal : List ℤ → Goal → ℕ → Course
@@ -89,27 +89,27 @@ onward_goal slots (Target t) s = Towards (Target t)
 onward_goal slots (Owner b) s = cond (eqb s b) (restored (slot_of slots s)) (Towards (Owner b))
 
 abbrev pub onward_from : List ℤ → Course → ℕ → Course
-onward_from slots default-course s = default-course
-onward_from slots slot-course s = slot-course
+onward_from slots default_course s = default_course
+onward_from slots slot_course s = slot_course
 onward_from slots (Towards goal) s = onward_goal slots goal s
 
 -- a goal is a state of the chart, the owner of a history an o state
 abbrev pub Owned : Chart → Goal → Type 0
 Owned c (Target t) = Unit {0}
-Owned c (Owner b) = kind_of c b ≡ kind-o
+Owned c (Owner b) = kind_of c b ≡ kind_o
 
 abbrev pub Bound : Chart → Course → Type 0
-Bound c default-course = Unit {0}
-Bound c slot-course = Unit {0}
+Bound c default_course = Unit {0}
+Bound c slot_course = Unit {0}
 Bound c (Towards goal) = Inside c goal × Owned c goal
 
 -- whether a state of this kind that goes on this way enters its child by default
 unfoldable pub defaulting : Kind → Way → Bool
-defaulting kind-o (on_to x) = false
-defaulting kind-o defaults = true
-defaulting kind-o stops = false
-defaulting kind-a way = false
-defaulting kind-b way = false
+defaulting kind_o (on_to x) = false
+defaulting kind_o defaults = true
+defaulting kind_o stops = false
+defaulting kind_a way = false
+defaulting kind_b way = false
 
 -- how a child d of p is entered
 abbrev pub visit_as : Bool → ℕ → ℕ → Visit
@@ -118,7 +118,7 @@ visit_as false p d = plain d
 
 -- an o state goes on with a child of its own
 abbrev pub OnChild : Chart → ℕ → Way → Type 0
-OnChild c s way = (d : ℕ) → kind_of c s ≡ kind-o → way ≡ on_to d → (is_child c s d ≡ true) × (d < length c.states)
+OnChild c s way = (d : ℕ) → kind_of c s ≡ kind_o → way ≡ on_to d → (is_child c s d ≡ true) × (d < length c.states)
 
 -- there are as many slots as 01 has, and each is empty or holds a child of its state
 pub record Led (c : Chart) (slots : List ℤ) : Type 0 where

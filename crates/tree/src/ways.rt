@@ -2,12 +2,12 @@
 // of a history; and the numbers among which these children are.
 ghost use Rattle.std.specs.Prelude.{◌≡◌, ◌<◌, length};
 ghost use Rattle.sizes.specs.Sizes.{STATES as states};
-ghost use Rattle.meaning.specs.Tree.{kind_of as kind-in};
+ghost use Rattle.meaning.specs.Tree.{kind_of as kind_in};
 ghost use Rattle.meaning.specs.Value.{chart_of};
 ghost use Rattle.meaning.specs.Entry.{towards};
 ghost use Rattle.meaning.specs.Rules.{Ruled};
 ghost use Rattle.tree.specs.Aims.{aim_by, aimed_at};
-ghost use Rattle.tree.specs.Courses.{way_by, slot_of as slot-in, stored_way, goal_way, course_way, restoring, onward_goal};
+ghost use Rattle.tree.specs.Courses.{way_by, slot_of as slot_in, stored_way, goal_way, course_way, restoring, onward_goal};
 ghost use Rattle.tree.specs.Courses.{onward_from, defaulting, OnChild, Kids};
 
 use super::walks::path_child;
@@ -105,7 +105,7 @@ pub fn goes_on(chart: &[i32], s: usize, next: Next) -> Children
 
 // Whether a state that goes on so enters its child by default.
 pub fn by_default(chart: &[i32], s: usize, next: Next) -> bool
-    ensures { result ≡ defaulting (kind-in (chart_of chart.now) s) (way_by next) }
+    ensures { result ≡ defaulting (kind_in (chart_of chart.now) s) (way_by next) }
 {
     let kind = kind_of(chart, s);
     match kind {
@@ -122,7 +122,7 @@ pub fn by_default(chart: &[i32], s: usize, next: Next) -> bool
 // What a slot holds: an empty slot's marker is no state.
 pub fn slot_of(slots: &[i32; STATES], s: usize) -> Place
     requires { (s < states) × (length slots.now ≡ states) }
-    ensures { result ≡ slot-in slots.now s }
+    ensures { result ≡ slot_in slots.now s }
 {
     place_of(slots[s])
 }

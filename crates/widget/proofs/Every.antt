@@ -11,32 +11,32 @@ use lib.Seq.{drop-cons}
 use Rattle.meaning.specs.Lists.{every, keep, from}
 
 module _ {A : Type 0} (p : A → Bool) (xs : List A) (i : ℕ) where
-  every-at : (d : A) → i < length xs → every p (drop i xs) ≡ (p (get_or xs i d) && every p (drop (i + 1) xs))
+  every_at : (d : A) → i < length xs → every p (drop i xs) ≡ (p (get_or xs i d) && every p (drop (i + 1) xs))
   unfolding every
-  every-at d h = rw (add-one i, drop-cons xs i d h)
+  every_at d h = rw (add-one i, drop-cons xs i d h)
 
   pub every_more : {g : Bool} (d : A) → every p (drop i xs) ≡ g → i < length xs → p (get_or xs i d) ≡ true → every p (drop (i + 1) xs) ≡ g
-  every_more d e h t = sym (ap (λ b. b && every p (drop (i + 1) xs)) t) ∙ sym (every-at d h) ∙ e
+  every_more d e h t = sym (ap (λ b. b && every p (drop (i + 1) xs)) t) ∙ sym (every_at d h) ∙ e
 
-  pub every-no : {g : Bool} (d : A) → every p (drop i xs) ≡ g → i < length xs → p (get_or xs i d) ≡ false → false ≡ g
-  every-no d e h t = sym (every-at d h ∙ ap (λ b. b && every p (drop (i + 1) xs)) t) ∙ e
+  pub every_no : {g : Bool} (d : A) → every p (drop i xs) ≡ g → i < length xs → p (get_or xs i d) ≡ false → false ≡ g
+  every_no d e h t = sym (every_at d h ∙ ap (λ b. b && every p (drop (i + 1) xs)) t) ∙ e
 
-  pub every-done : {g : Bool} → every p (drop i xs) ≡ g → length xs ≤ i → true ≡ g
+  pub every_done : {g : Bool} → every p (drop i xs) ≡ g → length xs ≤ i → true ≡ g
   unfolding every
-  every-done e h = sym (ap (every p) (drop_of_length-le xs h)) ∙ e
+  every_done e h = sym (ap (every p) (drop_of_length-le xs h)) ∙ e
 
   -- a loop that looks at each, and keeps whether all before i passed
-  pub every-and : {g : Bool} (ok : Bool) (d : A) → ok && every p (drop i xs) ≡ g → i < length xs
+  pub every_and : {g : Bool} (ok : Bool) (d : A) → ok && every p (drop i xs) ≡ g → i < length xs
       → (ok && p (get_or xs i d)) && every p (drop (i + 1) xs) ≡ g
-  every-and ok d e h = go ok (p (get_or xs i d)) ∙ sym (ap (λ b. ok && b) (every-at d h)) ∙ e
+  every_and ok d e h = go ok (p (get_or xs i d)) ∙ sym (ap (λ b. ok && b) (every_at d h)) ∙ e
     where
       go : (a b : Bool) → (a && b) && every p (drop (i + 1) xs) ≡ a && (b && every p (drop (i + 1) xs))
       go true b = refl
       go false b = refl
 
-  pub every-all : {g ok : Bool} → ok && every p (drop i xs) ≡ g → length xs ≤ i → ok ≡ g
+  pub every_all : {g ok : Bool} → ok && every p (drop i xs) ≡ g → length xs ≤ i → ok ≡ g
   unfolding every
-  every-all {g} {ok} e h = go ok ∙ sym (ap (λ ys. ok && every p ys) (drop_of_length-le xs h)) ∙ e
+  every_all {g} {ok} e h = go ok ∙ sym (ap (λ ys. ok && every p ys) (drop_of_length-le xs h)) ∙ e
     where
       go : (a : Bool) → a ≡ a && true
       go true = refl
@@ -59,11 +59,11 @@ pub upto_at : (n i d : ℕ) → i < n → get_or (from 0 n) i d ≡ i
 upto_at n i d h = from_at 0 n i d h ∙ omega arith
 
 module _ (p : ℕ → Bool) (n i : ℕ) where
-  pub upto-more : {g : Bool} → every p (drop i (from 0 n)) ≡ g → i < n → p i ≡ true → every p (drop (i + 1) (from 0 n)) ≡ g
-  upto-more e h t = every_more p (from 0 n) i 0 e (rw (length_from 0 n) h) (rw (upto_at n i 0 h) t)
+  pub upto_more : {g : Bool} → every p (drop i (from 0 n)) ≡ g → i < n → p i ≡ true → every p (drop (i + 1) (from 0 n)) ≡ g
+  upto_more e h t = every_more p (from 0 n) i 0 e (rw (length_from 0 n) h) (rw (upto_at n i 0 h) t)
 
-  pub upto-no : {g : Bool} → every p (drop i (from 0 n)) ≡ g → i < n → p i ≡ false → false ≡ g
-  upto-no e h t = every-no p (from 0 n) i 0 e (rw (length_from 0 n) h) (rw (upto_at n i 0 h) t)
+  pub upto_no : {g : Bool} → every p (drop i (from 0 n)) ≡ g → i < n → p i ≡ false → false ≡ g
+  upto_no e h t = every_no p (from 0 n) i 0 e (rw (length_from 0 n) h) (rw (upto_at n i 0 h) t)
 
   pub upto_done : {g : Bool} → every p (drop i (from 0 n)) ≡ g → n ≤ i → true ≡ g
-  upto_done e h = every-done p (from 0 n) i e (rw (length_from 0 n) h)
+  upto_done e h = every_done p (from 0 n) i e (rw (length_from 0 n) h)

@@ -45,13 +45,13 @@ each_end f xs i k h = rw (drop_of_length-le xs h)
 
 module _ {D : Step Ctx} {k : Lent} {at : ℕ} where
   -- at the start all of it is owed
-  pub owes-all : at ≤ length k.trace → Owes D k at D k at
-  owes-all h = record { gives = λ l. refl; fits = h; kept = refl; whole = refl }
+  pub owes_all : at ≤ length k.trace → Owes D k at D k at
+  owes_all h = record { gives = λ l. refl; fits = h; kept = refl; whole = refl }
 
   module _ {k₁ : Lent} {at₁ : ℕ} where
     -- the same step in other words
-    pub owes-as : {E : Step Ctx} (F : Step Ctx) → Owes D k at E k₁ at₁ → F (ctx k₁ at₁) ≡ E (ctx k₁ at₁) → Owes D k at F k₁ at₁
-    owes-as F o e = record { gives = λ l. e ∙ o.gives l; fits = o.fits; kept = o.kept; whole = o.whole }
+    pub owes_as : {E : Step Ctx} (F : Step Ctx) → Owes D k at E k₁ at₁ → F (ctx k₁ at₁) ≡ E (ctx k₁ at₁) → Owes D k at F k₁ at₁
+    owes_as F o e = record { gives = λ l. e ∙ o.gives l; fits = o.fits; kept = o.kept; whole = o.whole }
 
     -- nothing more is owed
     pub owes_none : {E : Step Ctx} → Owes D k at E k₁ at₁ → E (ctx k₁ at₁) ≡ ok (ctx k₁ at₁)
@@ -61,8 +61,8 @@ module _ {D : Step Ctx} {k : Lent} {at : ℕ} where
 
     module _ {r : Went} {k₂ : Lent} where
       -- all that was owed is done by one function
-      pub owes-last : {E : Step Ctx} → Owes D k at E k₁ at₁ → Did E k₁ at₁ r k₂ → Did D k at r k₂
-      owes-last o d = record {
+      pub owes_last : {E : Step Ctx} → Owes D k at E k₁ at₁ → Did E k₁ at₁ r k₂ → Did D k at r k₂
+      owes_last o d = record {
         does = λ l. d.does (o.whole ∙ l) ∙ o.gives l;
         fits = d.fits;
         kept = d.kept ∙ o.kept;
@@ -81,10 +81,10 @@ module _ {D : Step Ctx} {k : Lent} {at : ℕ} where
       }
 
       -- the first step refuses
-      pub owes-stop : {F : Step Ctx} (E : Step Ctx) → Owes D k at (F then E) k₁ at₁ → Did F k₁ at₁ r k₂ → (r.number ≡ 0 → ⊥)
+      pub owes_stop : {F : Step Ctx} (E : Step Ctx) → Owes D k at (F then E) k₁ at₁ → Did F k₁ at₁ r k₂ → (r.number ≡ 0 → ⊥)
           → Did D k at r k₂
       unfolding ◌then◌ went
-      owes-stop E o d z = record {
+      owes_stop E o d z = record {
         does = λ l. sym (said_no r.number (ctx k₂ r.at) E z) ∙ ap (λ x. bind x E) (d.does (o.whole ∙ l)) ∙ o.gives l;
         fits = d.fits;
         kept = d.kept ∙ o.kept;
@@ -94,18 +94,18 @@ module _ {D : Step Ctx} {k : Lent} {at : ℕ} where
 -- ---- one step after another
 
 module _ {k : Lent} {at : ℕ} {r : Went} {k₁ : Lent} {F : Step Ctx} where
-  pub then-on : {E : Step Ctx} {x : Went} {k₂ : Lent} → Did F k at r k₁ → r.number ≡ 0 → Did E k₁ r.at x k₂ → Did (F then E) k at x k₂
+  pub then_on : {E : Step Ctx} {x : Went} {k₂ : Lent} → Did F k at r k₁ → r.number ≡ 0 → Did E k₁ r.at x k₂ → Did (F then E) k at x k₂
   unfolding ◌then◌ went
-  then-on {E} d z g = record {
+  then_on {E} d z g = record {
     does = λ l. g.does (d.whole ∙ l) ∙ sym (said_on r.number (ctx k₁ r.at) E z) ∙ ap (λ x. bind x E) (d.does l);
     fits = g.fits;
     kept = g.kept ∙ d.kept;
     whole = g.whole ∙ d.whole;
   }
 
-  pub then-stop : (E : Step Ctx) → Did F k at r k₁ → (r.number ≡ 0 → ⊥) → Did (F then E) k at r k₁
+  pub then_stop : (E : Step Ctx) → Did F k at r k₁ → (r.number ≡ 0 → ⊥) → Did (F then E) k at r k₁
   unfolding ◌then◌ went
-  then-stop E d z = record {
+  then_stop E d z = record {
     does = λ l. sym (said_no r.number (ctx k₁ r.at) E z) ∙ ap (λ x. bind x E) (d.does l);
     fits = d.fits;
     kept = d.kept;
@@ -113,9 +113,9 @@ module _ {k : Lent} {at : ℕ} {r : Went} {k₁ : Lent} {F : Step Ctx} where
   }
 
   -- a second step that leaves everything as it is
-  pub then-none : (E : Step Ctx) → Did F k at r k₁ → r.number ≡ 0 → E (ctx k₁ r.at) ≡ ok (ctx k₁ r.at) → Did (F then E) k at r k₁
+  pub then_none : (E : Step Ctx) → Did F k at r k₁ → r.number ≡ 0 → E (ctx k₁ r.at) ≡ ok (ctx k₁ r.at) → Did (F then E) k at r k₁
   unfolding ◌then◌ went
-  then-none E d z e = record {
+  then_none E d z e = record {
     does = λ l. said_ok r.number (ctx k₁ r.at) z ∙ sym e ∙ sym (said_on r.number (ctx k₁ r.at) E z)
         ∙ ap (λ x. bind x E) (d.does l);
     fits = d.fits;

@@ -61,25 +61,25 @@ free_not i t = rw t
 -- ---- the events that wait
 
 module _ (q : Queue) (long : length q.items ≡ QUEUE) (fits : q.len ≤ QUEUE) (i : ℕ) where
-  pub waiting-long : length (waiting q) ≡ q.len
-  waiting-long = length-take-le q.len q.items (omega arith)
+  pub waiting_long : length (waiting q) ≡ q.len
+  waiting_long = length-take-le q.len q.items (omega arith)
 
-  pub waiting-at : (n : ℕ) (b : Bool) → i < q.len → b ≡ event_fits n (get_or q.items i no_item).event (get_or q.items i no_item).arg
+  pub waiting_at : (n : ℕ) (b : Bool) → i < q.len → b ≡ event_fits n (get_or q.items i no_item).event (get_or q.items i no_item).arg
       → item_fits n (get_or (waiting q) i no_item) ≡ b
   unfolding item_fits
-  waiting-at n b h e = rw (get_or-take q.len q.items i no_item h) (sym e)
+  waiting_at n b h e = rw (get_or-take q.len q.items i no_item h) (sym e)
 
 -- ---- the whole queue
 
 module _ (n : ℕ) (q : Queue) where
-  pub queue-over : QUEUE < q.len → false ≡ queue_fits n q
+  pub queue_over : QUEUE < q.len → false ≡ queue_fits n q
   unfolding queue_fits
-  queue-over h = rw (lt-leb q.len QUEUE h)
+  queue_over h = rw (lt-leb q.len QUEUE h)
 
-  pub queue-wrong : q.len ≤ QUEUE → every (item_fits n) (waiting q) ≡ false → false ≡ queue_fits n q
+  pub queue_wrong : q.len ≤ QUEUE → every (item_fits n) (waiting q) ≡ false → false ≡ queue_fits n q
   unfolding queue_fits
-  queue-wrong h e = rw (le-leb q.len QUEUE h, e)
+  queue_wrong h e = rw (le-leb q.len QUEUE h, e)
 
-  pub queue-right : q.len ≤ QUEUE → every (item_fits n) (waiting q) ≡ true → every is_none (drop q.len q.items) ≡ queue_fits n q
+  pub queue_right : q.len ≤ QUEUE → every (item_fits n) (waiting q) ≡ true → every is_none (drop q.len q.items) ≡ queue_fits n q
   unfolding queue_fits
-  queue-right h e = rw (le-leb q.len QUEUE h, e)
+  queue_right h e = rw (le-leb q.len QUEUE h, e)

@@ -6,7 +6,7 @@ use Rattle.numbers.specs.Reference.{NOWHERE}
 use Rattle.meaning.specs.Steps.{Step, ◌then◌, look}
 use Rattle.meaning.specs.declared.chart.VarRow.{VarRow}
 use Rattle.meaning.specs.declared.chart.Act.{Act}
-use Rattle.meaning.specs.declared.chart.Act.TheVariants.{SetTo as set_to, AddTo as add_to, TakeTo as take-to, Send as send, Tell as tell}
+use Rattle.meaning.specs.declared.chart.Act.TheVariants.{SetTo as set_to, AddTo as add_to, TakeTo as take_to, Send as send, Tell as tell}
 use Rattle.numbers.specs.declared.Place.{Place as Slot}
 use Rattle.numbers.specs.declared.Place.TheVariants.{Empty as empty, At as holds}
 use Rattle.meaning.specs.Widget.{Ctx, emit, changed, sent, change, set_value, value_at}
@@ -28,7 +28,7 @@ sending e x = emit (sent e x) then enqueue (pos e) x
 abbrev pub Named : Act → Type 0
 Named (set_to v x) = v < VARIABLES
 Named (add_to v x) = v < VARIABLES
-Named (take-to v) = v < VARIABLES
+Named (take_to v) = v < VARIABLES
 Named (send e x) = e < NOWHERE
 Named (tell x) = Unit {0}
 

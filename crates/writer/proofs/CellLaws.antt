@@ -11,7 +11,7 @@ use Rattle.meaning.specs.Number.{digits, numeral}
 use Rattle.meaning.specs.Split.{TAB}
 use Rattle.meaning.specs.Line.{write_field}
 use Rattle.forms.specs.Table.{field_of}
-use Rattle.forms.proofs.TableLaws.{Letters, letters-else, has_byte, ◌also◌, each_code}
+use Rattle.forms.proofs.TableLaws.{Letters, letters_else, has_byte, ◌also◌, each_code}
 use Rattle.round_trip.specs.Rows.{tells}
 use Rattle.round_trip.proofs.Fields.{letter_is}
 use Rattle.pen.specs.Pen.{Pen, put_byte, put_all}
@@ -19,21 +19,21 @@ use Rattle.pen.specs.Pen.{Pen, put_byte, put_all}
 -- ---- what tells a field
 
 module _ (k : ℕ) (z : ℤ) (t : Bool) where
-  pub tells-dash : k ≡ 45 → t ≡ is_absent z → t ≡ tells (field_of k) z
+  pub tells_dash : k ≡ 45 → t ≡ is_absent z → t ≡ tells (field_of k) z
   unfolding tells field_of
-  tells-dash e f = rw e f
+  tells_dash e f = rw e f
 
-  pub tells-place : k ≡ 95 → t ≡ is_absent z → t ≡ tells (field_of k) z
+  pub tells_place : k ≡ 95 → t ≡ is_absent z → t ≡ tells (field_of k) z
   unfolding tells field_of
-  tells-place e f = rw e f
+  tells_place e f = rw e f
 
-  pub tells-history : k ≡ 104 → t ≡ is_letter 104 z → t ≡ tells (field_of k) z
+  pub tells_history : k ≡ 104 → t ≡ is_letter 104 z → t ≡ tells (field_of k) z
   unfolding tells field_of
-  tells-history e f = rw e f
+  tells_history e f = rw e f
 
-  pub tells-letter : (m : ℕ) (ls : List ℕ) → field_of m ≡ letter ls → k ≡ m → t ≡ one_of_letters ls z → t ≡ tells (field_of k) z
+  pub tells_letter : (m : ℕ) (ls : List ℕ) → field_of m ≡ letter ls → k ≡ m → t ≡ one_of_letters ls z → t ≡ tells (field_of k) z
   unfolding tells
-  tells-letter m ls g e f = rw (e, g) f
+  tells_letter m ls g e f = rw (e, g) f
 
 module _ (k : ℕ) (z : ℤ) where
   pub tells_none : (k ≡ 45 → ⊥) → (k ≡ 104 → ⊥) → (k ≡ 95 → ⊥) → (k ≡ 111 → ⊥) → (k ≡ 98 → ⊥) → (k ≡ 61 → ⊥) → (k ≡ 119 → ⊥)
@@ -48,48 +48,48 @@ module _ (k : ℕ) (z : ℤ) where
 -- ---- what a field says
 
 module _ (k at : ℕ) (v : List ℤ) where
-  pub letter-byte : Letters (field_of k) → fits_field (field_of k) at v ≡ true → ref (num v at) < 256
-  letter-byte l e =
+  pub letter_byte : Letters (field_of k) → fits_field (field_of k) at v ≡ true → ref (num v at) < 256
+  letter_byte l e =
       let ls = l.letters in
       let f : one_of_letters ls (num v at) ≡ true = rw l.is at e in
       has_byte (ref (num v at)) ls l.small (letter_is ls (num v at) f).in_list
 
 module _ (k n at : ℕ) (v : List ℤ) (p r : Pen) where
-  pub said-turn : k ≡ 110 → r ≡ put_all (digits n) p → r ≡ put_all (write_field (field_of k) n at v) p
+  pub said_turn : k ≡ 110 → r ≡ put_all (digits n) p → r ≡ put_all (write_field (field_of k) n at v) p
   unfolding write_field field_of numeral
-  said-turn e f = rw e f
+  said_turn e f = rw e f
 
   module _ (z : ℤ) (f : r ≡ put_all (numeral z) p) where
-    pub said-number : z ≡ num v at → k ≡ 35 → r ≡ put_all (write_field (field_of k) n at v) p
+    pub said_number : z ≡ num v at → k ≡ 35 → r ≡ put_all (write_field (field_of k) n at v) p
     unfolding write_field field_of
-    said-number g e = rw (e, ← g) f
+    said_number g e = rw (e, ← g) f
 
-    pub said-count : z ≡ num v at → k ≡ 99 → r ≡ put_all (write_field (field_of k) n at v) p
+    pub said_count : z ≡ num v at → k ≡ 99 → r ≡ put_all (write_field (field_of k) n at v) p
     unfolding write_field field_of
-    said-count g e = rw (e, ← g) f
+    said_count g e = rw (e, ← g) f
 
-    pub said-state : z ≡ num v (at + 1) → k ≡ 115 → r ≡ put_all (write_field (field_of k) n at v) p
+    pub said_state : z ≡ num v (at + 1) → k ≡ 115 → r ≡ put_all (write_field (field_of k) n at v) p
     unfolding write_field field_of
-    said-state g e = rw (e, ← g) f
+    said_state g e = rw (e, ← g) f
 
-  pub said-history : (q : Pen) (z : ℤ) → z ≡ num v (at + 1) → k ≡ 104 → q ≡ put_byte 104 p → r ≡ put_all (numeral z) q
+  pub said_history : (q : Pen) (z : ℤ) → z ≡ num v (at + 1) → k ≡ 104 → q ≡ put_byte 104 p → r ≡ put_all (numeral z) q
       → r ≡ put_all (write_field (field_of k) n at v) p
   unfolding write_field field_of put_all
-  said-history q z g e b f = rw (e, ← g) (f ∙ ap (put_all (numeral z)) b)
+  said_history q z g e b f = rw (e, ← g) (f ∙ ap (put_all (numeral z)) b)
 
   module _ (f : r ≡ put_byte 45 p) where
-    pub said-dash : k ≡ 45 → r ≡ put_all (write_field (field_of k) n at v) p
+    pub said_dash : k ≡ 45 → r ≡ put_all (write_field (field_of k) n at v) p
     unfolding write_field field_of put_all
-    said-dash e = rw e f
+    said_dash e = rw e f
 
-    pub said-place : k ≡ 95 → r ≡ put_all (write_field (field_of k) n at v) p
+    pub said_place : k ≡ 95 → r ≡ put_all (write_field (field_of k) n at v) p
     unfolding write_field field_of put_all
-    said-place e = rw e f
+    said_place e = rw e f
 
   -- a letter: which, is no matter
-  pub said-letter : Letters (field_of k) → (b : ℕ) → b ≡ ref (num v at) → r ≡ put_byte b p → r ≡ put_all (write_field (field_of k) n at v) p
+  pub said_letter : Letters (field_of k) → (b : ℕ) → b ≡ ref (num v at) → r ≡ put_byte b p → r ≡ put_all (write_field (field_of k) n at v) p
   unfolding write_field put_all
-  said-letter l b g f = rw (l.is, ← g) f
+  said_letter l b g f = rw (l.is, ← g) f
 
 pub field_put : (x : List ℕ) (p q r : Pen) → q ≡ put_byte TAB p → r ≡ put_all x q → r ≡ put_all (TAB ∷ x) p
 unfolding put_all

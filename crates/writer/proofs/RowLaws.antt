@@ -18,13 +18,13 @@ use Rattle.meaning.specs.Split.{LF, ended, joined}
 use Rattle.meaning.specs.Line.{write_field, write_by, text_of_row}
 use Rattle.meaning.specs.Text.{lines_of, text_by}
 use Rattle.laws.proofs.Lists.{every_from_at}
-use Rattle.laws.proofs.Parts.{named-is}
+use Rattle.laws.proofs.Parts.{named_is}
 use Rattle.chart_rows.proofs.Named.{within_value}
 use Rattle.chart_rows.proofs.Rows.{chunk_at, length_chunks, num_at}
 use Rattle.round_trip.proofs.Forms.{Clear}
 use Rattle.round_trip.proofs.Records.{sized, clear}
 use Rattle.round_trip.proofs.Splits.{ended_append}
-use Rattle.round_trip.proofs.Values.{value-shaped}
+use Rattle.round_trip.proofs.Values.{value_shaped}
 use Rattle.pen.specs.Pen.{Pen, put_all}
 use Rattle.pen.proofs.Laws.{all_append}
 use Rattle.writer.specs.Row.{with_lf, line_at, Statable}
@@ -51,16 +51,16 @@ module _ (v : List ℤ) (b k : ℕ) where
   field_fits target_history i h = rw (next i h, here i (omega arith))
   field_fits target_none i h = rw (next i h, here i (omega arith))
 
-  field-text : (x : Field) (n i : ℕ) → i + width x ≤ k → write_field x n (b + i) v ≡ write_field x n i row
+  field_text : (x : Field) (n i : ℕ) → i + width x ≤ k → write_field x n (b + i) v ≡ write_field x n i row
   unfolding write_field
-  field-text turn n i h = refl
-  field-text number n i h = rw (here i h)
-  field-text (count low high) n i h = rw (here i h)
-  field-text (letter ls) n i h = rw (here i h)
-  field-text dash n i h = refl
-  field-text target_state n i h = rw (next i h)
-  field-text target_history n i h = rw (next i h)
-  field-text target_none n i h = refl
+  field_text turn n i h = refl
+  field_text number n i h = rw (here i h)
+  field_text (count low high) n i h = rw (here i h)
+  field_text (letter ls) n i h = rw (here i h)
+  field_text dash n i h = refl
+  field_text target_state n i h = rw (next i h)
+  field_text target_history n i h = rw (next i h)
+  field_text target_none n i h = refl
 
   row_fits : (a : Form) → Clear a → (i : ℕ) → i + size a ≤ k → fits a (b + i) v ≡ fits a i row
   row_fits (last x) c i h = field_fits x i h
@@ -69,33 +69,33 @@ module _ (v : List ℤ) (b k : ℕ) where
       rw (field_fits x i (omega arith), e, row_fits xs c.1 (i + width x) (omega arith))
   row_fits (a or b) c i h = let s = c.1.1.1 in rw (row_fits a c.0 i h, row_fits b c.1.0 i (omega arith))
 
-  row-text : (a : Form) → Clear a → (n i : ℕ) → i + size a ≤ k → write_by a n (b + i) v ≡ write_by a n i row
+  row_text : (a : Form) → Clear a → (n i : ℕ) → i + size a ≤ k → write_by a n (b + i) v ≡ write_by a n i row
   unfolding write_by
-  row-text (last x) c n i h = rw (field-text x n i h)
-  row-text (x tab xs) c n i h =
+  row_text (last x) c n i h = rw (field_text x n i h)
+  row_text (x tab xs) c n i h =
       let e : b + i + width x ≡ b + (i + width x) = omega arith in
-      rw (field-text x n i (omega arith), e, row-text xs c.1 n (i + width x) (omega arith))
-  row-text (a or b) c n i h =
-      let s = c.1.1.1 in rw (row_fits a c.0 i h, row-text a c.0 n i h, row-text b c.1.0 n i (omega arith))
+      rw (field_text x n i (omega arith), e, row_text xs c.1 n (i + width x) (omega arith))
+  row_text (a or b) c n i h =
+      let s = c.1.1.1 in rw (row_fits a c.0 i h, row_text a c.0 n i h, row_text b c.1.0 n i (omega arith))
 
 -- ---- what is left, from row i on
 
 module _ (f : ℕ → List ℤ → List ℕ) (rs : List (List ℤ)) where
-  unfoldable pub left-from : ℕ → List ℕ
-  left-from i = ended (map_from f i (drop i rs))
+  unfoldable pub left_from : ℕ → List ℕ
+  left_from i = ended (map_from f i (drop i rs))
 
-  left-more : (i : ℕ) (p q : Pen) → i < length rs → q ≡ put_all (with_lf (f i (get_or rs i []))) p
-      → put_all (left-from (i + 1)) q ≡ put_all (left-from i) p
-  unfolding left-from map_from ended with_lf
-  left-more i p q h e =
-      ap (put_all (left-from (i + 1))) e
-      ∙ sym (all_append (f i (get_or rs i []) ++ (LF ∷ [])) (left-from (i + 1)) p)
+  left_more : (i : ℕ) (p q : Pen) → i < length rs → q ≡ put_all (with_lf (f i (get_or rs i []))) p
+      → put_all (left_from (i + 1)) q ≡ put_all (left_from i) p
+  unfolding left_from map_from ended with_lf
+  left_more i p q h e =
+      ap (put_all (left_from (i + 1))) e
+      ∙ sym (all_append (f i (get_or rs i []) ++ (LF ∷ [])) (left_from (i + 1)) p)
       ∙ rw (drop-cons rs i [] h, add-one i, append_assoc)
 
-  left-none : (i : ℕ) (p q : Pen) → length rs ≤ i → put_all (left-from i) p ≡ put_all (left-from 0) q
+  left_none : (i : ℕ) (p q : Pen) → length rs ≤ i → put_all (left_from i) p ≡ put_all (left_from 0) q
       → p ≡ put_all (ended (map_from f 0 rs)) q
-  unfolding left-from map_from ended put_all
-  left-none i p q h e = rw (drop_of_length-le rs h) at e
+  unfolding left_from map_from ended put_all
+  left_none i p q h e = rw (drop_of_length-le rs h) at e
 
 -- the loop over the rows of the kind that a letter names
 module _ (v : List ℤ) (keeps : rule_0 v ≡ true) (k count : ℕ) (many : (count ≡ how_many v (record_by k)) × (count ≤ most (record_by k)))
@@ -109,15 +109,15 @@ module _ (v : List ℤ) (keeps : rule_0 v ≡ true) (k count : ℕ) (many : (cou
     begins = place (laid r) + i * row_size r
 
     abbrev lines_from : ℕ → List ℕ
-    lines_from j = left-from (text_of_row r) (rows_of v r) j
+    lines_from j = left_from (text_of_row r) (rows_of v r) j
 
     long : length (rows_of v r) ≡ count
     unfolding rows_of
     long = length_chunks (how_many v r) (row_size r) (drop (place (laid r)) v) ∙ sym many.0
 
-    pub rows-done : (p q : Pen) → count ≤ i → put_all (lines_from i) p ≡ put_all (lines_from 0) q
+    pub rows_done : (p q : Pen) → count ≤ i → put_all (lines_from i) p ≡ put_all (lines_from 0) q
         → p ≡ put_all (ended (lines_of (rows_of v) r)) q
-    rows-done p q h e = let l = long in left-none (text_of_row r) (rows_of v r) i p q (omega arith) e
+    rows_done p q h e = let l = long in left_none (text_of_row r) (rows_of v r) i p q (omega arith) e
 
     module _ (h : i < count) where
       row_is : get_or (rows_of v r) i [] ≡ take (row_size r) (drop begins v)
@@ -127,8 +127,8 @@ module _ (v : List ℤ) (keeps : rule_0 v ≡ true) (k count : ℕ) (many : (cou
           ∙ ap (take (row_size r)) (drop-drop (i * row_size r) (place (laid r)) v)
 
       -- the row ends within the value
-      pub next-near : begins + row_size r ≤ VALUE
-      next-near =
+      pub next_near : begins + row_size r ≤ VALUE
+      next_near =
           let m : suc i * row_size r ≤ most r * row_size r = let w = many.1 in mul-le-mul_right (row_size r) (omega arith) in
           let u = suc-mul i (row_size r) in
           let w = within_value r in
@@ -148,9 +148,9 @@ module _ (v : List ℤ) (keeps : rule_0 v ≡ true) (k count : ℕ) (many : (cou
       row_statable =
           let l = long in
           let z : 0 + i ≡ i = omega arith in
-          let f = every_from_at (statable r) 0 (rows_of v r) ((value-shaped v keeps).fitting r).ok i (omega arith) [] in
+          let f = every_from_at (statable r) 0 (rows_of v r) ((value_shaped v keeps).fitting r).ok i (omega arith) [] in
           let g : fits (form r i) 0 (take (row_size r) (drop begins v)) ≡ true = rw (z, row_is) at f in
-          let n = next-near in
+          let n = next_near in
           let w = many.1 in
           record {
             room = omega arith;
@@ -162,25 +162,25 @@ module _ (v : List ℤ) (keeps : rule_0 v ≡ true) (k count : ℕ) (many : (cou
       unfolding line_at text_of_row
       row_more p q f =
           let l = long in
-          let w = rw at_row at (row-text v begins (row_size r) (form r i) (clear r i) i 0 row_room) in
+          let w = rw at_row at (row_text v begins (row_size r) (form r i) (clear r i) i 0 row_room) in
           let t : line_at k i at v ≡ text_of_row r i (get_or (rows_of v r) i []) =
           rw (w, row_is)
           (ap (λ (m : ℕ). joined ((m ∷ []) ∷ write_by (form r i) i 0 (take (row_size r) (drop begins v))))
-          (named-is k i row_statable.room)) in
-          left-more (text_of_row r) (rows_of v r) i p q (omega arith) (f ∙ ap (λ (x : List ℕ). put_all (with_lf x) p) t)
+          (named_is k i row_statable.room)) in
+          left_more (text_of_row r) (rows_of v r) i p q (omega arith) (f ∙ ap (λ (x : List ℕ). put_all (with_lf x) p) t)
 
 -- ---- all kinds, one after the other
 
 module _ (rows : Rows) where
-  unfoldable pub kinds-from : ℕ → List ℕ
-  kinds-from i = ended (concat_map (lines_of rows) (drop i ORDER))
+  unfoldable pub kinds_from : ℕ → List ℕ
+  kinds_from i = ended (concat_map (lines_of rows) (drop i ORDER))
 
-  pub kind-more : (i : ℕ) (q : Record) (x y : Pen) → i < length ORDER → q ≡ get_or ORDER i no_record → y ≡ put_all (ended (lines_of rows q)) x
-      → put_all (kinds-from (i + 1)) y ≡ put_all (kinds-from i) x
-  unfolding kinds-from concat_map
-  kind-more i q x y h e f =
-      ap (put_all (kinds-from (i + 1))) f
-      ∙ sym (all_append (ended (lines_of rows q)) (kinds-from (i + 1)) x)
+  pub kind_more : (i : ℕ) (q : Record) (x y : Pen) → i < length ORDER → q ≡ get_or ORDER i no_record → y ≡ put_all (ended (lines_of rows q)) x
+      → put_all (kinds_from (i + 1)) y ≡ put_all (kinds_from i) x
+  unfolding kinds_from concat_map
+  kind_more i q x y h e f =
+      ap (put_all (kinds_from (i + 1))) f
+      ∙ sym (all_append (ended (lines_of rows q)) (kinds_from (i + 1)) x)
       ∙ rw (
         drop-cons ORDER i no_record h,
         add-one i,
@@ -188,7 +188,7 @@ module _ (rows : Rows) where
         ended_append (lines_of rows q) (concat_map (lines_of rows) (drop (suc i) ORDER)),
       )
 
-  pub kinds-done : (i : ℕ) (x y : Pen) → length ORDER ≤ i → put_all (kinds-from i) x ≡ put_all (kinds-from 0) y
+  pub kinds_done : (i : ℕ) (x y : Pen) → length ORDER ≤ i → put_all (kinds_from i) x ≡ put_all (kinds_from 0) y
       → x ≡ put_all (text_by rows) y
-  unfolding kinds-from concat_map ended put_all text_by
-  kinds-done i x y h e = rw (drop_of_length-le ORDER h) at e
+  unfolding kinds_from concat_map ended put_all text_by
+  kinds_done i x y h e = rw (drop_of_length-le ORDER h) at e

@@ -57,12 +57,12 @@ module _
     (v : List ℤ) (allowed : failing_rule_of v ≡ none) (o l : List ℕ) (n e : ℕ) (o_is : o ≡ zeros n)
     (w : pen l e ≡ put_all (text_of v) (pen o 0))
   where
-    w-zeros : pen l e ≡ put_all (text_of v) (pen (zeros n) 0)
-    w-zeros = w ∙ ap (λ (x : List ℕ). put_all (text_of v) (pen x 0)) o_is
+    w_zeros : pen l e ≡ put_all (text_of v) (pen (zeros n) 0)
+    w_zeros = w ∙ ap (λ (x : List ℕ). put_all (text_of v) (pen x 0)) o_is
 
-    zeros-length : length (zeros n) ≡ n
+    zeros_length : length (zeros n) ≡ n
     unfolding zeros
-    zeros-length = length-replicate {A = ℕ} n 0
+    zeros_length = length-replicate {A = ℕ} n 0
 
     tail : length (text_of v) ≤ n → sets (zeros n) 0 (text_of v) ≡ padded n 0 (text_of v)
     unfolding zeros padded
@@ -71,18 +71,18 @@ module _
         sets-eq (text_of v) (replicate n 0) 0 (omega (arith, length-replicate {A = ℕ} n 0)) ∙ rw (drop_zeros, z)
 
     -- the end of a text that fits, and of one that does not
-    ended-in : length (text_of v) ≤ n → (e ≡ length (text_of v)) × (l ≡ padded n 0 (text_of v))
-    ended-in h =
-        let b = zeros-length in
-        let f = w-zeros ∙ fits (text_of v) (zeros n) 0 (omega arith) in
+    ended_in : length (text_of v) ≤ n → (e ≡ length (text_of v)) × (l ≡ padded n 0 (text_of v))
+    ended_in h =
+        let b = zeros_length in
+        let f = w_zeros ∙ fits (text_of v) (zeros n) 0 (omega arith) in
         let z : 0 + length (text_of v) ≡ length (text_of v) = omega arith in
         (ap (λ (p : Pen). p.at) f ∙ z, ap (λ (p : Pen). p.bytes) f ∙ tail h)
 
-    ended-over : n < length (text_of v) → n < e
-    ended-over h =
-        let b = zeros-length in
+    ended_over : n < length (text_of v) → n < e
+    ended_over h =
+        let b = zeros_length in
         let x = all_over (text_of v) (zeros n) 0 (omega arith) in
-        let q : e ≡ (put_all (text_of v) (pen (zeros n) 0)).at = ap (λ (p : Pen). p.at) w-zeros in
+        let q : e ≡ (put_all (text_of v) (pen (zeros n) 0)).at = ap (λ (p : Pen). p.at) w_zeros in
         omega arith
 
     abbrev Seen : Written → List ℕ → Type 0
@@ -91,36 +91,36 @@ module _
     abbrev told : Answer → ℕ → Written
     told a k = record { answer = a; length = k }
 
-    seen-over : n < length (text_of v) → Seen (told (answer 13 0) 0) (zeros n)
+    seen_over : n < length (text_of v) → Seen (told (answer 13 0) 0) (zeros n)
     unfolding written write lent_bytes lent_result zeros
-    seen-over h = rw (allowed, lt-ltb n (length (text_of v)) h) (refl, refl)
+    seen_over h = rw (allowed, lt-ltb n (length (text_of v)) h) (refl, refl)
 
-    seen-in : length (text_of v) ≤ n → Seen (told (answer 0 0) (length (text_of v))) (padded n 0 (text_of v))
+    seen_in : length (text_of v) ≤ n → Seen (told (answer 0 0) (length (text_of v))) (padded n 0 (text_of v))
     unfolding written write lent_bytes lent_result
-    seen-in h = rw (allowed, le-ltb n (length (text_of v)) h) (refl, refl)
+    seen_in h = rw (allowed, le-ltb n (length (text_of v)) h) (refl, refl)
 
     -- by the place after the last byte
-    pub wrote-over : n < e → (m : List ℕ) (k : ℕ) → k ≡ n → m ≡ zeros k → Seen (told (answer 13 0) 0) m
-    wrote-over h m k ek em = go (ltb n (length (text_of v))) refl
+    pub wrote_over : n < e → (m : List ℕ) (k : ℕ) → k ≡ n → m ≡ zeros k → Seen (told (answer 13 0) 0) m
+    wrote_over h m k ek em = go (ltb n (length (text_of v))) refl
       where
         go : (t : Bool) → ltb n (length (text_of v)) ≡ t → Seen (told (answer 13 0) 0) m
-        go true x = rw (em, ek) (seen-over (ltb-true n (length (text_of v)) x))
-        go false x = let j = ltb-false n (length (text_of v)) x in let i = (ended-in j).0 in absurd (omega arith)
+        go true x = rw (em, ek) (seen_over (ltb-true n (length (text_of v)) x))
+        go false x = let j = ltb-false n (length (text_of v)) x in let i = (ended_in j).0 in absurd (omega arith)
 
-    pub wrote-in : e ≤ n → Seen (told (answer 0 0) e) l
-    wrote-in h = go (ltb n (length (text_of v))) refl
+    pub wrote_in : e ≤ n → Seen (told (answer 0 0) e) l
+    wrote_in h = go (ltb n (length (text_of v))) refl
       where
         go : (t : Bool) → ltb n (length (text_of v)) ≡ t → Seen (told (answer 0 0) e) l
-        go true x = let y = ended-over (ltb-true n (length (text_of v)) x) in absurd (omega arith)
-        go false x = let i = ended-in (ltb-false n (length (text_of v)) x) in rw (i.0, i.1) (seen-in (ltb-false n (length (text_of v)) x))
+        go true x = let y = ended_over (ltb-true n (length (text_of v)) x) in absurd (omega arith)
+        go false x = let i = ended_in (ltb-false n (length (text_of v)) x) in rw (i.0, i.1) (seen_in (ltb-false n (length (text_of v)) x))
 
 -- ---- the verdict of the rules
 
 module _ (v : List ℤ) (a : Answer) (e : a ≡ verdict (failing_rule_of v)) where
-  pub wrote-refused : (n k : ℕ) (m : List ℕ) → (a.number ≡ 0 → ⊥) → k ≡ n → m ≡ zeros k
+  pub wrote_refused : (n k : ℕ) (m : List ℕ) → (a.number ≡ 0 → ⊥) → k ≡ n → m ≡ zeros k
       → (record { answer = a; length = 0 } ≡ written v n) × (m ≡ lent_bytes n (write v n))
   unfolding verdict written write lent_bytes lent_result zeros
-  wrote-refused n k m h ek em = go (failing_rule_of v) e
+  wrote_refused n k m h ek em = go (failing_rule_of v) e
     where
       go : (o : Option ℕ) → a ≡ verdict o
           → (◌≡◌ {A = Written} (record { answer = a; length = 0 })

@@ -1,0 +1,10 @@
+-- `slots_from` reads a slot for each state. The measure is the states that are left. Assumes nothing.
+use Prim.Native.Nat.{◌-◌, ◌≤◌}
+use Rattle.sizes.specs.Sizes.{STATES}
+use Rattle.call_vectors.proofs.saved.slots_from.Given as goal
+
+abbrev pub invariant-loop-k : goal.invariant-loop-k
+invariant-loop-k l = l.k ≤ STATES
+
+abbrev pub decreases-loop-k : goal.decreases-loop-k
+decreases-loop-k l = STATES - l.k

@@ -1,0 +1,23 @@
+-- `default_child` reads the field of its row. Assumes nothing.
+use mathlib.Core.Path.{sym, ◌∙◌}
+use native.Mathlib.Omega.{arith}
+use Rattle.meaning.specs.Value.{chart_of, ref_or_none}
+use Rattle.chart_rows.proofs.Said.{said_of}
+use Rattle.chart_rows.proofs.Rows.{states_most, default_at, default_none}
+use Rattle.chart_rows.proofs.default_child.Goals as goal
+
+pub overflow_mul-s : goal.overflow_mul-s
+overflow_mul-s c = omega (arith, states_most c.args.chart.now)
+
+pub overflow_add-s : goal.overflow_add-s
+overflow_add-s c = omega (arith, states_most c.args.chart.now)
+
+pub overflow_add-s-then-s-state_count : goal.overflow_add-s-then-s-state_count
+overflow_add-s-then-s-state_count c = omega (arith, states_most c.args.chart.now)
+
+pub returns-then-s-state_count : goal.returns-then-s-state_count
+returns-then-s-state_count c = said_of ref_or_none c.number_at.type_inv c.number_at.ensures c.ref_or_none.ensures
+    ∙ sym (default_at c.args.chart.now c.args.s (omega arith))
+
+pub returns-else-s-state_count : goal.returns-else-s-state_count
+returns-else-s-state_count c = sym (default_none (chart_of c.args.chart.now) c.args.s (omega arith))

@@ -1,0 +1,15 @@
+-- `code_length`: four numbers to an instruction. Assumes nothing.
+use Rattle.emitter.proofs.Laws.{emits_at}
+use Rattle.compiler.proofs.Bounds.{code_most}
+use native.Mathlib.Omega.{arith}
+use Rattle.compiler.proofs.code_length.Goals as goal
+
+pub put_code-end-requires : goal.put_code-end-requires
+put_code-end-requires c = (
+  c.requires.0,
+  c.requires.1,
+  omega (arith, code_most c.args.chart.now c.requires.0.ruled),
+)
+
+pub returns : goal.returns
+returns c = omega (arith, emits_at _ _ _ c.put_code-end.ensures)

@@ -1,0 +1,29 @@
+-- `put_code`: the start block, then the blocks. Assumes nothing.
+use Rattle.meaning.specs.Compile.{code_of}
+use Rattle.emitter.proofs.Laws.{put_both, emits_at}
+use Rattle.compiler.proofs.Bounds.{code_long}
+use native.Mathlib.Omega.{arith}
+use Rattle.compiler.proofs.put_code.Goals as goal
+
+pub put_start-p-requires : goal.put_start-p-requires
+put_start-p-requires c = (
+  c.requires.0,
+  omega (arith, c.requires.2, code_long c.args.chart.now c.requires.0.ruled),
+)
+
+pub put_blocks-requires : goal.put_blocks-requires
+put_blocks-requires c = (
+  c.requires.0,
+  c.requires.1,
+  omega (
+    arith,
+    c.requires.2,
+    emits_at _ _ _ c.put_start-p.ensures,
+    code_long c.args.chart.now
+        c.requires.0.ruled,
+  ),
+)
+
+pub returns : goal.returns
+unfolding code_of
+returns c = put_both _ _ _ c.put_start-p.ensures c.put_blocks.ensures

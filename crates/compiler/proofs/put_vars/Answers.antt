@@ -1,0 +1,51 @@
+-- `put_vars` puts three numbers for each variable. Assumes nothing.
+use mir.Facts.{to_z-of_z}
+use mir.Syntax.{w32}
+use mir.Val.{SFits}
+use Rattle.chart_rows.proofs.Rows.{vars_most}
+use Rattle.compiler.proofs.Heading.{ranging_begin, ranging_on, ranging_end, same_sized}
+use borrow.Author.Rules.{rules}
+use native.Mathlib.Omega.{arith}
+use Rattle.compiler.proofs.put_vars.Goals as goal
+
+pub loop-v-init : goal.loop-v-init
+loop-v-init c = ranging_begin _ _ _
+
+pub put_three-p-requires : goal.put_three-p-requires
+put_three-p-requires c =
+    omega (
+      arith,
+      c.loop-v.invariant.placed,
+      c.loop-v-test.true,
+      c.var_count-n.ensures,
+      vars_most c.args.chart.now,
+      c.requires,
+    )
+
+pub overflow_step-v : goal.overflow_step-v
+overflow_step-v c =
+    omega (
+      arith,
+      c.loop-v-test.true,
+      c.var_count-n.ensures,
+      vars_most c.args.chart.now,
+    )
+
+pub loop-v-smaller : goal.loop-v-smaller
+loop-v-smaller c = omega (arith, c.loop-v-test.true)
+
+pub loop-v-preserved : goal.loop-v-preserved
+loop-v-preserved c =
+    let fl : SFits w32 c.var_row-row.result.low = search rules in
+    let fh : SFits w32 c.var_row-row.result.high = search rules in
+    let ff : SFits w32 c.var_row-row.result.first = search rules in
+    ranging_on c.loop-v.invariant
+    (omega (arith, c.loop-v-test.true, c.var_count-n.ensures)) _
+    c.var_row-row.ensures
+    (rw (to_z-of_z fl, to_z-of_z fh, to_z-of_z ff) at c.put_three-p.ensures)
+
+pub shape_of-plan : goal.shape_of-plan
+shape_of-plan c = omega (arith, same_sized _ _ _ _ _ _ c.loop-v.invariant.owes)
+
+pub returns : goal.returns
+returns c = ranging_end c.loop-v.invariant (omega (arith, c.loop-v-test.false, c.var_count-n.ensures))

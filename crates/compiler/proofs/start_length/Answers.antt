@@ -1,0 +1,11 @@
+-- `start_length`: four numbers to an instruction. Assumes nothing.
+use Rattle.emitter.proofs.Laws.{emits_at}
+use Rattle.compiler.proofs.Bounds.{start_few}
+use native.Mathlib.Omega.{arith}
+use Rattle.compiler.proofs.start_length.Goals as goal
+
+pub put_start-end-requires : goal.put_start-end-requires
+put_start-end-requires c = (c.requires, omega (arith, start_few c.args.chart.now c.requires.ruled))
+
+pub returns : goal.returns
+returns c = omega (arith, emits_at _ _ _ c.put_start-end.ensures)

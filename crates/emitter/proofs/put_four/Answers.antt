@@ -1,0 +1,14 @@
+-- `put_four` puts four numbers one after the other. Assumes nothing.
+use mir.Facts.{to_z-of_z}
+use Rattle.emitter.proofs.Laws.{four}
+use Rattle.emitter.proofs.put_four.Goals as goal
+
+pub returns : goal.returns
+returns c =
+    four c.args.plan.now c.args.at c.args.a
+    c.args.b c.args.c c.args.d
+    (rw (to_z-of_z c.ranges.a) at
+    c.put.ensures)
+    (rw (to_z-of_z c.ranges.b) at c.put-2.ensures)
+    (rw (to_z-of_z c.ranges.c) at c.put-3.ensures)
+    (rw (to_z-of_z c.ranges.d) at c.put-4.ensures)

@@ -1,0 +1,17 @@
+-- `set` reads the row of the variable. Assumes nothing.
+use mir.Facts.{to_z-of_z}
+use Rattle.plan_code.proofs.Executing.{row_there, row_is, var_below}
+use Rattle.plan_code.proofs.set.Goals as goal
+
+pub var_row-requires : goal.var_row-requires
+var_row-requires c = row_there c.args.plan.now c.args.v c.requires.0
+
+pub assign-requires : goal.assign-requires
+assign-requires c =
+    (var_below c.args.plan.now c.args.v c.requires.0, c.requires.1)
+
+pub returns : goal.returns
+returns c = (
+  c.assign.ensures.0,
+  λ k. rw (to_z-of_z c.ranges.x, row_is c.args.plan.now c.args.v c.requires.0 c.var_row.ensures) at (c.assign.ensures.1 k),
+)

@@ -1,0 +1,6 @@
+-- `plan_session::run_plan` goes on only with a plan that was examined. Assumes nothing.
+use Rattle.plan_session.proofs.Passed.{was_passed}
+use Rattle.plan_session.proofs.run_plan.Goals as goal
+
+pub run_widget-requires : goal.run_widget-requires
+run_widget-requires c = was_passed c.args.plan.now c.examine-verdict.ensures c.if-verdict-ne0.false

@@ -1,0 +1,13 @@
+use mathlib.Core.Path.{◌≡◌}
+use Prim.Native.Nat.{◌-◌}
+use lib.ListN.{drop}
+use Rattle.meaning.specs.Lists.{every}
+use Rattle.meaning.specs.Rules.{transition_fits, rule_6}
+use Rattle.meaning.specs.Value.{chart_of}
+use Rattle.rules.proofs.records.rule_6.Given as goal
+
+abbrev pub invariant-loop-i : goal.invariant-loop-i
+invariant-loop-i l = every (transition_fits (chart_of l.chart)) (drop l.i (chart_of l.chart).transitions) ≡ rule_6 (chart_of l.chart)
+
+abbrev pub decreases-loop-i : goal.decreases-loop-i
+decreases-loop-i l = l.n - l.i

@@ -1,0 +1,34 @@
+-- `copy` writes number by number. Assumes nothing.
+use mathlib.Core.Path.{sym, ◌∙◌}
+use borrow.Author.Rules.{rules}
+use native.Mathlib.Omega.{arith}
+use lib.ListN.{drop, length-drop}
+use lib.Seq.{paste-zero, get_or-drop}
+use lib.IntN.{pos}
+use Rattle.numbers.proofs.Laws.{back32}
+use Rattle.saved.proofs.Pasted.{paste_more, paste_done}
+use Rattle.saved.proofs.copy.Goals as goal
+
+pub loop-i-init : goal.loop-i-init
+loop-i-init c = (
+  omega arith,
+  paste-zero c.args.to.now c.args.place (drop c.args.at c.args.from.now),
+  search rules,
+)
+
+pub loop-i-preserved : goal.loop-i-preserved
+loop-i-preserved c =
+    let a = c.args in
+    let l = c.loop-i in (
+      omega arith,
+      paste_more a.to.now (drop a.at a.from.now) l.to a.place l.i _ (pos 0) l.invariant.1
+          (back32 _ c.n-1.given ∙ sym (get_or-drop a.at a.from.now l.i (pos 0))) (omega arith)
+          (rw length-drop (omega arith)),
+      search rules,
+    )
+
+pub returns : goal.returns
+returns c =
+    let a = c.args in
+    let l = c.loop-i in
+    paste_done a.to.now (drop a.at a.from.now) l.to a.place l.i a.count l.invariant.1 (omega arith)

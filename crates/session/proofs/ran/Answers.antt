@@ -1,0 +1,14 @@
+-- `ran` runs the front event and prints what the run gives. Assumes nothing.
+use mathlib.Core.Path.{◌≡◌, ◌∙◌}
+use lib.ListN.{length}
+use Rattle.session.proofs.Steps.{run_takes}
+use borrow.Author.Rules.{rules}
+use Rattle.session.proofs.ran.Goals as goal
+
+pub returns : goal.returns
+returns c =
+    let call = c.before.before.before.before.before.before.before.before in
+    let top = call.before.before.before in
+    let k : length c.run_checked-called.new.1.1.0 ≡ length top.args.trace.now = search rules in
+    run_takes _ _ _ _ _ _ top.requires.0 _ _ top.requires.1 (k ∙ top.requires.1) _
+    c.report-place.ensures c.run_checked-called.ensures

@@ -1,0 +1,16 @@
+-- `started` starts a widget and prints what the start gives. Assumes nothing.
+use mathlib.Core.Path.{◌≡◌, ◌∙◌}
+use lib.ListN.{length}
+use Rattle.session.proofs.Steps.{start_takes}
+use borrow.Author.Rules.{rules}
+use Rattle.session.proofs.started.Goals as goal
+
+pub returns : goal.returns
+returns c =
+    let call = c.before.before.before.before.before.before.before.before in
+    let none = call.before.before in
+    let top = none.before.before in
+    let k : length c.start_checked-called.new.1.1.0 ≡ length top.args.trace.now = search rules in
+    rw c.unstarted.ensures.result at
+    (start_takes _ _ _ _ _ _ top.requires.0 _ _ top.requires.1 (k ∙ top.requires.1) _
+    c.report-place.ensures c.start_checked-called.ensures)
