@@ -1,6 +1,6 @@
 /* Quasarhorn for C and C++: the engine's calls on numbers and bytes that the host lends (docs/HOST.md).
  *
- * Link with libboundary.a, for x86-64: `rt staticlib boundary` makes it. The archive needs memcpy and memset, and nothing else: it
+ * Link with libboundary.a, for x86-64: `tests/archive` makes it. The archive needs memcpy and memset, and nothing else: it
  * allocates nothing, keeps nothing between calls, and any number of threads may call it, each with memory of its own.
  *
  * Every call may be made with any numbers in slices of any length; a slice of length 0 may have any pointer that is aligned and not null.

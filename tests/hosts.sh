@@ -1,6 +1,7 @@
 # shellcheck shell=bash
 # Sourced by the scripts that link the engine's archive with Rust and C: finds their compilers, and makes the archive.
-# The archive is for x86-64. On another processor everything is compiled for x86-64 and runs under an emulator.
+# The archive is made on x86-64 and for x86-64. On another processor one that was made elsewhere (--archive) can be tried: everything is
+# compiled for x86-64 and runs under an emulator.
 #
 # After `find_compilers INSTALL`, `rust` is cargo with its words for this machine, `c_compiler` compiles C, and `run_x86` runs what they made.
 # INSTALL is yes or no: whether Debian's packages may be installed where something is missing.
@@ -19,7 +20,7 @@ find_compilers() { # INSTALL
     fi
     c_compiler=cc emulate=()
     if [ "$machine" != x86_64 ]; then
-        c_compiler=x86_64-linux-gnu-gcc emulate=("$(kit_emulator || printf qemu-x86_64)")
+        c_compiler=x86_64-linux-gnu-gcc emulate=(qemu-x86_64)
         [ ! -d /usr/x86_64-linux-gnu ] || emulate+=(-L /usr/x86_64-linux-gnu)
         # under the emulator glibc copies and clears large blocks byte by byte unless told otherwise
         export GLIBC_TUNABLES=glibc.cpu.hwcaps=-ERMS,-FSRM
@@ -31,14 +32,6 @@ find_compilers() { # INSTALL
     [ "${#lacking[@]}" -eq 0 ] && return 0
     say "still missing: ${lacking[*]}"
     return "$NOT_MADE"
-}
-
-# The toolchain's own emulator, where it has one; the toolchain is found from the command rt.
-kit_emulator() {
-    local rt kit
-    rt=$(command -v rt) || return 1
-    kit=${RATTLE_HOME:-$(cd "$(dirname "$(readlink -f "$rt")")/.." && pwd -P)}
-    [ -x "$kit/on/$machine/toolchain/bin/qemu-x86_64" ] && printf '%s\n' "$kit/on/$machine/toolchain/bin/qemu-x86_64"
 }
 
 # What is missing, and Debian's packages that have it.
@@ -110,7 +103,7 @@ run_x86() { # PROGRAM WORDS...
     ${emulate[@]+"${emulate[@]}"} "$@"
 }
 
-# The archive, proved where anything changed since it was last; or the one in a folder that was named.
+# The archive of the crate boundary_c, proved where anything changed since it was last; or the one in a folder that was named.
 find_archive() { # FOLDER
     if [ -n "$1" ]; then
         [ -f "$1/libboundary.a" ] || { say "no libboundary.a in $1"; return 2; }
@@ -118,7 +111,7 @@ find_archive() { # FOLDER
     else
         command -v rt >/dev/null 2>&1 || { say 'the command rt is not on the path'; return 2; }
         mkdir -p "$here/target"
-        if ! (cd "$here" && rt staticlib boundary) >"$here/target/staticlib.log" 2>&1; then
+        if ! "$here/tests/archive" >"$here/target/staticlib.log" 2>&1; then
             tail -n 5 "$here/target/staticlib.log"
             say 'the archive was not made (target/staticlib.log says why)'
             return 2

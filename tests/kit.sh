@@ -1,27 +1,26 @@
-# Sourced by the scripts that run a program: builds it where anything changed, and says how it is run here.
-# Programs are for x86-64: on another processor the toolchain's emulator runs them. The toolchain is found from the command rt.
+# Sourced by the scripts that run a program: builds it where anything changed. Programs are for x86-64.
 # After `build_program ROOT NAME`, `run_program` runs the program in the current folder, on standard input.
 
 build_program() { # ROOT NAME
-    local rt kit
-    rt=$(command -v rt) || { printf 'the command rt is not on the path\n' >&2; return 2; }
-    kit=${RATTLE_HOME:-$(cd "$(dirname "$(readlink -f "$rt")")/.." && pwd -P)}
-    tools=$kit/on/$(uname -m)/toolchain
-    loader=$tools/lib/ld-linux-x86-64.so.2
-    emulator=$tools/bin/qemu-x86_64
-    [ -x "$emulator" ] || emulator=''
-    # under the emulator glibc copies and clears large blocks byte by byte unless told otherwise
-    [ -z "$emulator" ] || [ "$(uname -m)" = x86_64 ] || export GLIBC_TUNABLES=glibc.cpu.hwcaps=-ERMS,-FSRM
-    for word in $(env | sed -n 's/^\(QEMU_[A-Za-z0-9_]*\)=.*/\1/p'); do unset "$word"; done
-    program=$1/target/bin/$2
+    command -v rt >/dev/null 2>&1 || { printf 'the command rt is not on the path\n' >&2; return 2; }
     mkdir -p "$1/target"
-    if ! (cd "$1" && rt check "$2") >"$1/target/$2.log" 2>&1 || [ ! -x "$program" ]; then
+    # rt proves and links it, and runs it once where it stands, on nothing: in the crate's folder there is no chart
+    if ! (cd "$1/crates/$2" && rt run) </dev/null >"$1/target/$2.log" 2>&1; then
         tail -n 5 "$1/target/$2.log"
         printf 'the program %s was not built (target/%s.log says why)\n' "$2" "$2" >&2
         return 2
     fi
+    as_built "$1" "$2"
+}
+
+# The program as the last build left it.
+as_built() { # ROOT NAME
+    program=$1/crates/$2/out/$2
+    [ -x "$program" ] && return
+    printf 'there is no program crates/%s/out/%s\n' "$2" "$2" >&2
+    return 2
 }
 
 run_program() {
-    ${emulator:+"$emulator"} "$loader" --library-path "$tools/lib" "$program"
+    "$program"
 }

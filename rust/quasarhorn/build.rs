@@ -1,4 +1,4 @@
-//! Finds the engine's archive, libboundary.a: in the folder named by QUASARHORN_ARCHIVE, or where `rt staticlib boundary` leaves it.
+//! Finds the engine's archive, libboundary.a: in the folder named by QUASARHORN_ARCHIVE, or where `tests/archive` leaves it.
 
 use std::env;
 use std::fs;
@@ -14,7 +14,7 @@ fn main() {
         Ok(bytes) => bytes,
         Err(e) => {
             eprintln!("{}: {}", archive.display(), e);
-            eprintln!("The engine's archive is made by `rt staticlib boundary` in the repository; QUASARHORN_ARCHIVE names its folder.");
+            eprintln!("The engine's archive is made by `tests/archive` in the repository; QUASARHORN_ARCHIVE names its folder.");
             std::process::exit(1);
         }
     };

@@ -16,8 +16,7 @@ use telling::{end, stop, tell, too_few};
 // ---- charts, texts and plans
 
 // The rules' check.
-#[unsafe(no_mangle)]
-pub extern "C" fn qh_check(chart: &[i32], report: &mut [i32; 2]) -> i32
+pub fn qh_check(chart: &[i32], report: &mut [i32; 2]) -> i32
     ensures { HostChecked chart.now result report.new }
 {
     let checked = engine::check(chart);
@@ -25,8 +24,7 @@ pub extern "C" fn qh_check(chart: &[i32], report: &mut [i32; 2]) -> i32
 }
 
 // Reads a chart's text into a chart's numbers.
-#[unsafe(no_mangle)]
-pub extern "C" fn qh_read(text: &[u8], chart: &mut [i32], report: &mut [i32; 2]) -> i32
+pub fn qh_read(text: &[u8], chart: &mut [i32], report: &mut [i32; 2]) -> i32
     ensures { HostRead text.now chart.old result report.new chart.new }
 {
     let read = engine::read(text, chart);
@@ -34,8 +32,7 @@ pub extern "C" fn qh_read(text: &[u8], chart: &mut [i32], report: &mut [i32; 2])
 }
 
 // Writes a chart's text; the count is its length in bytes.
-#[unsafe(no_mangle)]
-pub extern "C" fn qh_write(chart: &[i32], text: &mut [u8], report: &mut [i32; 2]) -> i32
+pub fn qh_write(chart: &[i32], text: &mut [u8], report: &mut [i32; 2]) -> i32
     ensures { HostWrote chart.now text.old result report.new text.new }
 {
     let written = engine::write(chart, text);
@@ -44,8 +41,7 @@ pub extern "C" fn qh_write(chart: &[i32], text: &mut [u8], report: &mut [i32; 2]
 }
 
 // Compiles a chart into a plan; the count is the plan's length in numbers.
-#[unsafe(no_mangle)]
-pub extern "C" fn qh_compile(chart: &[i32], plan: &mut [i32], report: &mut [i32; 2]) -> i32
+pub fn qh_compile(chart: &[i32], plan: &mut [i32], report: &mut [i32; 2]) -> i32
     ensures { HostCompiled chart.now plan.old result report.new plan.new }
 {
     let compiled = engine::plans::compile(chart, plan);
@@ -54,8 +50,7 @@ pub extern "C" fn qh_compile(chart: &[i32], plan: &mut [i32], report: &mut [i32;
 }
 
 // Examines numbers as a plan.
-#[unsafe(no_mangle)]
-pub extern "C" fn qh_examine(plan: &[i32], report: &mut [i32; 2]) -> i32
+pub fn qh_examine(plan: &[i32], report: &mut [i32; 2]) -> i32
     ensures { HostExamined plan.now result report.new }
 {
     let examined = engine::plans::examine(plan);
@@ -63,8 +58,7 @@ pub extern "C" fn qh_examine(plan: &[i32], report: &mut [i32; 2]) -> i32
 }
 
 // A widget not yet started.
-#[unsafe(no_mangle)]
-pub extern "C" fn qh_unstarted(widget: &mut [i32], report: &mut [i32; 2]) -> i32
+pub fn qh_unstarted(widget: &mut [i32], report: &mut [i32; 2]) -> i32
     ensures { HostUnstarted widget.old result report.new widget.new }
 {
     let state = engine::unstarted();
@@ -95,13 +89,7 @@ pub extern "C" fn qh_unstarted(widget: &mut [i32], report: &mut [i32; 2]) -> i32
 // ---- the calls on a widget over its chart
 
 // Starts the widget, whatever its numbers hold.
-#[unsafe(no_mangle)]
-pub extern "C" fn qh_start(
-    chart: &[i32],
-    widget: &mut [i32],
-    trace: &mut [i32],
-    report: &mut [i32; 2],
-) -> i32
+pub fn qh_start(chart: &[i32], widget: &mut [i32], trace: &mut [i32], report: &mut [i32; 2]) -> i32
     ensures { HostStarted chart.now widget.old trace.old result report.new
         widget.new trace.new }
 {
@@ -117,13 +105,7 @@ pub extern "C" fn qh_start(
 }
 
 // Runs the front event.
-#[unsafe(no_mangle)]
-pub extern "C" fn qh_run(
-    chart: &[i32],
-    widget: &mut [i32],
-    trace: &mut [i32],
-    report: &mut [i32; 2],
-) -> i32
+pub fn qh_run(chart: &[i32], widget: &mut [i32], trace: &mut [i32], report: &mut [i32; 2]) -> i32
     ensures { HostRan chart.now widget.old trace.old result report.new
         widget.new trace.new }
 {
@@ -133,8 +115,7 @@ pub extern "C" fn qh_run(
 }
 
 // Posts an event with an argument.
-#[unsafe(no_mangle)]
-pub extern "C" fn qh_post(
+pub fn qh_post(
     chart: &[i32],
     widget: &mut [i32],
     event: i32,
@@ -149,8 +130,7 @@ pub extern "C" fn qh_post(
 }
 
 // Discards the front event.
-#[unsafe(no_mangle)]
-pub extern "C" fn qh_discard(chart: &[i32], widget: &mut [i32], report: &mut [i32; 2]) -> i32
+pub fn qh_discard(chart: &[i32], widget: &mut [i32], report: &mut [i32; 2]) -> i32
     ensures { HostDiscarded chart.now widget.old result report.new widget.new }
 {
     let state = load(widget);
@@ -161,8 +141,7 @@ pub extern "C" fn qh_discard(chart: &[i32], widget: &mut [i32], report: &mut [i3
 // ---- the calls on a widget over a plan
 
 // Starts the widget, whatever its numbers hold.
-#[unsafe(no_mangle)]
-pub extern "C" fn qh_plan_start(
+pub fn qh_plan_start(
     plan: &[i32],
     widget: &mut [i32],
     trace: &mut [i32],
@@ -183,8 +162,7 @@ pub extern "C" fn qh_plan_start(
 }
 
 // Runs the front event.
-#[unsafe(no_mangle)]
-pub extern "C" fn qh_plan_run(
+pub fn qh_plan_run(
     plan: &[i32],
     widget: &mut [i32],
     trace: &mut [i32],
@@ -199,8 +177,7 @@ pub extern "C" fn qh_plan_run(
 }
 
 // Posts an event with an argument.
-#[unsafe(no_mangle)]
-pub extern "C" fn qh_plan_post(
+pub fn qh_plan_post(
     plan: &[i32],
     widget: &mut [i32],
     event: i32,
@@ -215,8 +192,7 @@ pub extern "C" fn qh_plan_post(
 }
 
 // Discards the front event.
-#[unsafe(no_mangle)]
-pub extern "C" fn qh_plan_discard(plan: &[i32], widget: &mut [i32], report: &mut [i32; 2]) -> i32
+pub fn qh_plan_discard(plan: &[i32], widget: &mut [i32], report: &mut [i32; 2]) -> i32
     ensures { HostPlanDiscarded plan.now widget.old result report.new widget.new }
 {
     let state = load(widget);
@@ -225,8 +201,7 @@ pub extern "C" fn qh_plan_discard(plan: &[i32], widget: &mut [i32], report: &mut
 }
 
 // Posts and runs events, each number with its argument after it, up to the first refusal; the trace is the last run's.
-#[unsafe(no_mangle)]
-pub extern "C" fn qh_plan_replay(
+pub fn qh_plan_replay(
     plan: &[i32],
     widget: &mut [i32],
     events: &[i32],

@@ -1,17 +1,17 @@
 -- The tests of a call in turn (01, "Answer numbers", the order): 5 first, then 7, 6; laws over plain variables. Assumes nothing.
-use mathlib.Core.Path.{◌≡◌, refl, sym, ap, ◌∙◌, subst}
+use mathlib.Core.Path.{◌≡◌, refl, ap, subst}
 use Prim.Native.Nat.{ℕ}
 use native.Mathlib.Omega.{arith}
-use mathlib.Core.Bool.{Bool, true, false, cond, false≢true}
+use mathlib.Core.Bool.{Bool, true, false, cond}
 use mathlib.Core.List.{List}
 use lib.IntN.{ℤ}
 use Rattle.meaning.specs.declared.State.{State}
 use Rattle.meaning.specs.declared.Answer.{Answer}
 use Rattle.meaning.specs.declared.plan.Counts.{Counts}
 use Rattle.meaning.specs.Plan.{Plan}
-use Rattle.meaning.specs.Steps.{Res, ok, refuse, Step, bind, ◌then◌, require}
+use Rattle.meaning.specs.Steps.{refuse, Step, bind, ◌then◌, require}
 use Rattle.meaning.specs.Widget.{Ctx}
-use Rattle.meaning.specs.Calls.{Outcome, as_found}
+use Rattle.meaning.specs.Calls.{as_found}
 use Rattle.meaning.specs.Machine.{plan_start, plan_run, plan_post, plan_discard, plan_own}
 use Rattle.meaning.specs.Machine.{plan_tests, machine_start, machine_run, machine_post, machine_discard}
 use Rattle.meaning.specs.WellFormed.{counts_of, plan_by, well_formed}

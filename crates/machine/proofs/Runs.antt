@@ -1,14 +1,14 @@
 -- A run, test by test, and the widget that it works on: laws over plain variables. Assumes nothing.
-use mathlib.Core.Path.{◌≡◌, refl, sym, ap, ◌∙◌, subst}
-use Prim.Native.Nat.{ℕ, ◌-◌, ◌≤◌, ◌<◌}
+use mathlib.Core.Path.{◌≡◌, sym, ap, ◌∙◌, subst}
+use Prim.Native.Nat.{ℕ, ◌-◌, ◌≤◌}
 use native.Mathlib.Omega.{arith}
-use mathlib.Core.Bool.{Bool, true, false, cond, ◌&&◌}
-use mathlib.Core.List.{List, []}
+use mathlib.Core.Bool.{Bool, true, false, cond}
+use mathlib.Core.List.{List}
 use lib.ListN.{length, get_or}
 use lib.Dec.{eqb, leb, ltb}
 use lib.IntN.{ℤ}
 use borrow.Author.Tests.{leb-true}
-use Rattle.sizes.specs.Sizes.{STATES, QUEUE}
+use Rattle.sizes.specs.Sizes.{QUEUE}
 use Rattle.numbers.specs.Reference.{ref}
 use Rattle.queue.specs.Queue.{no_item, shifted, removed}
 use Rattle.queue.specs.Numbers.{QUEUE_NUMBERS, queue_by, numbers_of}
@@ -18,14 +18,14 @@ use Rattle.queue.proofs.Tidy.{removed_long}
 use Rattle.queue.proofs.Numbers.{held_lent, numbers_long}
 use Rattle.meaning.specs.declared.State.{State}
 use Rattle.meaning.specs.declared.Called.{Called}
-use Rattle.meaning.specs.Steps.{Res, ok, refuse, Step, bind, ◌then◌, require}
+use Rattle.meaning.specs.Steps.{refuse, Step, bind, ◌then◌, require}
 use Rattle.meaning.specs.Plan.{Plan}
 use Rattle.meaning.specs.Widget.{Ctx, is_active, set_queue, change, begin}
 use Rattle.meaning.specs.Foreign.{marks_fit, values_fit, queue_fits}
-use Rattle.meaning.specs.Calls.{Outcome, as_found, outcome, take_front, called, lent}
-use Rattle.meaning.specs.Machine.{plan_step, plan_settle, plan_tests, plan_react, plan_run, plan_slots_fit, plan_own}
+use Rattle.meaning.specs.Calls.{as_found, outcome, take_front}
+use Rattle.meaning.specs.Machine.{plan_step, plan_settle, plan_react, plan_run, plan_slots_fit, plan_own}
 use Rattle.laws.proofs.Lists.{and_left, and_right}
-use Rattle.widget.specs.View.{Lent, all_lent, widget, went, Did}
+use Rattle.widget.specs.View.{Lent, all_lent, widget, went}
 use Rattle.widget.specs.declared.Went.{Went}
 use Rattle.widget.proofs.Going as going
 use Rattle.plan_code.specs.Code.{Ran}

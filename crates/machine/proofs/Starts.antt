@@ -1,18 +1,17 @@
 -- A start: the first values, the fresh widget as it is lent, and the start block before null steps; laws over plain variables.
 -- Assumes nothing.
-use mathlib.Core.Path.{◌≡◌, refl, sym, ap, ◌∙◌, subst}
+use mathlib.Core.Path.{◌≡◌, sym, ap, ◌∙◌, subst}
 use Prim.Native.Nat.{ℕ, zero, suc, ◌+◌, ◌-◌, ◌≤◌, ◌<◌}
 use native.Mathlib.Omega.{arith}
 use native.Mathlib.Nat.{sub-zero}
-use mathlib.Core.Bool.{Bool, true, false}
-use mathlib.Core.List.{List, [], ◌++◌, map}
-use lib.ListN.{length, get_or, take, drop, replicate, set, length-map, length-replicate}
+use mathlib.Core.Bool.{true, false}
+use mathlib.Core.List.{List, ◌++◌, map}
+use lib.ListN.{length, take, drop, replicate, set, length-map, length-replicate}
 use lib.Seq.{take_all}
 use lib.IntN.{ℤ, pos, negsuc}
 use Rattle.sizes.specs.Sizes.{STATES, VARIABLES, QUEUE}
 use Rattle.queue.specs.Queue.{no_item, empty_queue}
 use Rattle.queue.specs.Numbers.{QUEUE_NUMBERS, queue_by, numbers_of}
-use Rattle.queue.specs.declared.Queue.{Queue}
 use Rattle.queue.proofs.Copy.{copied, copied_suc}
 use Rattle.queue.proofs.Numbers.{held_lent, numbers_long}
 use Rattle.meaning.specs.declared.State.{State}
@@ -20,16 +19,15 @@ use Rattle.meaning.specs.declared.Called.{Called}
 use Rattle.meaning.specs.declared.plan.Counts.{Counts}
 use Rattle.meaning.specs.declared.chart.VarRow.{VarRow}
 use Rattle.meaning.specs.Lists.{padded}
-use Rattle.meaning.specs.Steps.{Step, ◌then◌}
 use Rattle.meaning.specs.Chart.{no_var}
 use Rattle.meaning.specs.Tree.{var_row}
 use Rattle.meaning.specs.Plan.{Plan}
-use Rattle.meaning.specs.Widget.{Ctx, begin}
-use Rattle.meaning.specs.Calls.{fresh_by, outcome, called, lent}
+use Rattle.meaning.specs.Widget.{begin}
+use Rattle.meaning.specs.Calls.{fresh_by, outcome}
 use Rattle.meaning.specs.Machine.{run_block, plan_settle, plan_start_steps, plan_start}
-use Rattle.meaning.specs.WellFormed.{counts_of, plan_by}
+use Rattle.meaning.specs.WellFormed.{plan_by}
 use Rattle.laws.proofs.Value.{get_d_map}
-use Rattle.widget.specs.View.{Lent, all_lent, ctx, widget, went, Did}
+use Rattle.widget.specs.View.{Lent, all_lent, widget, went}
 use Rattle.widget.specs.declared.Went.{Went}
 use Rattle.widget.proofs.Going as going
 use Rattle.plan_choice.specs.Heads.{Examined}

@@ -1,19 +1,18 @@
 -- Post and discard over a plan, test by test (01, "Answer numbers", the order). Assumes nothing.
-use mathlib.Core.Path.{◌≡◌, refl, sym, ap, ◌∙◌}
-use mathlib.Core.Bool.{Bool, true, false}
+use mathlib.Core.Path.{◌≡◌, sym, ap, ◌∙◌}
+use mathlib.Core.Bool.{true, false}
 use Prim.Native.Nat.{ℕ}
 use lib.IntN.{ℤ}
-use Rattle.queue.specs.declared.Queue.{Queue}
 use Rattle.queue.specs.declared.Queued.{Queued}
 use Rattle.queue.specs.declared.Removed.{Removed}
 use Rattle.queue.specs.Queue.{appended, removed}
 use Rattle.meaning.specs.declared.State.{State}
 use Rattle.meaning.specs.Plan.{Plan}
-use Rattle.meaning.specs.Steps.{Res, ok, refuse, Step, bind, ◌then◌, require, look}
+use Rattle.meaning.specs.Steps.{Step, ◌then◌, require, look}
 use Rattle.meaning.specs.Widget.{Ctx, set_queue, change, begin}
 use Rattle.meaning.specs.Effects.{take_queue, enqueue}
 use Rattle.meaning.specs.Foreign.{event_fits}
-use Rattle.meaning.specs.Calls.{as_found, outcome, called, take_front}
+use Rattle.meaning.specs.Calls.{as_found, called, take_front}
 use Rattle.meaning.specs.Machine.{plan_tests, plan_post, plan_discard}
 use Rattle.queue_calls.specs.Parts.{quiet}
 use Rattle.queue_calls.proofs.Answering.{refusing, ending}

@@ -1,14 +1,13 @@
 -- What the chooser uses of a plan that was examined: its sizes, that its rows are there, and that a head names states and variables.
 -- Assumes nothing.
-use mathlib.Core.Path.{◌≡◌, refl, sym, ap, ◌∙◌, subst}
-use Prim.Native.Nat.{ℕ, suc, ◌+◌, ◌*◌, ◌≤◌, ◌<◌}
+use mathlib.Core.Path.{◌≡◌, refl, sym, subst}
+use Prim.Native.Nat.{ℕ, ◌+◌, ◌*◌, ◌≤◌, ◌<◌}
 use native.Mathlib.Omega.{arith}
-use mathlib.Core.Bool.{Bool, true, false, ◌&&◌, ◌||◌, cond, false≢true}
+use mathlib.Core.Bool.{Bool, true, false, ◌&&◌, cond, false≢true}
 use mathlib.Core.List.{List, []}
-use lib.ListN.{length, get_or, take, drop}
+use lib.ListN.{length, get_or, drop}
 use lib.IntN.{ℤ, pos, negsuc}
 use borrow.Author.Tests.{leb-true, ltb-true}
-use lib.Dec.{leb, ltb}
 use Rattle.sizes.specs.Sizes.{STATES, VARIABLES, EVENTS, TRANSITIONS}
 use Rattle.numbers.specs.Equal.{eq_z}
 use Rattle.numbers.specs.Range.{in_range}
@@ -20,7 +19,6 @@ use Rattle.meaning.specs.Lists.{every}
 use Rattle.meaning.specs.Value.{num, count_fits}
 use Rattle.meaning.specs.declared.plan.Counts.{Counts}
 use Rattle.meaning.specs.declared.plan.Head.{Head}
-use Rattle.meaning.specs.declared.chart.Guard.{Guard}
 use Rattle.meaning.specs.WellFormed.{HEAD_ROW, counts_of, counts_keep, heads_at, plan_end}
 use Rattle.meaning.specs.WellFormed.{var_rows, head_rows, head_guard_by, head_by, plan_by}
 use Rattle.meaning.specs.WellFormed.{var_keeps, one_of, head_guard_fits, span_fits}
@@ -30,7 +28,7 @@ use Rattle.plan_rows.specs.Rows.{row, Sized}
 use Rattle.plan_rows.proofs.Rows.{sized, heads_length, head_rows_length, head_rows_at, head_of_plan, head_there}
 use Rattle.plan_rows.proofs.Kept.{HeadKept, head_kept}
 use Rattle.choice.specs.Choice.{Reads}
-use Rattle.plan_choice.specs.Heads.{Examined, head_at, Spanned, head_of}
+use Rattle.plan_choice.specs.Heads.{Examined, Spanned, head_of}
 
 -- ---- the parts of the test
 

@@ -1,9 +1,9 @@
 -- The chooser's loop over the heads, turn by turn, over plain variables. Assumes nothing.
 use mathlib.Core.Path.{◌≡◌, refl, sym, ap, ◌∙◌, subst}
-use Prim.Native.Nat.{ℕ, suc, ◌+◌, ◌*◌, ◌≤◌, ◌<◌}
+use Prim.Native.Nat.{ℕ, suc, ◌+◌, ◌≤◌, ◌<◌}
 use native.Mathlib.Omega.{arith}
 use mathlib.Core.Bool.{Bool, true, false}
-use mathlib.Core.List.{List, [], ◌∷◌, ◌++◌, map}
+use mathlib.Core.List.{List, [], ◌++◌, map}
 use lib.ListN.{length, get_or, take, drop, set, length-set, length-map}
 use lib.Seq.{length-take-le, get_or-take}
 use lib.IntN.{ℤ}
@@ -16,10 +16,9 @@ use Rattle.meaning.specs.declared.State.{State}
 use Rattle.meaning.specs.declared.plan.Counts.{Counts}
 use Rattle.meaning.specs.declared.plan.Head.{Head}
 use Rattle.meaning.specs.Machine.{head_enabled, spans_meet, thin_heads, chosen_heads}
-use Rattle.meaning.specs.WellFormed.{HEAD_ROW, counts_of, heads_at, plan_by}
-use Rattle.plan_rows.specs.Rows.{Sized}
+use Rattle.meaning.specs.WellFormed.{heads_at, plan_by}
 use Rattle.choice.specs.Choice.{seen}
-use Rattle.plan_choice.specs.Heads.{Examined, head_of, picked, Picks, Chose}
+use Rattle.plan_choice.specs.Heads.{Examined, head_of, picked, Chose}
 use Rattle.plan_choice.specs.Links.{head_from, heads_below, SOURCES, STARTS, listed, Linked}
 use Rattle.plan_choice.proofs.Linking.{from_on, from_most, from_own, keep_from}
 use Rattle.plan_choice.proofs.Lining.{below_up, listed_in, listed_past}

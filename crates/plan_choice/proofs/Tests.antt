@@ -3,17 +3,16 @@
 use mathlib.Core.Path.{◌≡◌, refl, sym, ap, ◌∙◌, subst}
 use Prim.Native.Nat.{ℕ, ◌+◌, ◌≤◌, ◌<◌}
 use native.Mathlib.Omega.{arith}
-use mathlib.Core.Bool.{Bool, true, false, ◌&&◌, and-false}
+use mathlib.Core.Bool.{Bool, true, false}
 use mathlib.Core.List.{List}
 use lib.ListN.{get_or}
 use lib.IntN.{ℤ, pos, negsuc}
 use lib.Signed.{lt_z}
 use lib.Dec.{eqb, leb, ltb}
-use borrow.Author.Tests.{ltb-true, eq-eqb, ne_eqb, le-leb, lt-leb}
+use borrow.Author.Tests.{ltb-true, eq-eqb, le-leb, lt-leb}
 use Rattle.numbers.specs.Reference.{ref, NOWHERE}
 use Rattle.laws.proofs.Lists.{is_false}
 use Rattle.meaning.specs.declared.State.{State}
-use Rattle.meaning.specs.declared.plan.Head.{Head}
 use Rattle.meaning.specs.declared.chart.Guard.{Guard}
 use Rattle.meaning.specs.Widget.{is_active}
 use Rattle.meaning.specs.Reaction.{guard_holds}

@@ -4,7 +4,7 @@
 use mathlib.Core.Path.{◌∙◌, ◌≡◌, ap, refl, subst, sym}
 use Prim.Native.Nat.{◌+◌, ◌-◌, ◌*◌, ◌<◌, ◌≤◌, suc, zero, ℕ}
 use native.Mathlib.Omega.{arith}
-use mathlib.Core.Bool.{Bool, ◌&&◌, ◌||◌, false, false≢true, true}
+use mathlib.Core.Bool.{◌&&◌, ◌||◌, false≢true, true}
 use mathlib.Core.List.{List, [], ◌++◌, ◌∷◌, map}
 use lib.ListN.{get_or-eq_default, drop, get_or, length, take}
 use lib.Seq.{drop-drop}
@@ -25,14 +25,13 @@ use Rattle.meaning.specs.WellFormed.{SHAPES, Operand, SIX, HEAD_ROW, INSTR_ROW, 
 use Rattle.meaning.specs.WellFormed.{a_state, shape, unused, counts_of, heads_at, code_at, head_rows}
 use Rattle.meaning.specs.WellFormed.{head_by, instr_of, instr_act_by, instr_by, plan_by}
 use Rattle.meaning.specs.WellFormed.{all_blocks_fill, blocks_fill, operand_fits, shape_fits, instr_fits}
-use Rattle.meaning.specs.WellFormed.{left_after_each, left_in_blocks, code_fits, no_shape, well_formed}
-use Rattle.plan_rows.specs.Rows.{row, Sized}
+use Rattle.meaning.specs.WellFormed.{left_after_each, left_in_blocks, code_fits, no_shape}
+use Rattle.plan_rows.specs.Rows.{Sized}
 use Rattle.plan_rows.proofs.Rows.{code_length, head_rows_length, head_rows_at, instr_of_plan, instr_there}
-use Rattle.plan_rows.proofs.Blocks.{fills_within, fills_first, fills_rest, left_cons, code_next, code_first, code_block}
-use Rattle.chart_rows.proofs.Rows.{num_at}
+use Rattle.plan_rows.proofs.Blocks.{fills_within, fills_first, fills_rest, code_next, code_first, code_block}
 use Rattle.widget.specs.Acts.{Below}
 use Rattle.plan_choice.specs.Heads.{Examined, head_of}
-use Rattle.plan_choice.proofs.Facts.{Passed, passes, counts_sized}
+use Rattle.plan_choice.proofs.Facts.{passes, counts_sized}
 use Rattle.plan_code.specs.Code.{Runs, instr_at, Block}
 
 -- ---- the numbers of one instruction

@@ -8,14 +8,13 @@ use mathlib.Core.List.{List, [], ◌∷◌}
 use lib.ListN.{length, get_or, take, drop}
 use lib.Seq.{drop-drop, drop-cons}
 use lib.IntN.{ℤ}
-use Rattle.sizes.specs.Sizes.{INSTRUCTIONS}
 use Rattle.meaning.specs.declared.chart.VarRow.{VarRow}
 use Rattle.meaning.specs.declared.plan.Instr.{Instr}
 use Rattle.meaning.specs.WellFormed.{INSTR_ROW, counts_of, code_at, plan_by}
 use Rattle.meaning.specs.Steps.{Res, ok, refuse, Step, bind, each}
 use Rattle.meaning.specs.Widget.{Ctx}
 use Rattle.meaning.specs.Machine.{Mach, passing, exec_now, exec_at, exec, run_code, end_code, run_block}
-use Rattle.widget.specs.View.{Lent, ctx, tracing, said, went, Did, Owes}
+use Rattle.widget.specs.View.{Lent, ctx, tracing, said, went, Owes}
 use Rattle.widget.specs.declared.Went.{Went}
 use Rattle.widget.proofs.Going as going
 use Rattle.plan_code.specs.declared.Moved.{Moved}

@@ -2,10 +2,10 @@
 use mathlib.Core.Path.{◌≡◌, refl, sym, ap, ◌∙◌, subst}
 use Prim.Native.Nat.{ℕ, ◌+◌, ◌*◌, ◌≤◌, ◌<◌}
 use native.Mathlib.Omega.{arith}
-use mathlib.Core.Bool.{Bool, true, false, not, ◌&&◌, false≢true}
+use mathlib.Core.Bool.{Bool, true, false, not}
 use mathlib.Core.List.{List}
-use borrow.Author.Tests.{eqb-true, ne_eqb, le-ltb}
-use lib.Dec.{eqb, ltb}
+use borrow.Author.Tests.{le-ltb}
+use lib.Dec.{ltb}
 use lib.IntN.{ℤ, pos, negsuc}
 use lib.ListN.{length, get_or, take, drop}
 use Rattle.sizes.specs.Sizes.{STATES}
@@ -22,7 +22,7 @@ use Rattle.meaning.specs.Value.{VAR_ROW, var_by}
 use Rattle.meaning.specs.Widget.{is_active}
 use Rattle.meaning.specs.Foreign.{marks_fit, values_fit, queue_fits}
 use Rattle.meaning.specs.Machine.{plan_slot_fits, plan_slots_fit, plan_own}
-use Rattle.meaning.specs.WellFormed.{SIX, counts_of, plan_by}
+use Rattle.meaning.specs.WellFormed.{SIX, plan_by}
 use Rattle.plan_rows.specs.Rows.{row}
 use Rattle.plan_rows.proofs.Rows.{vars_length, var_of_plan, var_there}
 use Rattle.plan_choice.specs.Heads.{Examined}

@@ -2,15 +2,13 @@
 use mathlib.Core.Path.{◌≡◌, refl, sym, ap, ◌∙◌, subst}
 use Prim.Native.Nat.{ℕ, ◌+◌, ◌*◌, ◌≤◌, ◌<◌}
 use native.Mathlib.Omega.{arith}
-use mathlib.Core.List.{List, map}
-use lib.ListN.{length, get_or, drop, take}
-use lib.Seq.{length-take-le, get_or-take}
+use mathlib.Core.List.{List}
+use lib.ListN.{length, get_or, drop}
 use lib.IntN.{ℤ, pos}
 use Rattle.numbers.specs.Reference.{ref, NOWHERE}
-use Rattle.laws.proofs.Value.{get_d_map}
-use Rattle.meaning.specs.Steps.{Step, ◌then◌, each}
-use Rattle.meaning.specs.Widget.{Ctx, emit, taken}
-use Rattle.meaning.specs.Machine.{head_block, fire_head, run_block}
+use Rattle.meaning.specs.Steps.{◌then◌, each}
+use Rattle.meaning.specs.Widget.{emit, taken}
+use Rattle.meaning.specs.Machine.{head_block, fire_head}
 use Rattle.meaning.specs.Plan.{Plan}
 use Rattle.meaning.specs.declared.plan.Counts.{Counts}
 use Rattle.meaning.specs.declared.plan.Head.{Head}

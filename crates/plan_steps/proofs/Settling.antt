@@ -1,6 +1,6 @@
 -- One step and null steps, turn by turn, over plain variables: what is still owed after so many turns. Assumes nothing.
-use mathlib.Core.Path.{◌≡◌, refl, sym, ap, ◌∙◌, subst, fun_ext}
-use Prim.Native.Nat.{ℕ, zero, suc, ◌+◌, ◌-◌, ◌≤◌, ◌<◌}
+use mathlib.Core.Path.{◌≡◌, refl, sym, ap, ◌∙◌, fun_ext}
+use Prim.Native.Nat.{ℕ, zero, suc, ◌+◌, ◌-◌, ◌≤◌}
 use native.Mathlib.Omega.{arith}
 use mathlib.Core.Bool.{Bool}
 use mathlib.Core.List.{List, [], ◌∷◌}
@@ -10,19 +10,19 @@ use Rattle.sizes.specs.Sizes.{NULL_STEPS, TRANSITIONS}
 use Rattle.meaning.specs.declared.State.{State}
 use Rattle.meaning.specs.declared.plan.Counts.{Counts}
 use Rattle.meaning.specs.declared.plan.Head.{Head}
-use Rattle.meaning.specs.Steps.{Res, ok, refuse, Step, bind, ◌then◌, skip, look, each}
+use Rattle.meaning.specs.Steps.{ok, refuse, Step, bind, ◌then◌, skip, look, each}
 use Rattle.meaning.specs.Lists.{keep}
 use Rattle.meaning.specs.Plan.{Plan}
 use Rattle.meaning.specs.Reaction.{if_any}
 use Rattle.meaning.specs.Widget.{Ctx, is_active}
 use Rattle.meaning.specs.Machine.{head_enabled, thin_heads, chosen_heads, fire_head, plan_step, plan_settle_in, plan_settle}
 use Rattle.meaning.specs.WellFormed.{heads_at, plan_by}
-use Rattle.widget.specs.View.{Lent, ctx, tracing, said, went, Did, Owes}
+use Rattle.widget.specs.View.{Lent, ctx, tracing, said, went, Owes}
 use Rattle.widget.specs.declared.Went.{Went}
 use Rattle.widget.proofs.Going as going
 use Rattle.choice.specs.Choice.{seen}
 use Rattle.choice.proofs.Seen.{guard_seen}
-use Rattle.plan_choice.specs.Heads.{Examined, picked, Picks, Chose}
+use Rattle.plan_choice.specs.Heads.{Examined, picked, Chose}
 use Rattle.plan_choice.specs.Links.{STARTS, Linked}
 use Rattle.plan_choice.proofs.Loop.{chose_empty}
 use Rattle.plan_code.specs.Code.{Ran}

@@ -3,16 +3,15 @@ use mathlib.Core.Path.{◌≡◌, refl, sym, ap, ◌∙◌, subst}
 use Prim.Native.Nat.{ℕ, suc, ◌+◌, ◌≤◌, ◌<◌}
 use native.Mathlib.Omega.{arith}
 use native.Mathlib.Numerals.{add-one}
-use mathlib.Core.Bool.{Bool, true, false, false≢true, true≢false}
+use mathlib.Core.Bool.{Bool, true, false, false≢true}
 use mathlib.Core.List.{List, [], ◌∷◌, ◌++◌}
 use lib.ListN.{length, get_or, take, drop, take-append-drop, length-drop}
 use lib.Seq.{drop-cons, take_all, take-suc}
 use Rattle.sizes.specs.Sizes.{QUEUE, STATES}
-use Rattle.queue.specs.Numbers.{QUEUE_NUMBERS, queue_by}
+use Rattle.queue.specs.Numbers.{queue_by}
 use Rattle.queue.specs.Queue.{no_item}
 use Rattle.queue.specs.declared.Item.{Item}
 use Rattle.queue.proofs.Numbers.{places_long}
-use Rattle.invariants.specs.Good.{Sized}
 use Rattle.invariants.proofs.Values.{fits_free}
 use Rattle.meaning.specs.Calls.{Outcome, as_found as refusal}
 use Rattle.meaning.specs.Machine.{plan_post, plan_run}

@@ -1,6 +1,6 @@
 -- An event's way through the queue, over plain variables: no room, nothing waits before it, something waits before it. Assumes nothing.
 use mathlib.Core.Path.{◌≡◌, refl, sym, ap, ◌∙◌, subst}
-use Prim.Native.Nat.{ℕ, zero, suc, ◌+◌, ◌-◌, ◌*◌, ◌<◌, ◌≤◌}
+use Prim.Native.Nat.{ℕ, ◌+◌, ◌<◌, ◌≤◌}
 use native.Mathlib.Omega.{arith}
 use mathlib.Core.Bool.{true, false, false≢true, true≢false}
 use mathlib.Core.List.{List, [], ◌∷◌, ◌++◌, append-nil}
@@ -12,7 +12,7 @@ use Rattle.numbers.specs.Equal.{eq_z}
 use Rattle.numbers.specs.Reference.{ref}
 use Rattle.numbers.proofs.Laws.{eq_z_true}
 use Rattle.queue.specs.Queue.{appended, item, no_item, removed}
-use Rattle.queue.specs.Numbers.{QUEUE_NUMBERS, numbers_of, places, queue_by}
+use Rattle.queue.specs.Numbers.{QUEUE_NUMBERS, numbers_of, queue_by}
 use Rattle.queue.specs.declared.Item.{Item}
 use Rattle.queue.specs.declared.Queue.{Queue}
 use Rattle.queue.specs.declared.Removed.{Removed}

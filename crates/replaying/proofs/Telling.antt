@@ -1,15 +1,15 @@
 -- The ends of a replay, over plain variables: what is told; the tests for 7 and 6; a widget as it is lent; a refused run. Assumes nothing.
 use mathlib.Core.Path.{◌≡◌, refl, sym, ap, ◌∙◌, subst}
-use Prim.Native.Nat.{ℕ, ◌+◌, ◌-◌, ◌*◌, ◌/◌, ◌≤◌, ◌<◌}
+use Prim.Native.Nat.{ℕ, ◌-◌, ◌/◌, ◌≤◌}
 use native.Mathlib.Omega.{arith}
 use mathlib.Core.Bool.{Bool, true, false}
-use mathlib.Core.List.{List, [], ◌∷◌, ◌++◌}
+use mathlib.Core.List.{List, [], ◌++◌}
 use lib.ListN.{length, get_or, replicate, take}
 use lib.Seq.{length-take-le}
 use lib.IntN.{ℤ, pos}
 use Rattle.sizes.specs.Sizes.{QUEUE}
 use Rattle.queue.specs.Numbers.{numbers_of, queue_by}
-use Rattle.queue.specs.Queue.{appended, item, no_item}
+use Rattle.queue.specs.Queue.{appended, no_item}
 use Rattle.queue.specs.declared.Item.{Item}
 use Rattle.queue.specs.declared.Queue.{Queue}
 use Rattle.queue.proofs.Numbers.{held_lent, numbers_long}
@@ -24,9 +24,9 @@ use Rattle.meaning.specs.Steps.{◌then◌, bind, require}
 use Rattle.meaning.specs.Widget.{ENTRY, begin, is_active, set_queue}
 use Rattle.meaning.specs.declared.State.{State}
 use Rattle.widget.specs.View.{Lent, all_lent, widget, with_queue}
-use Rattle.plan_invariants.specs.Replay.{post_on, replay_examined, run_on}
+use Rattle.plan_invariants.specs.Replay.{post_on, replay_examined}
 use Rattle.plan_invariants.proofs.Calls.{own_fit}
-use Rattle.promises.specs.Replay.{Course, course, or_stop, replay_by, replayed}
+use Rattle.promises.specs.Replay.{Course, course, or_stop, replayed}
 use Rattle.promises.specs.declared.Replayed.{Replayed}
 use Rattle.replaying.specs.Course.{Broken, GoneThrough, Owned, Starts, Told, through}
 use Rattle.replaying.specs.declared.course.Gone.{Gone}

@@ -5,25 +5,23 @@ use Prim.Native.Nat.{ℕ, ◌≤◌, ◌<◌}
 use native.Mathlib.Omega.{arith}
 use mathlib.Core.Bool.{Bool, true, false, false≢true, true≢false}
 use mathlib.Core.List.{List, []}
-use lib.ListN.{length, get_or, take}
-use lib.Dec.{ltb}
+use lib.ListN.{length, get_or}
 use lib.IntN.{ℤ}
-use borrow.Author.Tests.{ltb-true}
 use Rattle.sizes.specs.Sizes.{QUEUE}
 use Rattle.numbers.specs.Reference.{ref}
 use Rattle.queue.specs.Queue.{appended, removed}
-use Rattle.queue.specs.Numbers.{QUEUE_NUMBERS, queue_by}
+use Rattle.queue.specs.Numbers.{queue_by}
 use Rattle.queue.specs.declared.Item.{Item}
 use Rattle.queue.specs.declared.Queue.{Queue}
 use Rattle.queue.specs.declared.Removed.{Removed}
 use Rattle.queue.proofs.Waiting.{appended_full}
 use Rattle.laws.proofs.Lists.{le_or_lt}
-use Rattle.meaning.specs.Calls.{Outcome, outcome, as_found, take_front}
+use Rattle.meaning.specs.Calls.{outcome, as_found, take_front}
 use Rattle.meaning.specs.Effects.{enqueue, take_queue}
 use Rattle.meaning.specs.Foreign.{event_fits}
 use Rattle.meaning.specs.Machine.{plan_react, plan_settle, plan_step}
 use Rattle.meaning.specs.Plan.{Plan}
-use Rattle.meaning.specs.Steps.{Step, ◌then◌, bind, look, refuse, require}
+use Rattle.meaning.specs.Steps.{Step, ◌then◌, bind, look, require}
 use Rattle.meaning.specs.Widget.{Ctx, begin, change, is_active, set_queue}
 use Rattle.meaning.specs.declared.State.{State}
 use Rattle.widget.specs.View.{Lent, Whole, widget, with_queue}

@@ -37,14 +37,14 @@ module _ (started : Bool) where
 
   tests_refuse : (c : Chart) (k : Ctx) → tests c none k ≡ refuse (answered started)
   unfolding tests ◌then◌ bind require no_widget own legal is_active
-  tests_refuse c k = elim started [
+  tests_refuse c k = elim started as (λ b. tests c (no_widget b) k ≡ refuse (answered b)) [
     | true ↦ refl
     | false ↦ refl
   ]
 
   plan_tests_refuse : (p : Plan) (k : Ctx) → plan_tests p none k ≡ refuse (answered started)
   unfolding plan_tests ◌then◌ bind require no_widget plan_own is_active
-  plan_tests_refuse p k = elim started [
+  plan_tests_refuse p k = elim started as (λ b. plan_tests p (no_widget b) k ≡ refuse (answered b)) [
     | true ↦ refl
     | false ↦ refl
   ]

@@ -19,7 +19,7 @@
 //! # Ok::<(), quasarhorn::Refused>(())
 //! ```
 //!
-//! The engine itself is an archive for x86-64, `libboundary.a`, made by `rt staticlib boundary`; the environment variable
+//! The engine itself is an archive for x86-64, `libboundary.a`, made by `tests/archive`; the environment variable
 //! `QUASARHORN_ARCHIVE` names its folder where it is not `target/staticlib` of this repository. [`numbers`] has its calls as they are,
 //! for a host that keeps its own numbers.
 

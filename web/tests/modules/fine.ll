@@ -1,4 +1,4 @@
-; may be retargeted: a pointer in a slot of 8 bytes, a place counted in bytes
+; may be retargeted: a pointer in a slot of 8 bytes, a place counted in bytes, two numbers given back at once
 source_filename = "rattle"
 target datalayout = "e-m:e-p270:32:32-p271:32:32-p272:64:64-i64:64-i128:128-f80:128-n8:16:32:64-S128"
 target triple = "x86_64-unknown-linux-gnu"
@@ -18,4 +18,19 @@ none:
   ret i32 7
 other:
   ret i32 %r
+}
+
+define internal { i8, i64 } @two(i64 %n) {
+  %r = alloca [16 x i8], align 8
+  store i8 1, ptr %r, align 8
+  %t = getelementptr i8, ptr %r, i64 8
+  store i64 %n, ptr %t, align 8
+  %both = load { i8, i64 }, ptr %r, align 8
+  ret { i8, i64 } %both
+}
+
+define i64 @qh_two(i64 %n) {
+  %both = call { i8, i64 } @two(i64 %n)
+  %m = extractvalue { i8, i64 } %both, 1
+  ret i64 %m
 }

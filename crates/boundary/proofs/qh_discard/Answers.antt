@@ -6,7 +6,6 @@ use Rattle.boundary.proofs.qh_discard.Goals as goal
 
 pub returns : goal.returns
 returns c =
-    let a = c.args in
-    ends_as (λ u. discard_of a.chart.now u) c.load-state.ensures
+    ends_as (λ u. discard_of c.args.chart.now u) c.load-state.ensures
     c.discard-called.ensures.result
     (back32 _ c.end.type_inv) c.end.ensures

@@ -6,7 +6,6 @@ use Rattle.boundary.proofs.qh_plan_discard.Goals as goal
 
 pub returns : goal.returns
 returns c =
-    let a = c.args in
-    ends_as (λ u. machine_discard a.plan.now u) c.load-state.ensures
+    ends_as (λ u. machine_discard c.args.plan.now u) c.load-state.ensures
     c.discard-called.ensures.result
     (back32 _ c.end.type_inv) c.end.ensures

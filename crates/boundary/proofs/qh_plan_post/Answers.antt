@@ -7,8 +7,7 @@ use Rattle.boundary.proofs.qh_plan_post.Goals as goal
 
 pub returns : goal.returns
 returns c =
-    let k = c.before.before.before.before.before.before.before in
-    ends_as (λ u. machine_post k.args.plan.now u k.args.event k.args.arg)
+    ends_as (λ u. machine_post c.args.plan.now u c.args.event c.args.arg)
     c.load-state.ensures
     (rw (to_z-of_z c.ranges.event, to_z-of_z c.ranges.arg) at
     c.post-called.ensures.result)

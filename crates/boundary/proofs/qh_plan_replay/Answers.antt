@@ -8,11 +8,10 @@ use Rattle.boundary.proofs.qh_plan_replay.Goals as goal
 
 pub returns : goal.returns
 returns c =
-    let a = c.args in
-    let course : State → Course = λ u. replay a.plan.now u (items_of a.events.now) (length a.trace-1.now) in
+    let course : State → Course = λ u. replay c.args.plan.now u (items_of c.args.events.now) (length c.args.trace.now) in
     record {
       stops = replays_as course c.load-state.ensures c.replay-replayed.ensures.result
           (back32 _ c.stop.type_inv) c.stop.ensures;
-      lent = replayed_trace course (length a.trace-1.now) c.load-state.ensures
+      lent = replayed_trace course (length c.args.trace.now) c.load-state.ensures
           c.replay-replayed.ensures.lent;
     }

@@ -7,8 +7,7 @@ use Rattle.boundary.proofs.qh_plan_run.Goals as goal
 
 pub returns : goal.returns
 returns c =
-    let a = c.args in
-    traces_as (λ u. machine_run a.plan.now u (length a.trace-1.now))
+    traces_as (λ u. machine_run c.args.plan.now u (length c.args.trace.now))
     c.load-state.ensures
     c.run-called.ensures.result c.run-called.ensures.lent
     (back32 _ c.end.type_inv) c.end.ensures

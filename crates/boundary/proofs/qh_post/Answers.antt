@@ -7,8 +7,7 @@ use Rattle.boundary.proofs.qh_post.Goals as goal
 
 pub returns : goal.returns
 returns c =
-    let k = c.before.before.before.before.before.before.before in
-    ends_as (λ u. post_of k.args.chart.now u k.args.event k.args.arg)
+    ends_as (λ u. post_of c.args.chart.now u c.args.event c.args.arg)
     c.load-state.ensures
     (rw (to_z-of_z c.ranges.event, to_z-of_z c.ranges.arg) at
     c.post-called.ensures.result)

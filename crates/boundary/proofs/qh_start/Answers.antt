@@ -8,17 +8,15 @@ use Rattle.boundary.proofs.qh_start.Goals as goal
 
 pub returns-then-widget-lt-STATE_NUMBERS : goal.returns-then-widget-lt-STATE_NUMBERS
 returns-then-widget-lt-STATE_NUMBERS c =
-    let a = c.args in
-    start_short (λ u. start_of a.chart.now u (length a.trace-1.now))
+    start_short (λ u. start_of c.args.chart.now u (length c.args.trace.now))
     c.if-widget-lt-STATE_NUMBERS.true
     c.check-verdict.ensures.result c.too_few-answer.ensures
     c.clear.ensures (back32 _ c.tell.type_inv) c.tell.ensures
 
 pub returns : goal.returns
 returns c =
-    let a = c.args in
-    start_room (verdict (failing_rule_of a.chart.now))
-    (λ u. start_of a.chart.now u (length a.trace-1.now)) c.if-widget-lt-STATE_NUMBERS.false
+    start_room (verdict (failing_rule_of c.args.chart.now))
+    (λ u. start_of c.args.chart.now u (length c.args.trace.now)) c.if-widget-lt-STATE_NUMBERS.false
     c.load-state.ensures c.start-called.ensures.result
     c.start-called.ensures.lent
     (back32 _ c.end.type_inv) c.end.ensures

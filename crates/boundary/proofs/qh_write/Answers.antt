@@ -6,7 +6,7 @@ use Rattle.boundary.proofs.qh_write.Goals as goal
 
 pub returns : goal.returns
 returns c = record {
-  tells = told_as (back32 _ c.tell.type_inv) (ap (λ w. w.answer-1) c.write-written.ensures.result)
+  tells = told_as (back32 _ c.tell.type_inv) (ap (λ w. w.answer) c.write-written.ensures.result)
       (ap (λ w. w.length) c.write-written.ensures.result) c.tell.ensures;
   lent = c.write-written.ensures.lent;
 }

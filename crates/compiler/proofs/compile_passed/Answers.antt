@@ -114,7 +114,6 @@ returns-then-plan-length c =
     compiles_over c.args.chart.now c.args.plan.now
     c.requires (omega (
       arith,
-      c.if-plan-length.true,
       c.var_count-vars.ensures,
       vars_most c.args.chart.now,
       c.order_of-heads.ensures.few,
@@ -201,7 +200,6 @@ clear_from-requires-2 c =
     c.put_code-end.ensures)
     (omega (
       arith,
-      c.if-plan-length.false,
       c.var_count-vars.ensures,
       vars_most c.args.chart.now,
       c.order_of-heads.ensures.few,
@@ -216,7 +214,6 @@ returns c =
     compiles_whole c.args.chart.now c.args.plan.now
     c.requires (omega (
       arith,
-      c.if-plan-length.false,
       c.var_count-vars.ensures,
       vars_most c.args.chart.now,
       c.order_of-heads.ensures.few,

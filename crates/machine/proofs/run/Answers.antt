@@ -6,7 +6,7 @@ use Rattle.machine.proofs.run.Goals as goal
 pub returns-then-verdict-ne0 : goal.returns-then-verdict-ne0
 returns-then-verdict-ne0 c =
     let a = c.args in
-    ends_as a.trace-1.now (run_5 a.plan.now c.examine-verdict.ensures a.state
+    ends_as a.trace.now (run_5 a.plan.now c.examine-verdict.ensures a.state
     c.if-verdict-ne0.true _) c.refuse.ensures
 
 pub run_examined-requires : goal.run_examined-requires
@@ -18,6 +18,6 @@ run_examined-requires c =
 pub returns : goal.returns
 returns c =
     let a = c.args in
-    ends_as a.trace-1.now (run_is a.plan.now
+    ends_as a.trace.now (run_is a.plan.now
     c.examine-verdict.ensures a.state
     c.if-verdict-ne0.false _) c.run_examined.ensures

@@ -6,7 +6,7 @@ use Rattle.machine.proofs.start.Goals as goal
 pub returns-then-verdict-ne0 : goal.returns-then-verdict-ne0
 returns-then-verdict-ne0 c =
     let a = c.args in
-    ends_as a.trace-1.now (start_5 a.plan.now c.examine-verdict.ensures a.state
+    ends_as a.trace.now (start_5 a.plan.now c.examine-verdict.ensures a.state
     c.if-verdict-ne0.true _) c.refuse.ensures
 
 pub start_examined-requires : goal.start_examined-requires
@@ -18,6 +18,6 @@ start_examined-requires c =
 pub returns : goal.returns
 returns c =
     let a = c.args in
-    ends_as a.trace-1.now (start_is a.plan.now
+    ends_as a.trace.now (start_is a.plan.now
     c.examine-verdict.ensures a.state
     c.if-verdict-ne0.false _) c.start_examined.ensures

@@ -1,12 +1,11 @@
 -- `choose` keeps, place by place of one trigger, that the chosen so far with what the rest adds are the chosen of all. Assumes nothing.
 use mathlib.Core.Path.{◌≡◌, refl, sym, ap, ◌∙◌, subst}
 use Prim.Native.Nat.{ℕ, suc, ◌+◌, ◌*◌, ◌≤◌, ◌<◌}
-use mathlib.Core.Bool.{true, false}
 use native.Mathlib.Omega.{arith}
 use mathlib.Core.List.{List}
 use lib.IntN.{ℤ}
 use lib.ListN.{get_or, length}
-use Rattle.sizes.specs.Sizes.{STATES, EVENTS, TRANSITIONS}
+use Rattle.sizes.specs.Sizes.{STATES, TRANSITIONS}
 use Rattle.meaning.specs.declared.plan.Counts.{Counts}
 use Rattle.meaning.specs.WellFormed.{HEAD_ROW, counts_of, heads_at}
 use Rattle.choice.proofs.Loop.{up_to}

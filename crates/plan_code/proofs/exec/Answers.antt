@@ -268,10 +268,9 @@ returns-in-10 c =
 pub returns-in_default : goal.returns-in_default
 returns-in_default c =
     let a = c.args in
-    let o = rw c.named-code.ensures at c.in_default.in_default-own.rest in
     tells c.onward-in_default.ensures c.read-in_default.result
-    (is_tell (its-row (goal.at.returns-in_default c).After-named-code) o.0.0.0.0.0.0.0.0.0.1 o.0.0.0.0.0.0.0.0.1 o.0.0.0.0.0.0.0.1
-    o.0.0.0.0.0.0.1 o.0.0.0.0.0.1 o.0.0.0.0.1 o.0.0.0.1 o.0.0.1 o.0.1 o.1 c.read-in_default.ensures)
+    (is_tell (its-row (goal.at.returns-in_default c).After-named-code) (omega arith) (omega arith) (omega arith) (omega arith)
+    (omega arith) (omega arith) (omega arith) (omega arith) (omega arith) (omega arith) c.read-in_default.ensures)
     (rw (back32 c.read-in_default.result c.read-in_default.type_inv) at
     (c.tell.ensures.1
     (all_lent a.active.now a.slots.now a.vars.now a.queue.now a.trace.now))) refl

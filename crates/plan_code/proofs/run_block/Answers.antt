@@ -61,7 +61,6 @@ loop-row-init c =
     (begins (goal.at.loop-row-init c).After-code_at-base) c.pass_skips-row.ensures
 
 -- ---- a turn
--- ---- a turn
 module _ (c : In-loop-row) where
   abbrev ns : List ℤ
   ns = c.args.plan.now

@@ -2,7 +2,6 @@
 use mathlib.Core.Path.{◌≡◌, refl, sym, ap, ◌∙◌}
 use native.Mathlib.Omega.{arith}
 use borrow.Author.Rules.{rules}
-use borrow.Author.Tests.{not-true, not-false}
 use mir.Facts.{to_z-of_z}
 use mir.Syntax.{w32}
 use mir.Val.{SFits}
@@ -31,33 +30,33 @@ pub returns-then-not-slot_fits : goal.returns-then-not-slot_fits
 returns-then-not-slot_fits c =
     let a = c.args in
     let s = c.loop-s.s in
-    let fx : SFits w32 (get_or a.t2 s (pos 0)) = search rules in
-    every_no (plan_slot_fits a.states) (take a.states a.t2) s (pos 0)
+    let fx : SFits w32 (get_or a.slots s (pos 0)) = search rules in
+    every_no (plan_slot_fits a.states) (take a.states a.slots) s (pos 0)
     c.loop-s.invariant.1
-    (omega (arith, taken c.before.before.before.before.before, c.loop-s-test.true))
+    (omega (arith, taken (goal.at.returns-then-not-slot_fits c).Start, c.loop-s-test.true))
     (ap (plan_slot_fits a.states)
-    (get_or-take a.states a.t2 s (pos 0) c.loop-s-test.true) ∙ sym
-    (rw (to_z-of_z fx) at c.slot_fits.ensures) ∙ not-true _ c.if-not-slot_fits.true-raw)
+    (get_or-take a.states a.slots s (pos 0) c.loop-s-test.true) ∙ sym
+    (rw (to_z-of_z fx) at c.slot_fits.ensures) ∙ c.if-not-slot_fits.true)
 
 pub loop-s-preserved : goal.loop-s-preserved
 loop-s-preserved c =
     let a = c.args in
     let s = c.loop-s.s in
-    let fx : SFits w32 (get_or a.t2 s (pos 0)) = search rules in (
+    let fx : SFits w32 (get_or a.slots s (pos 0)) = search rules in (
       omega arith,
-      every_more (plan_slot_fits a.states) (take a.states a.t2) s (pos 0)
+      every_more (plan_slot_fits a.states) (take a.states a.slots) s (pos 0)
           c.loop-s.invariant.1
-          (omega (arith, taken c.before.before.before.before.before, c.loop-s-test.true))
+          (omega (arith, taken (goal.at.loop-s-preserved c).Start, c.loop-s-test.true))
           (ap (plan_slot_fits a.states)
-          (get_or-take a.states a.t2 s (pos 0) c.loop-s-test.true) ∙ sym
-          (rw (to_z-of_z fx) at c.slot_fits.ensures) ∙ not-false _ c.if-not-slot_fits.false-raw),
+          (get_or-take a.states a.slots s (pos 0) c.loop-s-test.true) ∙ sym
+          (rw (to_z-of_z fx) at c.slot_fits.ensures) ∙ c.if-not-slot_fits.false),
     )
 
 pub returns : goal.returns
 returns c =
     let a = c.args in
-    every_done (plan_slot_fits a.states) (take a.states a.t2) c.loop-s.s
-    c.loop-s.invariant.1 (omega (arith, taken c.before.before, c.loop-s-test.false))
+    every_done (plan_slot_fits a.states) (take a.states a.slots) c.loop-s.s
+    c.loop-s.invariant.1 (omega (arith, taken (goal.at.returns c).Start, c.loop-s-test.false))
 
 pub loop-s-init : goal.loop-s-init
 loop-s-init c = (omega arith, refl)

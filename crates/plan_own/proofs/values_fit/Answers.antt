@@ -2,7 +2,6 @@
 use mathlib.Core.Path.{◌≡◌, refl, sym, ◌∙◌}
 use native.Mathlib.Omega.{arith}
 use borrow.Author.Rules.{rules}
-use borrow.Author.Tests.{not-true, not-false}
 use mir.Facts.{to_z-of_z}
 use mir.Syntax.{w32}
 use mir.Val.{SFits}
@@ -24,28 +23,28 @@ pub returns-then-not-value_fits : goal.returns-then-not-value_fits
 returns-then-not-value_fits c =
     let a = c.args in
     let v = c.loop-v.v in
-    let fx : SFits w32 (get_or a.t3 v (pos 0)) = search rules in
-    let long : length a.t3 ≡ VARIABLES = search rules in
-    values_no (plan_by a.plan.now).vars a.t3 v c.loop-v.invariant.1 (omega arith)
-    (sym (rw (to_z-of_z fx) at c.value_fits.ensures) ∙ not-true _ c.if-not-value_fits.true-raw)
+    let fx : SFits w32 (get_or a.vars v (pos 0)) = search rules in
+    let long : length a.vars ≡ VARIABLES = search rules in
+    values_no (plan_by a.plan.now).vars a.vars v c.loop-v.invariant.1 (omega arith)
+    (sym (rw (to_z-of_z fx) at c.value_fits.ensures) ∙ c.if-not-value_fits.true)
 
 pub loop-v-preserved : goal.loop-v-preserved
 loop-v-preserved c =
     let a = c.args in
     let v = c.loop-v.v in
-    let fx : SFits w32 (get_or a.t3 v (pos 0)) = search rules in
-    let long : length a.t3 ≡ VARIABLES = search rules in (
+    let fx : SFits w32 (get_or a.vars v (pos 0)) = search rules in
+    let long : length a.vars ≡ VARIABLES = search rules in (
       omega arith,
-      values_more (plan_by a.plan.now).vars a.t3 v c.loop-v.invariant.1 (omega arith)
-          (sym (rw (to_z-of_z fx) at c.value_fits.ensures) ∙ not-false _ c.if-not-value_fits.false-raw),
+      values_more (plan_by a.plan.now).vars a.vars v c.loop-v.invariant.1 (omega arith)
+          (sym (rw (to_z-of_z fx) at c.value_fits.ensures) ∙ c.if-not-value_fits.false),
     )
 
 pub returns : goal.returns
 returns c =
     let a = c.args in
-    let long : length a.t3 ≡ VARIABLES = search rules in
-    every_done (eq_z (pos 0)) a.t3 c.loop-v.v
-    (values_rest (plan_by a.plan.now).vars a.t3 c.loop-v.v c.loop-v.invariant.1
+    let long : length a.vars ≡ VARIABLES = search rules in
+    every_done (eq_z (pos 0)) a.vars c.loop-v.v
+    (values_rest (plan_by a.plan.now).vars a.vars c.loop-v.v c.loop-v.invariant.1
     (omega (arith, vars_many c.requires, (counts_sized c.requires).vars)))
     (omega arith)
 

@@ -7,17 +7,7 @@ use Rattle.meaning.specs.WellFormed.{HEAD_ROW}
 use Rattle.widget.specs.View.{all_lent}
 use Rattle.plan_choice.proofs.Facts.{counts_sized}
 use Rattle.plan_steps.proofs.Firing.{row_whole, taken_named, block_there, block_named, fired_here, fire_stop, fire_on}
-use Rattle.plan_steps.proofs.fire.Goals.{After-heads_at-base, After-known-start, Else-taken-ne0, Start}
 use Rattle.plan_steps.proofs.fire.Goals as goal
-
-abbrev heads-at-from-else1 : Else-taken-ne0 → After-heads_at-base
-heads-at-from-else1 c = c.before.before.before.before.before.before
-
-abbrev heads-at-from-known2 : After-known-start → After-heads_at-base
-heads-at-from-known2 c = heads-at-from-else1 c.before
-
-abbrev start-from-known2 : After-known-start → Start
-start-from-known2 c = (heads-at-from-known2 c).before
 
 pub heads_at-base-requires : goal.heads_at-base-requires
 heads_at-base-requires c = counts_sized c.requires.0
@@ -51,7 +41,7 @@ returns-then-taken-ne0 c =
     (c.heads_at-base.result + a.h * HEAD_ROW) _
     c.known.ensures
     (c.mark_taken-taken.ensures.1
-    (all_lent a.active.now a.slots.now a.vars.now a.queue.now a.trace-1.now))
+    (all_lent a.active.now a.slots.now a.vars.now a.queue.now a.trace.now))
     c.if-taken-ne0.true)
 
 pub overflow_add-row-3 : goal.overflow_add-row-3
@@ -67,15 +57,14 @@ known-start-requires c =
 
 pub overflow_add-row-4 : goal.overflow_add-row-4
 overflow_add-row-4 c =
-    let q = row_whole (start-from-known2 c).requires.0 (heads-at-from-known2 c).heads_at-base.ensures _
-    (start-from-known2 c).requires.1 in omega (arith, q)
+    let q = row_whole c.requires.0 c.heads_at-base.ensures _
+    c.requires.1 in omega (arith, q)
 
 pub known-len-requires : goal.known-len-requires
 known-len-requires c =
-    let s = start-from-known2 c in
-    let b = (heads-at-from-known2 c).heads_at-base.ensures in
-    let q = row_whole s.requires.0 b _ s.requires.1 in
-    (omega (arith, q), (block_named s.requires.0 b _ s.requires.1).1)
+    let b = c.heads_at-base.ensures in
+    let q = row_whole c.requires.0 b _ c.requires.1 in
+    (omega (arith, q), (block_named c.requires.0 b _ c.requires.1).1)
 
 pub run_block-requires : goal.run_block-requires
 run_block-requires c = (
@@ -95,7 +84,7 @@ returns c =
     (fire_on a.plan.now (c.heads_at-base.result + a.h * HEAD_ROW) _
     c.known.ensures
     (c.mark_taken-taken.ensures.1
-    (all_lent a.active.now a.slots.now a.vars.now a.queue.now a.trace-1.now))
+    (all_lent a.active.now a.slots.now a.vars.now a.queue.now a.trace.now))
     c.if-taken-ne0.false refl
     c.known-start.ensures
     c.known-len.ensures

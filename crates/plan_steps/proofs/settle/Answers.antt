@@ -2,14 +2,7 @@
 use mathlib.Core.Path.{◌∙◌}
 use native.Mathlib.Omega.{arith}
 use Rattle.plan_steps.proofs.Settling.{settling_begin, settling_end, settling_full, settling_stop, settling_on}
-use Rattle.plan_steps.proofs.settle.Goals.{After-fire_all-arg-in-loop-k-4-1, At-loop-k, Else-went-ne0}
 use Rattle.plan_steps.proofs.settle.Goals as goal
-
-abbrev at-loop-from-fire-all-arg6 : After-fire_all-arg-in-loop-k-4-1 → At-loop-k
-at-loop-from-fire-all-arg6 c = c.before.before.before.before.before.before.before.before.before.before.before.before
-
-abbrev at-loop-from-else3 : Else-went-ne0 → At-loop-k
-at-loop-from-else3 c = at-loop-from-fire-all-arg6 c.before.before.before.before
 
 pub loop-k-init : goal.loop-k-init
 loop-k-init c = (settling_begin c.requires.3, c.requires.1)
@@ -31,15 +24,15 @@ fire_all-went-requires c =
     )
 
 pub overflow_add-turns : goal.overflow_add-turns
-overflow_add-turns c = omega (arith, (at-loop-from-else3 c).loop-k.invariant.0.few)
+overflow_add-turns c = omega (arith, c.loop-k.invariant.0.few)
 
 pub loop-k-smaller : goal.loop-k-smaller
-loop-k-smaller c = omega (arith, (at-loop-from-else3 c).loop-k.invariant.0.few, c.if-turns-eq-NULL_STEPS.false)
+loop-k-smaller c = omega (arith, c.loop-k.invariant.0.few, c.if-turns-eq-NULL_STEPS.false)
 
 pub loop-k-preserved : goal.loop-k-preserved
 loop-k-preserved c =
     let g = c.choose-count.ensures in (
-      settling_on (at-loop-from-else3 c).loop-k.invariant.0 g c.if-count-eq0.false
+      settling_on c.loop-k.invariant.0 g c.if-count-eq0.false
           c.if-turns-eq-NULL_STEPS.false c.fire_all-went.ensures c.if-went-ne0.false,
       g.stands.size,
     )

@@ -1,31 +1,18 @@
 -- `as_posted` does the events before the refused run once more, and posts its event. Assumes nothing.
-use mathlib.Core.Path.{sym, ◌∙◌}
 use Prim.Native.Nat.{◌+◌, ◌*◌, ◌<◌}
 use native.Mathlib.Omega.{arith}
-use lib.ListN.{length, length-map}
+use lib.ListN.{length}
 use Rattle.numbers.proofs.Laws.{back32}
+use borrow.Author.Rules.{rules}
 use Rattle.invariants.specs.Good.{Sized}
 use Rattle.replaying.proofs.Events.{event_here, places_few}
 use Rattle.replaying.proofs.Telling.{broken_told, owned_lent}
-use Rattle.replaying.proofs.as_posted.Goals.{After-go_through-arg-1, After-trace-1, Start}
+use Rattle.replaying.proofs.as_posted.Goals.{Start}
 use Rattle.replaying.proofs.as_posted.Goals as goal
 
 -- the arrays of a state have their full size
 sized_of : (c : Start) → Sized c.args.state
-sized_of c =
-    let g = c.well_formed.1.1.1.0.1.1 in
-    record {
-      active = sym (length-map c.args.state.active _) ∙ g.1.0.1.0.1;
-      slots = sym (length-map c.args.state.slots _) ∙ g.1.1.0.1.0.1;
-      vars = sym (length-map c.args.state.vars _) ∙ g.1.1.1.0.1.0.1;
-      items = sym (length-map c.args.state.queue.items _) ∙ g.1.1.1.1.0.1.1.1.0.1.0.1;
-    }
-
-abbrev start-from-call : After-go_through-arg-1 → Start
-start-from-call c = c.before.before.before.before.before.before.before.before.before.before
-
-abbrev start-from-trace : After-trace-1 → Start
-start-from-trace c = start-from-call c.before.before
+sized_of c = record { active = search rules; slots = search rules; vars = search rules; items = search rules }
 
 -- the event whose run was refused is there
 there : (c : Start) → 2 * c.args.done + 1 < length c.args.events.now
@@ -33,7 +20,7 @@ there c = let h = places_few c.args.events.now in omega (arith, h, c.requires.2.
 
 pub go_through-requires : goal.go_through-requires
 go_through-requires c =
-    let s = c.before.before.before.before.before.before.before.before.before.before in (
+    let s = (goal.at.go_through-requires c).Start in (
       c.requires.0,
       omega (arith, there s),
       owned_lent c.requires.1 (sized_of s) c.lend-waiting.ensures c.args.trace.now,
@@ -42,32 +29,29 @@ go_through-requires c =
 
 pub returns : goal.returns
 returns c =
-    let v = c.before.before.before.before.before in
-    let t = v.before.before in
-    let s = start-from-trace t in
-    broken_told s.requires.1 (sized_of s) c.lend-waiting.ensures s.args.trace.now
-    s.requires.2 c.go_through.ensures
-    (event_here s.args.events.now s.args.done _ _ s.requires.2.within (back32 _ c.event-1.given)
-    (back32 _ c.arg-1.given))
+    broken_told c.requires.1 (sized_of (goal.at.returns c).Start) c.lend-waiting.ensures c.args.trace.now
+    c.requires.2 c.go_through.ensures
+    (event_here c.args.events.now c.args.done _ _ c.requires.2.within (back32 _ (search rules))
+    (back32 _ (search rules)))
     _ (c.append.ensures.2 c.go_through.ensures.whole) c.told.ensures
 
 pub overflow_mul-event : goal.overflow_mul-event
-overflow_mul-event c = omega (arith, there (start-from-trace c))
+overflow_mul-event c = omega (arith, there (goal.at.overflow_mul-event c).Start)
 
 pub offset_bounds-events-done : goal.offset_bounds-events-done
-offset_bounds-events-done c = omega (arith, there (start-from-trace c))
+offset_bounds-events-done c = omega (arith, there (goal.at.offset_bounds-events-done c).Start)
 
 pub bounds-events-done : goal.bounds-events-done
-bounds-events-done c = omega (arith, there (start-from-trace c))
+bounds-events-done c = omega (arith, there (goal.at.bounds-events-done c).Start)
 
 pub overflow_mul-arg : goal.overflow_mul-arg
-overflow_mul-arg c = omega (arith, there (start-from-trace c.before))
+overflow_mul-arg c = omega (arith, there (goal.at.overflow_mul-arg c).Start)
 
 pub overflow_add-arg : goal.overflow_add-arg
-overflow_add-arg c = omega (arith, there (start-from-trace c.before))
+overflow_add-arg c = omega (arith, there (goal.at.overflow_add-arg c).Start)
 
 pub offset_bounds-events-done-2 : goal.offset_bounds-events-done-2
-offset_bounds-events-done-2 c = omega (arith, there (start-from-trace c.before))
+offset_bounds-events-done-2 c = omega (arith, there (goal.at.offset_bounds-events-done-2 c).Start)
 
 pub bounds-events-done-2 : goal.bounds-events-done-2
-bounds-events-done-2 c = omega (arith, there (start-from-trace c.before))
+bounds-events-done-2 c = omega (arith, there (goal.at.bounds-events-done-2 c).Start)

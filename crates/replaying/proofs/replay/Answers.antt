@@ -1,7 +1,8 @@
 -- `replay` makes no call without an event, and examines the plan once. Assumes nothing.
-use mathlib.Core.Path.{refl, sym, ◌∙◌}
+use mathlib.Core.Path.{refl}
 use native.Mathlib.Omega.{arith}
-use lib.ListN.{length, length-map}
+use lib.ListN.{length}
+use borrow.Author.Rules.{rules}
 use Rattle.invariants.specs.Good.{Sized}
 use Rattle.machine.proofs.Gates.{failed, passed}
 use Rattle.replaying.proofs.Events.{replay_5, replay_none}
@@ -11,27 +12,18 @@ use Rattle.replaying.proofs.replay.Goals as goal
 
 -- the arrays of a state have their full size
 sized_of : (c : Start) → Sized c.args.state
-sized_of c =
-    let g = c.well_formed.1.0.1.1 in
-    record {
-      active = sym (length-map c.args.state.active _) ∙ g.1.0.1.0.1;
-      slots = sym (length-map c.args.state.slots _) ∙ g.1.1.0.1.0.1;
-      vars = sym (length-map c.args.state.vars _) ∙ g.1.1.1.0.1.0.1;
-      items = sym (length-map c.args.state.queue.items _) ∙ g.1.1.1.1.0.1.1.1.0.1.0.1;
-    }
+sized_of c = record { active = search rules; slots = search rules; vars = search rules; items = search rules }
 
 pub returns-then-events-lt-EVENT : goal.returns-then-events-lt-EVENT
 returns-then-events-lt-EVENT c =
     let a = c.args in
-    told_as (replay_none a.plan.now a.state (length a.trace-1.now) a.events.now c.if-events-lt-EVENT.true) refl
+    told_as (replay_none a.plan.now a.state (length a.trace.now) a.events.now c.if-events-lt-EVENT.true) refl
     c.stopped.ensures
 
 pub returns-then-verdict-ne0 : goal.returns-then-verdict-ne0
 returns-then-verdict-ne0 c =
-    let e = c.before.before.before.before.before in
-    let s = e.before.before in
     let a = c.args in
-    told_as (replay_5 a.plan.now a.state (length a.trace-1.now) (sized_of s) a.events.now (omega (arith, c.if-events-lt-EVENT.false))
+    told_as (replay_5 a.plan.now a.state (length a.trace.now) (sized_of (goal.at.returns-then-verdict-ne0 c).Start) a.events.now (omega (arith, c.if-events-lt-EVENT.false))
     (failed a.plan.now c.examine-verdict.ensures c.if-verdict-ne0.true)) refl c.stopped-then-verdict-ne0.ensures
 
 pub replay_planned-requires : goal.replay_planned-requires

@@ -1,8 +1,9 @@
 -- `replay_examined` tries 7 and 6, goes through the events, and ends as they went. Assumes nothing.
 use mathlib.Core.Path.{◌≡◌, refl, sym, ap, ◌∙◌}
 use Prim.Native.Nat.{◌/◌}
-use lib.ListN.{length, length-map, take}
+use lib.ListN.{length, take}
 use borrow.Author.Tests.{not-true, not-false}
+use borrow.Author.Rules.{rules}
 use Rattle.invariants.specs.Good.{Sized}
 use Rattle.meaning.specs.WellFormed.{plan_by}
 use Rattle.plan_invariants.specs.Replay.{replay_examined}
@@ -15,20 +16,13 @@ use Rattle.replaying.proofs.replay_examined.Goals as goal
 
 -- the arrays of a state have their full size
 sized_of : (c : Start) → Sized c.args.state
-sized_of c =
-    let g = c.well_formed.1.1.0.1.1 in
-    record {
-      active = sym (length-map c.args.state.active _) ∙ g.1.0.1.0.1;
-      slots = sym (length-map c.args.state.slots _) ∙ g.1.1.0.1.0.1;
-      vars = sym (length-map c.args.state.vars _) ∙ g.1.1.1.0.1.0.1;
-      items = sym (length-map c.args.state.queue.items _) ∙ g.1.1.1.1.0.1.1.1.0.1.0.1;
-    }
+sized_of c = record { active = search rules; slots = search rules; vars = search rules; items = search rules }
 
 -- the tests are passed
 ready : (c : Else-not-own) → Starts (plan_by c.args.plan.now) c.args.state
 ready c = record {
   started = not-false _ c.if-not-state.false;
-  own = sym c.own.ensures ∙ not-false _ c.if-not-own.false-raw;
+  own = sym c.own.ensures ∙ c.if-not-own.false;
 }
 
 -- half as many events as numbers are all of them
@@ -38,31 +32,28 @@ all_there c = all_items c.args.events.now (length c.args.events.now / 2) (half (
 pub returns-then-not-state : goal.returns-then-not-state
 returns-then-not-state c =
     let a = c.args in
-    told_as (once_7 (plan_by a.plan.now) a.state (items_of a.events.now) (length a.trace-1.now)
+    told_as (once_7 (plan_by a.plan.now) a.state (items_of a.events.now) (length a.trace.now)
     (not-true _ c.if-not-state.true)) refl c.stopped.ensures
 
 pub returns-then-not-own : goal.returns-then-not-own
 returns-then-not-own c =
     let a = c.args in
-    told_as (once_6 (plan_by a.plan.now) a.state (items_of a.events.now) (length a.trace-1.now)
-    (not-false _ c.if-not-state.false) (sym c.own.ensures ∙ not-true _ c.if-not-own.true-raw)) refl
+    told_as (once_6 (plan_by a.plan.now) a.state (items_of a.events.now) (length a.trace.now)
+    (not-false _ c.if-not-state.false) (sym c.own.ensures ∙ c.if-not-own.true)) refl
     c.stopped-then-not-own.ensures
 
 pub go_through-gone-requires : goal.go_through-gone-requires
-go_through-gone-requires c =
-    let e = c.before.before.before.before.before.before.before.before.before.before.before.before in
-    let s = e.before.before.before.before in (
-      c.requires,
-      (half (length c.args.events.now)).0,
-      owned_lent (ready e) (sized_of s) c.lend-waiting.ensures c.args.trace.now,
-      c.links_of-links.ensures,
-    )
+go_through-gone-requires c = (
+  c.requires,
+  (half (length c.args.events.now)).0,
+  owned_lent (ready (goal.at.go_through-gone-requires c).Else-not-own) (sized_of (goal.at.go_through-gone-requires c).Start) c.lend-waiting.ensures c.args.trace.now,
+  c.links_of-links.ensures,
+)
 
 pub as_posted-requires : goal.as_posted-requires
 as_posted-requires c =
-    let g = c.before.before.before.before in
-    let e = g.before.before.before.before.before.before.before.before.before.before.before.before.before in
-    let s = e.before.before.before.before in (
+    let s = (goal.at.as_posted-requires c).Start in
+    let e = (goal.at.as_posted-requires c).Else-not-own in (
       c.requires,
       ready e,
       broken_here (ready e) (sized_of s) c.lend-waiting.ensures
@@ -72,17 +63,14 @@ as_posted-requires c =
 
 pub returns-then-gone : goal.returns-then-gone
 returns-then-gone c =
-    let g = c.before.before.before.before.before.before in
     told_as (ap (replay_examined (plan_by c.args.plan.now) c.args.state (items_of c.args.events.now))
     (sym c.go_through-gone.ensures.kept))
     (sym c.go_through-gone.ensures.kept) c.as_posted.ensures
 
 pub returns : goal.returns
 returns c =
-    let g = c.before.before.before.before.before in
-    let e = g.before.before.before.before.before.before.before.before.before.before.before.before.before in
-    let s = e.before.before.before.before in
-    ended_told (ready e) (sized_of s) c.lend-waiting.ensures
+    let s = (goal.at.returns c).Start in
+    ended_told (ready (goal.at.returns c).Else-not-own) (sized_of s) c.lend-waiting.ensures
     c.args.trace.now
     (all_there s)
     c.go_through-gone.ensures c.if-gone.false c.told.ensures

@@ -6,5 +6,5 @@ use Rattle.replaying.proofs.told.Goals as goal
 pub returns : goal.returns
 returns c =
     let a = c.args in
-    told_all a.done a.number a.at (all_lent a.active a.slots a.vars a.t7 a.trace-1.now) _ _
+    told_all a.done a.number a.at (all_lent a.active a.slots a.vars a.queue a.trace.now) _ _
     c.requires c.held-waiting.ensures c.clear_from.ensures

@@ -12,12 +12,11 @@ unfolding every
 loop-i-init c = (omega arith, refl)
 
 pub loop-i-preserved : goal.loop-i-preserved
-loop-i-preserved c =
-    (
-      omega arith,
-      marked_more c.args.numbers.now c.loop-i.i (omega arith) c.loop-i.invariant.1
-          (rw (back32 _ c.between-arg-1.given) at c.between-fit.ensures),
-    )
+loop-i-preserved c = (
+  omega arith,
+  marked_more c.args.numbers.now c.loop-i.i (omega arith) c.loop-i.invariant.1
+      (rw (back32 _ c.between-arg-1.given) at c.between-fit.ensures),
+)
 
 pub returns : goal.returns
 returns c =

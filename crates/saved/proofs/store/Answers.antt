@@ -1,7 +1,7 @@
 -- `store` writes the parts one after the other. Assumes nothing.
-use mathlib.Core.Path.{sym, ◌∙◌}
+use mathlib.Core.Path.{◌∙◌}
 use native.Mathlib.Omega.{arith}
-use lib.ListN.{length-map, length-set}
+use lib.ListN.{length-set}
 use Rattle.numbers.proofs.Laws.{back32}
 use Rattle.invariants.specs.Good.{Sized}
 use Rattle.saved.proofs.Storing.{none_written, first_written, all_written}
@@ -13,10 +13,10 @@ sized_of : (c : Start) → Sized c.args.state
 sized_of c =
     let g = c.well_formed.0.1.1 in
     record {
-      active = sym (length-map c.args.state.active _) ∙ g.1.0.1.0.1;
-      slots = sym (length-map c.args.state.slots _) ∙ g.1.1.0.1.0.1;
-      vars = sym (length-map c.args.state.vars _) ∙ g.1.1.1.0.1.0.1;
-      items = sym (length-map c.args.state.queue.items _) ∙ g.1.1.1.1.0.1.1.1.0.1.0.1;
+      active = g.1.0.1.0.1;
+      slots = g.1.1.0.1.0.1;
+      vars = g.1.1.1.0.1.0.1;
+      items = g.1.1.1.1.0.1.1.1.0.1.0.1;
     }
 
 pub returns-then-numbers-lt-STATE_NUMBERS : goal.returns-then-numbers-lt-STATE_NUMBERS
@@ -27,17 +27,15 @@ store_active-requires c = rw length-set (omega arith)
 
 pub copy-requires : goal.copy-requires
 copy-requires c =
-    let k = c.before.before.before.before.before.before.before.before.before.before.before in
-    let z = sized_of k in
+    let z = sized_of (goal.at.copy-requires c).Start in
     let a = simp length-set at c.numbers-1.given in
-    (omega (arith, z.slots-1), omega (arith, a))
+    (omega (arith, z.slots), omega (arith, a))
 
 pub copy-requires-2 : goal.copy-requires-2
 copy-requires-2 c =
-    let k = c.before.before.before.before.before.before.before.before.before.before.before.before.before.before.before in
-    let z = sized_of k in
+    let z = sized_of (goal.at.copy-requires-2 c).Start in
     let a = simp length-set at c.numbers-1.given in
-    (omega (arith, z.vars-1), omega (arith, a, c.numbers-2-1.given))
+    (omega (arith, z.vars), omega (arith, a, c.numbers-2-1.given))
 
 pub store_queue-requires : goal.store_queue-requires
 store_queue-requires c =
@@ -57,9 +55,8 @@ shape_of-numbers c =
 
 pub returns : goal.returns
 returns c =
-    let k = c.before.before.before.before.before.before.before.before.before.before.before.before.before.before.before.before.before.before.before.before in
-    all_written c.args.state (sized_of k) c.args.numbers.now c.if-numbers-lt-STATE_NUMBERS.false _ _ _
-    _ _ (first_written c.args.state (sized_of k) c.args.numbers.now
+    all_written c.args.state (sized_of (goal.at.returns c).Start) c.args.numbers.now c.if-numbers-lt-STATE_NUMBERS.false _ _ _
+    _ _ (first_written c.args.state (sized_of (goal.at.returns c).Start) c.args.numbers.now
     c.if-numbers-lt-STATE_NUMBERS.false _
     (back32 _ c.mark-started.type_inv ∙ c.mark-started.ensures))
     c.store_active.ensures

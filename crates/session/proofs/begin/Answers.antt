@@ -8,27 +8,19 @@ use Rattle.session.proofs.begin.Goals as goal
 
 pub returns-then-answer-ne0 : goal.returns-then-answer-ne0
 returns-then-answer-ne0 c =
-    let none = c.before.before.before.before.before in
-    let test = none.before in
     open_refused _ _ _ _ _ _ _ (rw c.requires.0 at c.read-answer.ensures.result) c.if-answer-ne0.true refl
     (rw c.unstarted.ensures.result at c.refusal-t.ensures)
 
 pub started-t-requires : goal.started-t-requires
 started-t-requires c =
-    let test = c.before.before.before in
-    let call = test.before.before.before in
-    let top = call.before.before.before.before in
-    let e = rw top.requires.0 at c.read-answer.ensures.result in
-    let m = rw top.requires.0 at c.read-answer.ensures.lent in
-    let j : length c.read-answer.new.1.0 ≡ length top.args.chart.now = search rules in
-    (read_ruled _ _ _ e m (j ∙ top.requires.0) c.if-answer-ne0.false, top.requires.1)
+    let e = rw c.requires.0 at c.read-answer.ensures.result in
+    let m = rw c.requires.0 at c.read-answer.ensures.lent in
+    let j : length c.read-answer.new.chart ≡ length c.args.chart.now = search rules in
+    (read_ruled _ _ _ e m (j ∙ c.requires.0) c.if-answer-ne0.false, c.requires.1)
 
 pub returns : goal.returns
 returns c =
-    let test = c.before.before.before.before.before.before.before.before in
-    let call = test.before.before.before in
-    let top = call.before.before.before.before in
-    let e = rw top.requires.0 at c.read-answer.ensures.result in
-    let m = rw top.requires.0 at c.read-answer.ensures.lent in
-    let j : length c.read-answer.new.1.0 ≡ length top.args.chart.now = search rules in
-    open_started _ _ _ e m (j ∙ top.requires.0) c.if-answer-ne0.false _ _ _ _ refl c.started-t.ensures
+    let e = rw c.requires.0 at c.read-answer.ensures.result in
+    let m = rw c.requires.0 at c.read-answer.ensures.lent in
+    let j : length c.read-answer.new.chart ≡ length c.args.chart.now = search rules in
+    open_started _ _ _ e m (j ∙ c.requires.0) c.if-answer-ne0.false _ _ _ _ refl c.started-t.ensures

@@ -7,7 +7,6 @@ use Rattle.session.proofs.finish.Goals as goal
 
 pub returns-then-began : goal.returns-then-began
 returns-then-began c =
-    let test = c.before.before.before.before.before.before in
     end_begun (do_line (chart_of c.args.chart.now)) _ _ _ _ _ _
     c.line_ends.ensures
     (sym c.began.ensures ∙ c.if-began.true)

@@ -6,6 +6,5 @@ use Rattle.session.proofs.line_ends.Goals as goal
 
 pub returns : goal.returns
 returns c =
-    let turned = c.before.before.before.before.before in
     line_takes (do_line (chart_of c.args.chart.now)) _ _ _ _ _ _ _ _ c.line.ensures c.empty.ensures
     c.turn-ended.ensures

@@ -7,8 +7,6 @@ use Rattle.session.proofs.ran.Goals as goal
 
 pub returns : goal.returns
 returns c =
-    let call = c.before.before.before.before.before.before.before.before in
-    let top = call.before.before.before in
-    let k : length c.run_checked-called.new.1.1.0 ≡ length top.args.trace.now = search rules in
-    run_takes _ _ _ _ _ _ top.requires.0 _ _ top.requires.1 (k ∙ top.requires.1) _
+    let k : length c.run_checked-called.new.trace ≡ length c.args.trace.now = search rules in
+    run_takes _ _ _ _ _ _ c.requires.0 _ _ c.requires.1 (k ∙ c.requires.1) _
     c.report-place.ensures c.run_checked-called.ensures

@@ -7,10 +7,7 @@ use Rattle.session.proofs.started.Goals as goal
 
 pub returns : goal.returns
 returns c =
-    let call = c.before.before.before.before.before.before.before.before in
-    let none = call.before.before in
-    let top = none.before.before in
-    let k : length c.start_checked-called.new.1.1.0 ≡ length top.args.trace.now = search rules in
+    let k : length c.start_checked-called.new.trace ≡ length c.args.trace.now = search rules in
     rw c.unstarted.ensures.result at
-    (start_takes _ _ _ _ _ _ top.requires.0 _ _ top.requires.1 (k ∙ top.requires.1) _
+    (start_takes _ _ _ _ _ _ c.requires.0 _ _ c.requires.1 (k ∙ c.requires.1) _
     c.report-place.ensures c.start_checked-called.ensures)

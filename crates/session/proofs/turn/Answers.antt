@@ -11,8 +11,6 @@ use Rattle.session.proofs.turn.Goals as goal
 
 pub returns-then-number-ne0 : goal.returns-then-number-ne0
 returns-then-number-ne0 c =
-    let posted = c.before.before.before.before.before.before.before in
-    let said = posted.before in
     let m : mag c.in-Posts.event < 2 ^ 31 = search rules in
     let n : mag c.in-Posts.argument < 2 ^ 31 = search rules in
     let told = rw (back32 c.in-Posts.event m, back32 c.in-Posts.argument n) at c.post_checked-posted.ensures.result in
@@ -22,8 +20,6 @@ returns-then-number-ne0 c =
 
 pub returns-else-number-ne0 : goal.returns-else-number-ne0
 returns-else-number-ne0 c =
-    let posted = c.before.before.before.before.before.before.before.before.before in
-    let said = posted.before in
     let m : mag c.in-Posts.event < 2 ^ 31 = search rules in
     let n : mag c.in-Posts.argument < 2 ^ 31 = search rules in
     let told = rw (back32 c.in-Posts.event m, back32 c.in-Posts.argument n) at c.post_checked-posted.ensures.result in

@@ -1,7 +1,6 @@
 -- `walk` goes from line to line of the part, from a place on. The measure is what is left of the part. Assumes nothing.
 use mathlib.Core.Path.{sym, ◌∙◌}
 use Prim.Native.Nat.{◌<◌, ◌^◌}
-use borrow.Author.Tests.{not-true, not-false}
 use native.Mathlib.Omega.{arith}
 use lib.ListN.{length}
 use Rattle.session.proofs.WalkLaws.{walk_begins, walk_line, walk_ends, walk_done, walk_full}
@@ -20,10 +19,8 @@ line_ends-now-requires c =
 
 pub overflow_add-i : goal.overflow_add-i
 overflow_add-i c =
-    let test = c.before.before.before.before.before.before.before in
     let collected = c.collect-line.ensures in
-    let top = test.before.before.before.before.before.before.before.before.before.before.before in
-    let most : length top.args.part.now < 2 ^ 64 = search rules in
+    let most : length c.args.part.now < 2 ^ 64 = search rules in
     omega (arith, collected.within, c.if-line-part.false)
 
 pub loop-i-smaller : goal.loop-i-smaller
@@ -32,14 +29,11 @@ loop-i-smaller c =
     omega (arith, collected.order, collected.within, c.if-line-part.false)
 
 pub loop-i-preserved : goal.loop-i-preserved
-loop-i-preserved c =
-    let test = c.before.before.before.before.before.before.before in
-    let room = test.before.before.before.before in
-    (
-      walk_line _ _ _ _ _ _ _ _ _ c.loop-i.invariant.0 _ (sym c.has_room.ensures ∙ not-false _ c.if-not-has_room.false-raw)
-          c.collect-line.ensures c.if-line-part.false _ _ c.line_ends-now.ensures,
-      search rules,
-    )
+loop-i-preserved c = (
+  walk_line _ _ _ _ _ _ _ _ _ c.loop-i.invariant.0 _ (sym c.has_room.ensures ∙ c.if-not-has_room.false)
+      c.collect-line.ensures c.if-line-part.false _ _ c.line_ends-now.ensures,
+  search rules,
+)
 
 pub returns-after-loop-i : goal.returns-after-loop-i
 returns-after-loop-i c = walk_done _ _ _ _ _ _ _ _ _ c.loop-i.invariant.0 c.loop-i-test.false
@@ -47,9 +41,9 @@ returns-after-loop-i c = walk_done _ _ _ _ _ _ _ _ _ c.loop-i.invariant.0 c.loop
 pub returns-then-not-has_room : goal.returns-then-not-has_room
 returns-then-not-has_room c =
     walk_full _ _ _ _ _ _ _ _ _ c.loop-i.invariant.0
-    (sym c.has_room.ensures ∙ not-true _ c.if-not-has_room.true-raw)
+    (sym c.has_room.ensures ∙ c.if-not-has_room.true)
 
 pub returns-then-line-part : goal.returns-then-line-part
 returns-then-line-part c =
     walk_ends _ _ _ _ _ _ _ _ _ c.loop-i.invariant.0 _
-    (sym c.has_room.ensures ∙ not-false _ c.if-not-has_room.false-raw) c.collect-line.ensures c.if-line-part.true
+    (sym c.has_room.ensures ∙ c.if-not-has_room.false) c.collect-line.ensures c.if-line-part.true

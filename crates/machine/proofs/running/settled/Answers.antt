@@ -15,22 +15,18 @@ pub bounds-links-256 : goal.bounds-links-256
 bounds-links-256 c = omega (arith, c.requires.4.size)
 
 pub returns-then-links : goal.returns-then-links
-returns-then-links c =
-    let e = c.before.before.before in
-    (
-      λ s b d. settled_once (plan_by c.args.plan.now) s b d c.if-went-ne0.false
-          (settles_none c.requires.0 c.requires.4 c.if-links.true c.requires.3),
-      c.requires.1,
-    )
+returns-then-links c = (
+  λ s b d. settled_once (plan_by c.args.plan.now) s b d c.if-went-ne0.false
+      (settles_none c.requires.0 c.requires.4 c.if-links.true c.requires.3),
+  c.requires.1,
+)
 
 pub settle-requires : goal.settle-requires
 settle-requires c =
-    let e = c.before.before.before.before.before.before.before.before.before in
     (c.requires.0, c.requires.1, c.requires.2 c.if-went-ne0.false, c.requires.3, c.requires.4)
 
 pub returns : goal.returns
-returns c =
-    (
-      λ s b d. settled_on (plan_by c.args.plan.now) s b d c.if-went-ne0.false c.settle.ensures.0,
-      c.settle.ensures.1,
-    )
+returns c = (
+  λ s b d. settled_on (plan_by c.args.plan.now) s b d c.if-went-ne0.false c.settle.ensures.0,
+  c.settle.ensures.1,
+)

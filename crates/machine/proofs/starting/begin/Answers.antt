@@ -3,27 +3,14 @@ use mathlib.Core.Path.{◌∙◌}
 use native.Mathlib.Omega.{arith}
 use Rattle.plan_code.proofs.Named.{start_block}
 use Rattle.machine.proofs.Starts.{begin_stop, begin_on}
-use Rattle.machine.proofs.starting.begin.Goals.{After-run_block-arg-5-1, After-settle-arg-6-1, After-trace-2-1, Start, Then-started-ne0}
 use Rattle.machine.proofs.starting.begin.Goals as goal
-
-abbrev start-from-run-block-arg5 : After-run_block-arg-5-1 → Start
-start-from-run-block-arg5 c = c.before.before.before.before.before
-
-abbrev start-from-then1 : Then-started-ne0 → Start
-start-from-then1 c = start-from-run-block-arg5 c.before.before.before.before
-
-abbrev start-from-settle-arg6 : After-settle-arg-6-1 → Start
-start-from-settle-arg6 c = c.before.before.before.before.before.before.before.before.before.before.before.before.before.before.before
-
-abbrev start-from-trace2 : After-trace-2-1 → Start
-start-from-trace2 c = start-from-settle-arg6 c.before.before
 
 pub run_block-started-requires : goal.run_block-started-requires
 run_block-started-requires c = (start_block c.requires.0, c.requires.2, omega arith)
 
 pub returns-then-started-ne0 : goal.returns-then-started-ne0
 returns-then-started-ne0 c =
-    begin_stop (start-from-then1 c).args.plan.now (start-from-then1 c).requires.0
+    begin_stop c.args.plan.now c.requires.0
     c.run_block-started.ensures c.if-started-ne0.true
 
 pub settle-requires : goal.settle-requires
@@ -38,6 +25,6 @@ settle-requires c =
 
 pub returns : goal.returns
 returns c =
-    begin_on (start-from-trace2 c).args.plan.now (start-from-trace2 c).requires.0
+    begin_on c.args.plan.now c.requires.0
     c.run_block-started.ensures
     c.if-started-ne0.false c.settle.ensures.0

@@ -21,7 +21,7 @@ finish-requires c = c.begin-went.ensures.did.fits
 pub returns : goal.returns
 returns c =
     let a = c.args in
-    start_ends (plan_by a.plan.now) _ a.trace-1.now _ _
+    start_ends (plan_by a.plan.now) _ a.trace.now _ _
     (rw (
       c.first_values-vars.ensures,
       c.lend-queue.ensures,

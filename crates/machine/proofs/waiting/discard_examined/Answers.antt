@@ -15,7 +15,7 @@ returns-then-not-own c =
     let a = c.args in
     c.refused-then-not-own.ensures ∙ discard_6 (plan_by a.plan.now) a.state
     (not-false _ c.if-not-state.false)
-    (sym c.own.ensures ∙ not-true _ c.if-not-own.true-raw)
+    (sym c.own.ensures ∙ c.if-not-own.true)
 
 pub returns-then-not-removed : goal.returns-then-not-removed
 returns-then-not-removed c =
@@ -23,7 +23,7 @@ returns-then-not-removed c =
     c.refused-then-not-removed.ensures
     ∙ discard_8 (plan_by a.plan.now) a.state
     (not-false _ c.if-not-state.false)
-    (sym c.own.ensures ∙ not-false _ c.if-not-own.false-raw)
+    (sym c.own.ensures ∙ c.if-not-own.false)
     c.remove-removed.ensures
     (not-true _ c.if-not-removed.true)
 
@@ -33,7 +33,6 @@ returns c =
     (rw c.with_queue.ensures at c.done.ensures)
     ∙ discard_0 (plan_by a.plan.now) a.state
     (not-false _ c.if-not-state.false)
-    (sym c.own.ensures ∙ not-false _
-    c.if-not-own.false-raw)
+    (sym c.own.ensures ∙ c.if-not-own.false)
     c.remove-removed.ensures
     (not-false _ c.if-not-removed.false)

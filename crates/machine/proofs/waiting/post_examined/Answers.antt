@@ -19,7 +19,7 @@ returns-then-not-own c =
     c.refused-then-not-own.ensures
     ∙ post_6 (plan_by a.plan.now) a.state a.event a.arg
     (not-false _ c.if-not-state.false)
-    (sym c.own.ensures ∙ not-true _ c.if-not-own.true-raw)
+    (sym c.own.ensures ∙ c.if-not-own.true)
 
 pub returns-then-not-event_fits : goal.returns-then-not-event_fits
 returns-then-not-event_fits c =
@@ -28,10 +28,9 @@ returns-then-not-event_fits c =
     c.refused-then-not-event_fits.ensures
     ∙ post_10 (plan_by a.plan.now) a.state a.event a.arg
     (not-false _ c.if-not-state.false)
-    (sym c.own.ensures ∙ not-false _ c.if-not-own.false-raw)
+    (sym c.own.ensures ∙ c.if-not-own.false)
     (events_is c.requires)
-    (sym (rw (to_z-of_z f.event, to_z-of_z f.arg) at c.event_fits.ensures) ∙ not-true _
-    c.if-not-event_fits.true-raw)
+    (sym (rw (to_z-of_z f.event, to_z-of_z f.arg) at c.event_fits.ensures) ∙ c.if-not-event_fits.true)
 
 pub returns-then-not-queued : goal.returns-then-not-queued
 returns-then-not-queued c =
@@ -40,11 +39,10 @@ returns-then-not-queued c =
     c.refused-then-not-queued.ensures
     ∙ post_9 (plan_by a.plan.now) a.state a.event a.arg
     (not-false _ c.if-not-state.false)
-    (sym c.own.ensures ∙ not-false _
-    c.if-not-own.false-raw)
+    (sym c.own.ensures ∙ c.if-not-own.false)
     (events_is c.requires)
     (sym (rw (to_z-of_z f.event, to_z-of_z f.arg) at c.event_fits.ensures) ∙
-    not-false _ c.if-not-event_fits.false-raw)
+    c.if-not-event_fits.false)
     (rw (to_z-of_z f.event, to_z-of_z f.arg) at c.append-queued.ensures)
     (not-true _ c.if-not-queued.true)
 
@@ -59,10 +57,9 @@ returns c =
     (not-false _
     c.if-not-state.false)
     (sym c.own.ensures ∙
-    not-false _ c.if-not-own.false-raw)
+    c.if-not-own.false)
     (events_is c.requires)
     (sym (rw (to_z-of_z f.event, to_z-of_z f.arg) at
-    c.event_fits.ensures) ∙ not-false _
-    c.if-not-event_fits.false-raw)
+    c.event_fits.ensures) ∙ c.if-not-event_fits.false)
     (rw (to_z-of_z f.event, to_z-of_z f.arg) at c.append-queued.ensures)
     (not-false _ c.if-not-queued.false)

@@ -4,6 +4,7 @@ use Prim.Native.Nat.{ℕ, ◌+◌, ◌*◌, ◌<◌}
 use native.Mathlib.Omega.{arith}
 use lib.IntN.{pos}
 use lib.ListN.{get_or, length, length-replicate, take}
+use borrow.Author.Rules.{rules}
 use mir.Syntax.{w32}
 use mir.Val.{of_z, to_z}
 use Rattle.numbers.proofs.Laws.{back32}
@@ -41,8 +42,8 @@ next_is : (c : After-post_and_run-now)
 next_is c =
     event_at c.args.events.now c.args.count c.loop-done.done _ _
     c.loop-done-test.true c.requires.1
-    (back32 _ c.event-1.given)
-    (back32 _ c.arg-1.given)
+    (back32 _ (search rules))
+    (back32 _ (search rules))
 
 pub post_and_run-now-requires : goal.post_and_run-now-requires
 post_and_run-now-requires c =
@@ -52,16 +53,15 @@ post_and_run-now-requires c =
 
 pub returns-then-now-ne0 : goal.returns-then-now-ne0
 returns-then-now-ne0 c =
-    let q = c.before.before.before in
+    let q = (goal.at.returns-then-now-ne0 c).After-post_and_run-now in
     let a = c.args in
     coursing_stop (well a.plan.now c.requires.0.formed) c.loop-done.invariant.0 (next-there q) (next_is q)
     c.post_and_run-now.ensures.0 c.if-now-ne0.true
-    (all_lent a.active.now a.slots.now a.vars.now a.queue.now a.trace-1.now) refl refl
+    (all_lent a.active.now a.slots.now a.vars.now a.queue.now a.trace.now) refl refl
 
 pub loop-done-preserved : goal.loop-done-preserved
 loop-done-preserved c =
-    let q = c.before.before.before in
-    (
+    let q = (goal.at.loop-done-preserved c).After-post_and_run-now in (
       coursing_more (well c.args.plan.now c.requires.0.formed) c.loop-done.invariant.0 (next-there q)
           (next_is q) c.post_and_run-now.ensures.0 c.if-now-ne0.false,
       c.post_and_run-now.ensures.1,
@@ -73,7 +73,7 @@ returns c =
     let a = c.args in
     let n = so_many a.events.now a.count c.requires.1 in
     coursing_end (well a.plan.now c.requires.0.formed) c.loop-done.invariant.0
-    (all_lent a.active.now a.slots.now a.vars.now a.queue.now a.trace-1.now) refl refl
+    (all_lent a.active.now a.slots.now a.vars.now a.queue.now a.trace.now) refl refl
     (omega (arith, n, c.loop-done-test.false))
 
 pub overflow_mul-event : goal.overflow_mul-event

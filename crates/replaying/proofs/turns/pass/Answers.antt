@@ -2,6 +2,7 @@
 use mathlib.Core.Path.{◌≡◌, ap, ◌∙◌}
 use lib.IntN.{pos}
 use lib.ListN.{get_or}
+use borrow.Author.Rules.{rules}
 use mir.Facts.{to_z-of_z}
 use Rattle.numbers.proofs.Laws.{back32}
 use Rattle.numbers.specs.Reference.{ref}
@@ -13,7 +14,7 @@ use Rattle.replaying.proofs.turns.pass.Goals as goal
 pub returns-then-len-ge-QUEUE : goal.returns-then-len-ge-QUEUE
 returns-then-len-ge-QUEUE c =
     pass_full c.args.queue.now c.requires.0 _
-    (c.reference-len.ensures ∙ ap ref (back32 (get_or c.args.queue.now 0 (pos 0)) c.reference-arg-1.given))
+    (c.reference-len.ensures ∙ ap ref (back32 (get_or c.args.queue.now 0 (pos 0)) (search rules)))
     _ _ c.if-len-ge-QUEUE.true _
 
 pub returns-then-len-eq0 : goal.returns-then-len-eq0
@@ -21,19 +22,17 @@ returns-then-len-eq0 c =
     rw (to_z-of_z c.ranges.event, to_z-of_z c.ranges.arg)
     (pass_empty c.args.queue.now c.requires.0 _
     (c.reference-len.ensures ∙ ap ref
-    (back32 (get_or c.args.queue.now 0 (pos 0)) c.reference-arg-1.given))
+    (back32 (get_or c.args.queue.now 0 (pos 0)) (search rules)))
     c.args.event c.args.arg c.if-len-ge-QUEUE.false c.if-len-eq0.true c.requires.1)
 
 pub returns : goal.returns
 returns c =
-    let r = c.before.before.before.before.before.before.before.before.before.before.before.before in
-    let s = r.before.before in
-    let e : c.append-queued.result ≡ appended c.held-waiting.result s.args.event s.args.arg =
-    rw (to_z-of_z s.fits.event, to_z-of_z s.fits.arg) at c.append-queued.ensures in
-    pass_on s.args.queue.now s.pre.0 _
-    (c.reference-len.ensures ∙ ap ref (back32 (get_or s.args.queue.now 0 (pos 0)) c.reference-arg-1.given))
-    s.args.event s.args.arg c.if-len-ge-QUEUE.false _
+    let e : c.append-queued.result ≡ appended c.held-waiting.result c.args.event c.args.arg =
+    rw (to_z-of_z c.ranges.event, to_z-of_z c.ranges.arg) at c.append-queued.ensures in
+    pass_on c.args.queue.now c.requires.0 _
+    (c.reference-len.ensures ∙ ap ref (back32 (get_or c.args.queue.now 0 (pos 0)) (search rules)))
+    c.args.event c.args.arg c.if-len-ge-QUEUE.false _
     c.remove-removed.result
     (c.remove-removed.ensures ∙ ap (λ (q : Queued). removed q.queue) e
-    ∙ ap (λ q. removed (appended q s.args.event s.args.arg).queue) c.held-waiting.ensures)
+    ∙ ap (λ q. removed (appended q c.args.event c.args.arg).queue) c.held-waiting.ensures)
     (c.put_back.ensures ∙ c.lend.ensures)

@@ -13,7 +13,7 @@ pub loop-i-preserved : goal.loop-i-preserved
 loop-i-preserved c = (
   omega arith,
   put_more c.args.queue.now c.args.numbers _ _ _ c.requires
-      (search rules) c.loop-i-test.true c.loop-i.invariant.1 (back32 _ c.x-1.given),
+      (search rules) c.loop-i-test.true c.loop-i.invariant.1 (back32 _ (search rules)),
 )
 
 pub returns : goal.returns
