@@ -1,11 +1,6 @@
-use mathlib.Core.Path.{◌≡◌}
-use Prim.Native.Nat.{◌-◌}
-use lib.ListN.{length}
-use Rattle.meaning.specs.Program.{ROOM}
+use Rattle.std.proofs.Common.{length, ◌-◌}
 use Rattle.call_vectors.proofs.each_on.Given as goal
 
-abbrev pub invariant-loop-at : goal.invariant-loop-at
-invariant-loop-at l = ROOM ≡ length l.trace
-
+-- Each turn goes on by a line at least.
 abbrev pub decreases-loop-at : goal.decreases-loop-at
-decreases-loop-at l = length l.calls - l.at
+decreases-loop-at g l = length l.calls - l.at

@@ -3,4 +3,4 @@ use Rattle.plan_session.proofs.Passed.{was_passed}
 use Rattle.plan_session.proofs.run_plan.Goals as goal
 
 pub run_widget-requires : goal.run_widget-requires
-run_widget-requires c = was_passed c.args.plan.now c.examine-verdict.ensures c.if-verdict-ne0.false
+run_widget-requires g c = was_passed c.args.plan.now c.examine-verdict.ensures c.if-verdict-ne0.false

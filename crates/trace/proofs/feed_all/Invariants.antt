@@ -8,9 +8,9 @@ use Rattle.trace.proofs.Feeding.{Feeding}
 use Rattle.trace.proofs.feed_all.Given as goal
 
 abbrev pub invariant-loop-i : goal.invariant-loop-i
-invariant-loop-i l =
-    Feeding (do_line (chart_of l.chart)) l.part (seen l.initial.now) l.i (seen l.now) × (length l.out ≡ length l.initial.out) × (l.now.at + LARGEST ≤ length l.out)
+invariant-loop-i g l =
+    Feeding (do_line (chart_of l.chart)) l.part (seen l.fn.under) l.i (seen l.now) × (length l.out ≡ length l.fn.out) × (l.now.at + LARGEST ≤ length l.out)
     × (length l.trace ≡ ROOM)
 
 abbrev pub decreases-loop-i : goal.decreases-loop-i
-decreases-loop-i l = length l.part - l.i
+decreases-loop-i g l = length l.part - l.i

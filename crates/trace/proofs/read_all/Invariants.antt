@@ -1,14 +1,12 @@
--- `read_all` keeps room for one more report. The measure is the count of parts that are left. Assumes nothing.
-use mathlib.Core.Path.{◌≡◌}
-use Prim.Native.Nat.{◌+◌, ◌≤◌}
-use lib.ListN.{length}
+use Rattle.std.proofs.Common.{length, ◌≤◌, ◌≡◌, ◌+◌}
 use Rattle.meaning.specs.Program.{ROOM}
 use Rattle.session.specs.Turned.{LARGEST}
 use Rattle.trace.proofs.read_all.Given as goal
 
+-- Room for one more report.
 abbrev pub invariant-loop-parts : goal.invariant-loop-parts
-invariant-loop-parts l =
-    (length l.out ≡ length l.initial.out) × (l.now.at + LARGEST ≤ length l.out) × (length l.trace ≡ ROOM)
+invariant-loop-parts g l = (length l.out ≡ length l.fn.out) × (l.now.at + LARGEST ≤ length l.out) × (length l.trace ≡ ROOM)
 
+-- A part fewer is left after each.
 abbrev pub decreases-loop-parts : goal.decreases-loop-parts
-decreases-loop-parts l = l.parts
+decreases-loop-parts g l = l.parts

@@ -6,8 +6,8 @@ use borrow.Author.Rules.{rules}
 use Rattle.trace.proofs.run_session.Goals as goal
 
 pub print-requires : goal.print-requires
-print-requires c =
-    let end = c.before.before.before.before in
-    let w = c.finish-last.ensures.whole c.read_all-read.ensures in
-    let k : length c.finish-last.new.1.1.0 ≡ length c.read_all-read.new.1.1.0 = search rules in
-    omega (arith, c.read_all-read.ensures)
+print-requires g c =
+    let room = c.in_ok-read.ensures in
+    let w = c.finish-last.ensures.whole room in
+    let k : length c.finish-last.new.out ≡ length c.read_all.new.out = search rules in
+    omega (arith, room)

@@ -1,5 +1,4 @@
--- `queue_from` reads an event and an argument for each place. The measure is the places that are left. Assumes nothing.
-use Prim.Native.Nat.{◌-◌, ◌≤◌}
+use Rattle.std.proofs.Common.{◌≤◌, ◌-◌}
 use Rattle.sizes.specs.Sizes.{QUEUE}
 use Rattle.call_vectors.proofs.saved.queue_from.Given as goal
 

@@ -1,5 +1,4 @@
--- `slots_from` reads a slot for each state. The measure is the states that are left. Assumes nothing.
-use Prim.Native.Nat.{◌-◌, ◌≤◌}
+use Rattle.std.proofs.Common.{◌≤◌, ◌-◌}
 use Rattle.sizes.specs.Sizes.{STATES}
 use Rattle.call_vectors.proofs.saved.slots_from.Given as goal
 

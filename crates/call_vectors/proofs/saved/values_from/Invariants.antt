@@ -1,5 +1,4 @@
--- `values_from` reads a value for each variable. The measure is the variables that are left. Assumes nothing.
-use Prim.Native.Nat.{◌-◌, ◌≤◌}
+use Rattle.std.proofs.Common.{◌≤◌, ◌-◌}
 use Rattle.sizes.specs.Sizes.{VARIABLES}
 use Rattle.call_vectors.proofs.saved.values_from.Given as goal
 

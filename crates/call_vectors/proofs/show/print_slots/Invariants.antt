@@ -1,10 +1,9 @@
--- `print_slots` looks at each slot once. The measure is the slots that are left. Assumes nothing.
-use Prim.Native.Nat.{◌-◌, ◌≤◌}
+use Rattle.std.proofs.Common.{◌≤◌, ◌-◌}
 use Rattle.sizes.specs.Sizes.{STATES}
 use Rattle.call_vectors.proofs.show.print_slots.Given as goal
 
 abbrev pub invariant-loop-k : goal.invariant-loop-k
-invariant-loop-k l = l.k ≤ STATES
+invariant-loop-k g l = l.k ≤ STATES
 
 abbrev pub decreases-loop-k : goal.decreases-loop-k
-decreases-loop-k l = STATES - l.k
+decreases-loop-k g l = STATES - l.k

@@ -1,8 +1,7 @@
-use mathlib.Core.Path.{◌≡◌}
-use Prim.Native.Nat.{◌≤◌, ◌-◌}
-use lib.ListN.{length}
+use Rattle.std.proofs.Common.{length, ◌≤◌, ◌≡◌, ◌-◌}
 use Rattle.plan_vectors.proofs.charts.same.Given as goal
 
+-- Both have the numbers that are compared.
 abbrev pub invariant-loop-i : goal.invariant-loop-i
 invariant-loop-i l = (l.n ≤ length l.plan) × (length l.wanted ≡ l.n)
 
