@@ -2,7 +2,9 @@
 use mathlib.Core.Path.{sym, ◌∙◌}
 use borrow.Author.Rules.{rules}
 use native.Mathlib.Omega.{arith}
-use lib.ListN.{drop, length-drop}
+use Prim.Native.Nat.{◌+◌, ◌<◌, ◌^◌}
+use lib.ListN.{drop, get_or, length-drop}
+use lib.Signed.{mag}
 use lib.Seq.{paste-zero, get_or-drop}
 use lib.IntN.{pos}
 use Rattle.numbers.proofs.Laws.{back32}
@@ -19,10 +21,11 @@ loop-i-init c = (
 pub loop-i-preserved : goal.loop-i-preserved
 loop-i-preserved c =
     let a = c.args in
-    let l = c.loop-i in (
+    let l = c.loop-i in
+    let f : mag (get_or a.from.now (a.at + l.i) (pos 0)) < 2 ^ 31 = search rules in (
       omega arith,
       paste_more a.to.now (drop a.at a.from.now) l.to a.place l.i _ (pos 0) l.invariant.1
-          (back32 _ c.n-1.given ∙ sym (get_or-drop a.at a.from.now l.i (pos 0))) (omega arith)
+          (back32 _ f ∙ sym (get_or-drop a.at a.from.now l.i (pos 0))) (omega arith)
           (rw length-drop (omega arith)),
       search rules,
     )

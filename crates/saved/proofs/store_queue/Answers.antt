@@ -15,8 +15,7 @@ long c = c.well_formed.0.1.1.1.0.1.0.1
 
 pub returns : goal.returns
 returns c =
-    let k = c.before.before.before.before.before.before in
-    length_written c.args.numbers.now _ c.args.queue _ (long k) c.requires
+    length_written c.args.numbers.now _ c.args.queue _ (long (goal.at.returns c).Start) c.requires
     (c.copy.ensures ∙ ap (λ l. paste c.args.numbers.now LENGTH_AT l QUEUE_NUMBERS)
     c.lend-waiting.ensures)
     (back32 _ c.small-len.type_inv ∙ c.small-len.ensures)

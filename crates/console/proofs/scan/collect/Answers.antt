@@ -7,7 +7,6 @@ loop-i-init c = collects_none _ _ _ c.requires
 
 pub loop-i-preserved : goal.loop-i-preserved
 loop-i-preserved c =
-    let no-lf = c.before.before in
     collects_more _ _ _ _ _ c.loop-i.invariant _ c.loop-i-test.true c.if-part-i-eq-LF.false c.feed-line.ensures
 
 pub returns-after-loop-i : goal.returns-after-loop-i
