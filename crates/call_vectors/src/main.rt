@@ -11,7 +11,7 @@ mod parse;
 mod saved;
 mod show;
 
-ghost use Rattle.std.specs.Prelude.{◌≤◌, length, IfOk};
+ghost use Rattle.std.specs.Prelude.{◌≡◌, ◌≤◌, length, IfOk, OnErr};
 ghost use Rattle.std.specs.Counts.{IsPrefixLen};
 
 use engine::plans::compile;
@@ -38,7 +38,8 @@ pub const R: u8 = 114;
 
 // A case's file, by the case's name and how the file's name ends: its length, 0 where it cannot be opened.
 fn load(rt: &impl Files, name: &[u8], ending: &[u8], buffer: &mut [u8]) -> io::Result<usize>
-    ensures { IfOk result (λ n. IsPrefixLen n buffer.new) }
+    ensures ok { IfOk result (λ n. IsPrefixLen n buffer.new) }
+    ensures err { OnErr result (length buffer.new ≡ length buffer.old) }
 {
     let mut path = [0u8; ARGUMENT];
     let a = parse::joined(&mut path, 0, name);

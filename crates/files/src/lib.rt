@@ -1,7 +1,7 @@
 // Files that the programs read: the text of chart.txt, and what an argument names; and what the programs lend.
 #![tactic(auto)]
 
-ghost use Rattle.std.specs.Prelude.{IfOk, IfSome};
+ghost use Rattle.std.specs.Prelude.{◌≡◌, length, IfOk, OnErr, IfSome};
 ghost use Rattle.std.specs.Counts.{IsPrefixLen};
 
 use sizes::TEXT;
@@ -25,7 +25,8 @@ pub const ARGUMENT: usize = 4096;
 
 // Reads until the buffer is full or the input ends: how many bytes now stand at the buffer's start.
 pub fn read_full(input: &mut impl Read, buffer: &mut [u8]) -> io::Result<usize>
-    ensures { IfOk result (λ n. IsPrefixLen n buffer.new) }
+    ensures ok { IfOk result (λ n. IsPrefixLen n buffer.new) }
+    ensures err { OnErr result (length buffer.new ≡ length buffer.old) }
 {
     let mut done = 0;
     while done < buffer.len() {
@@ -41,7 +42,8 @@ pub fn read_full(input: &mut impl Read, buffer: &mut [u8]) -> io::Result<usize>
 // A file's bytes, as many as the buffer holds: how many, and none where it cannot be opened. A path is UTF-8: one of other bytes names no
 // file that can be opened.
 pub fn file_bytes(rt: &impl Files, path: &[u8], buffer: &mut [u8]) -> io::Result<Option<usize>>
-    ensures { IfOk result (λ found. IfSome found (λ n. IsPrefixLen n buffer.new)) }
+    ensures ok { IfOk result (λ found. IfSome found (λ n. IsPrefixLen n buffer.new)) }
+    ensures err { OnErr result (length buffer.new ≡ length buffer.old) }
 {
     let Ok(name) = str::from_utf8(path) else {
         return Ok(None);
@@ -55,7 +57,8 @@ pub fn file_bytes(rt: &impl Files, path: &[u8], buffer: &mut [u8]) -> io::Result
 
 // The chart's text, and its length: 0 where the file is missing.
 pub fn chart_text(rt: &impl Files, buffer: &mut [u8]) -> io::Result<usize>
-    ensures { IfOk result (λ n. IsPrefixLen n buffer.new) }
+    ensures ok { IfOk result (λ n. IsPrefixLen n buffer.new) }
+    ensures err { OnErr result (length buffer.new ≡ length buffer.old) }
 {
     let found = file_bytes(rt, b"chart.txt", buffer)?;
     Ok(found.unwrap_or(0))

@@ -1,5 +1,5 @@
 // A chart compiled, and its plan held to the numbers that it must give.
-ghost use Rattle.std.specs.Prelude.{◌≤◌, length, IfOk};
+ghost use Rattle.std.specs.Prelude.{◌≡◌, ◌≤◌, length, IfOk, OnErr};
 ghost use Rattle.std.specs.Counts.{IsPrefixLen};
 
 use super::lines::read_numbers;
@@ -20,7 +20,8 @@ fn print_number(rt: &impl Print, n: usize) -> io::Result<()> {
 
 // A file's bytes, by its name: how many, 0 where it cannot be opened.
 fn load(rt: &impl Files, path: &[u8], buffer: &mut [u8]) -> io::Result<usize>
-    ensures { IfOk result (λ n. IsPrefixLen n buffer.new) }
+    ensures ok { IfOk result (λ n. IsPrefixLen n buffer.new) }
+    ensures err { OnErr result (length buffer.new ≡ length buffer.old) }
 {
     let found = file_bytes(rt, path, buffer)?;
     Ok(found.unwrap_or(0))
@@ -83,7 +84,8 @@ fn report(rt: &impl Print, text: &[u8], wanted: &[i32]) -> io::Result<()> {
 
 // The plan that the argument's file states, one number a line.
 fn wanted_by(rt: &(impl Env + Files), place: usize, wanted: &mut [i32]) -> io::Result<usize>
-    ensures { IfOk result (λ n. n ≤ length wanted.new) }
+    ensures ok { IfOk result (λ n. n ≤ length wanted.new) }
+    ensures err { OnErr result (length wanted.new ≡ length wanted.old) }
 {
     let mut name = [0u8; ARGUMENT];
     let named = argument(rt, place, &mut name).unwrap_or(0);

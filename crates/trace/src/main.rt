@@ -4,7 +4,7 @@
 // any size. A read or a write that fails ends it with that error.
 #![tactic(auto)]
 
-ghost use Rattle.std.specs.Prelude.{◌≡◌, ◌+◌, ◌≤◌, length, IfOk};
+ghost use Rattle.std.specs.Prelude.{◌≡◌, ◌+◌, ◌≤◌, length, IfOk, OnErr};
 ghost use Rattle.meaning.specs.Value.{chart_of};
 ghost use Rattle.meaning.specs.Program.{ROOM as Room, do_line};
 ghost use Rattle.meaning.specs.Rules.{Ruled};
@@ -55,7 +55,8 @@ fn feed_all(
     trace: &mut [i32],
 ) -> io::Result<Under>
     requires { Ruled chart.now × (under.at + Largest ≤ length out.old) × (length trace.old ≡ Room) }
-    ensures { IfOk result (λ fed. Fed (do_line (chart_of chart.now)) part.now (seen under) out.new fed) }
+    ensures ok { IfOk result (λ fed. Fed (do_line (chart_of chart.now)) part.now (seen under) out.new fed) }
+    ensures err { OnErr result ((length out.new ≡ length out.old) × (length trace.new ≡ length trace.old)) }
 {
     let mut now = under;
     let mut i = 0;
@@ -84,7 +85,8 @@ fn read_some(
     trace: &mut [i32],
 ) -> io::Result<Part>
     requires { Ruled chart.now × (under.at + Largest ≤ length out.old) × (length trace.old ≡ Room) }
-    ensures { IfOk result (λ part. part.under.at + Largest ≤ length out.new) }
+    ensures ok { IfOk result (λ part. part.under.at + Largest ≤ length out.new) }
+    ensures err { OnErr result ((length out.new ≡ length out.old) × (length trace.new ≡ length trace.old)) }
 {
     let mut buffer = [0u8; BUFFER];
     let n = rt.reader().read(&mut buffer)?;
@@ -110,7 +112,8 @@ fn read_all(
     trace: &mut [i32],
 ) -> io::Result<Under>
     requires { Ruled chart.now × (under.at + Largest ≤ length out.old) × (length trace.old ≡ Room) }
-    ensures { IfOk result (λ read. read.at + Largest ≤ length out.new) }
+    ensures ok { IfOk result (λ read. read.at + Largest ≤ length out.new) }
+    ensures err { OnErr result ((length out.new ≡ length out.old) × (length trace.new ≡ length trace.old)) }
 {
     let mut now = under;
     let mut parts = u64::MAX;
