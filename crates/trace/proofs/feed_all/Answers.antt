@@ -27,5 +27,5 @@ loop-i-smaller g c =
     let more = c.loop-i-test.true in
     omega arith
 
-pub returns : goal.returns
-returns g c = record { under = feeding_done _ _ _ _ _ c.loop-i.invariant.0 c.loop-i-test.false; room = c.loop-i.invariant.2 }
+pub returns-clause-ok : goal.returns-clause-ok
+returns-clause-ok g c = record { under = feeding_done _ _ _ _ _ c.loop-i.invariant.0 c.loop-i-test.false; room = c.loop-i.invariant.2 }

@@ -7,7 +7,7 @@ use Rattle.trace.proofs.run_session.Goals as goal
 
 pub print-requires : goal.print-requires
 print-requires g c =
-    let room = c.in_ok-read.ensures in
+    let room = c.in_ok-read.ensures.ok in
     let w = c.finish-last.ensures.whole room in
     let k : length c.finish-last.new.out ≡ length c.read_all.new.out = search rules in
     omega (arith, room)
