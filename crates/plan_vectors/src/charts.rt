@@ -2,7 +2,7 @@
 ghost use Rattle.std.specs.Prelude.{◌≡◌, ◌≤◌, length, IfOk, OnErr};
 ghost use Rattle.std.specs.Counts.{IsPrefixLen};
 
-use super::lines::read_numbers;
+use super::number_lines::read_numbers;
 use super::print;
 use engine::VALUE;
 use engine::plans::compile;

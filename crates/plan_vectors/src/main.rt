@@ -6,14 +6,14 @@
 #![tactic(auto)]
 
 mod charts;
-mod lines;
+mod number_lines;
 
 ghost use Rattle.std.specs.Prelude.{◌≤◌};
 
 use charts::run_chart;
 use engine::plans::examine;
 use files::{ARGUMENT, BUFFER, argument, file_bytes};
-use lines::read_numbers;
+use number_lines::read_numbers;
 use std::env::Env;
 use std::io;
 use std::rt::Files;

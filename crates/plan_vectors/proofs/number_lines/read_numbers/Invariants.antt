@@ -1,5 +1,5 @@
 use Rattle.std.proofs.Common.{length, ◌≤◌, ◌≡◌, ◌-◌}
-use Rattle.plan_vectors.proofs.lines.read_numbers.Given as goal
+use Rattle.plan_vectors.proofs.number_lines.read_numbers.Given as goal
 
 -- As many numbers as there is room for.
 abbrev pub invariant-loop-at : goal.invariant-loop-at

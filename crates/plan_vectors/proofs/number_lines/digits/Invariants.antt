@@ -1,6 +1,6 @@
 use Rattle.std.proofs.Common.{length, ◌≤◌, ◌-◌}
 use Rattle.numbers.specs.Reference.{NOWHERE}
-use Rattle.plan_vectors.proofs.lines.digits.Given as goal
+use Rattle.plan_vectors.proofs.number_lines.digits.Given as goal
 
 -- The place is within the text, and the value is held.
 abbrev pub invariant-loop-at : goal.invariant-loop-at
