@@ -16,7 +16,8 @@ returns-then-ruled-ne0 c =
 
 pub returns-else-ruled-ne0 : goal.returns-else-ruled-ne0
 returns-else-ruled-ne0 c =
+    let fine = c.if-lines-ne0.false in
     reads (read_ruled _ _ _ _ c.read_rows-lines.ensures
-    c.if-lines-ne0.false _
+    fine _
     c.check_rows-ruled.ensures _
     (λ n. absurd (n c.if-ruled-ne0.false)) (λ _. refl))
