@@ -1,7 +1,7 @@
 #!/usr/bin/env python3
 """Spells the repository's own definitions and lemmas as today's Rattle spells names: words in snake case, types in camel case, constants in capitals with underscores.
 
-usage: python3 tools/respell.py            at the top of the repository, once, after /opt/rattle/port/port.py
+usage: python3 tools/respell.py            at the top of the repository, after port.py of the kit
 
     kind-of -> kind_of, eqZ -> eq_z, Kids-left -> KidsLeft, LEAST-STATES -> LEAST_STATES
 
