@@ -1,4 +1,5 @@
 -- The laws by which `enter` and `leave` meet their promises: the mark, then the actions, where a refusal ends them. Assumes nothing.
+use Rattle.std.specs.Prelude.{Option, None, Some}
 use mathlib.Core.Path.{◌≡◌, sym, subst, ◌∙◌}
 use Prim.Native.Nat.{ℕ, zero, suc, ◌<◌}
 use mathlib.Core.Bool.{Bool, true, false, cond}
@@ -6,8 +7,6 @@ use mathlib.Core.List.{List}
 use native.Mathlib.Omega.{arith}
 use lib.IntN.{ℤ}
 use Rattle.sizes.specs.Sizes.{STATES}
-use Rattle.numbers.specs.declared.Place.{Place}
-use Rattle.numbers.specs.declared.Place.TheVariants.{Empty, At}
 use Rattle.laws.specs.Facts.{Ordered}
 use Rattle.meaning.specs.Chart.{Chart}
 use Rattle.meaning.specs.declared.chart.Owner.{Owner}
@@ -61,15 +60,15 @@ unfolding o_parent
 parent_in c o zero h = tt
 parent_in c o (suc n) h = go (is_o (kind_of c (parent_of c (suc n))))
   where
-    go : (b : Bool) → Below STATES (cond b (At (parent_of c (suc n))) Empty)
+    go : (b : Bool) → Below STATES (cond b (Some (parent_of c (suc n))) None)
     go true = omega (arith, o.falls n)
     go false = tt
 
-pub o_parent_in : (v : List ℤ) → Ruled v → {s : ℕ} (p : Place) → p ≡ o_parent (chart_of v) s → s < STATES → Below STATES p
+pub o_parent_in : (v : List ℤ) → Ruled v → {s : ℕ} (p : Option ℕ) → p ≡ o_parent (chart_of v) s → s < STATES → Below STATES p
 o_parent_in v r {s} p e h = subst (Below STATES) (sym e) (parent_in (chart_of v) (sound v r).ordered s h)
 
 module _ (c : Chart) (arg : ℤ)
-    (s : ℕ) {p : Place} {a : List Bool} {sl v q t : List ℤ} {at : ℕ} {r : Went} {a₁ : List Bool} {sl₁ t₁ : List ℤ}
+    (s : ℕ) {p : Option ℕ} {a : List Bool} {sl v q t : List ℤ} {at : ℕ} {r : Went} {a₁ : List Bool} {sl₁ t₁ : List ℤ}
     (e : p ≡ o_parent c s)
     (w : Within t r t₁ × ((k : Lent)
     → Did (mark_left p s) (with_active a (with_slots sl (with_trace t k))) at r (with_active a₁ (with_slots sl₁

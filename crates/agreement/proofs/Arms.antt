@@ -1,5 +1,6 @@
 -- The arms behind the owner of a history (01: "SKIPFULL B over the default arm; the arm; SKIPEMPTY B over the stored arm; the arm") do
 -- what the restore does, where it is ready to begin. Assumes nothing.
+use Rattle.std.specs.Prelude.{Option, None, Some}
 use mathlib.Core.Path.{◌∙◌, ◌≡◌, ap, refl}
 use Prim.Native.Nat.{ℕ}
 use mathlib.Core.List.{List, ◌∷◌}
@@ -20,8 +21,6 @@ use Rattle.meaning.specs.Steps.{Res, Step, bind, each, look, ok, refuse, when}
 use Rattle.meaning.specs.Widget.{Ctx, is_empty, is_filled, slot}
 use Rattle.meaning.specs.declared.plan.Instr.{Instr}
 use Rattle.meaning.specs.declared.plan.Instr.TheVariants.{SkipEmpty as skip_empty, SkipFull as skip_full}
-use Rattle.numbers.specs.declared.Place.{Place as Slot}
-use Rattle.numbers.specs.declared.Place.TheVariants.{At as holds, Empty as empty}
 
 -- code that does nothing after a step
 then_nothing : (P : Ctx → Type 0) (r : Res Ctx) (F : Step Mach) → Holds r P → ((k : Ctx) → P k → F (passing 0 k) ≡ ok (passing 0 k))
@@ -32,12 +31,12 @@ then_nothing P (refuse e) F h n = refl
 
 module _ (c : Chart) (a : ℤ) (b : ℕ) where
   -- SKIPEMPTY in front of a piece, where the slot is known
-  after_empty : (k : Ctx) (p : List Instr) → slot k.state b ≡ empty
+  after_empty : (k : Ctx) (p : List Instr) → slot k.state b ≡ None
       → run_code c.vars a (skip_empty b (length p) ∷ p) (passing 0 k) ≡ ok (passing 0 k)
   unfolding run_code each exec exec_at exec_now passing on_if bind is_filled
   after_empty k p e = rw e (passed_over c.vars a p k)
 
-  after_full : (k : Ctx) (d : ℕ) (p : List Instr) → slot k.state b ≡ holds d
+  after_full : (k : Ctx) (d : ℕ) (p : List Instr) → slot k.state b ≡ Some d
       → run_code c.vars a (skip_empty b (length p) ∷ p) (passing 0 k) ≡ run_code c.vars a p (passing 0 k)
   unfolding run_code each exec exec_at exec_now passing on_if bind is_filled
   after_full k d p e = rw e refl
@@ -64,15 +63,15 @@ module _ (c : Chart) (a : ℤ) (b : ℕ) where
         ∙ ap (λ x. bind x (run_code c.vars a second)) (default_does k)
         ∙ go (slot k.state b) refl
       where
-        go : (x : Slot) → slot k.state b ≡ x
+        go : (x : Option ℕ) → slot k.state b ≡ x
             → bind (go_on (when (is_empty (slot k.state b)) (each (visit c a) (all_below c by_defaults b)) k))
             (run_code c.vars a second) ≡ go_on (restore_by c a b k.state x k)
-        go empty e = rw e (then_nothing (λ j. SameSlots k.state.slots j.state) (each (visit c a) (all_below c by_defaults b) k)
+        go None e = rw e (then_nothing (λ j. SameSlots k.state.slots j.state) (each (visit c a) (all_below c by_defaults b) k)
             (run_code c.vars a second)
             (holds_of (λ j. SameSlots k.state.slots j.state) (each (visit c a) (all_below c by_defaults b) k)
             (visits_slots k.state.slots c a (all_below c by_defaults b) k refl))
             (λ j h. after_empty j (stored_arm c b) (slot_same j k.state.slots h ∙ e)))
-        go (holds d) e = rw e (after_full k d (stored_arm c b) e ∙ stored_arm_agrees c r a b k y d e)
+        go (Some d) e = rw e (after_full k d (stored_arm c b) e ∙ stored_arm_agrees c r a b k y d e)
 
     -- as a block
     pub arms_agree : (k : Ctx) → RestoreBegins c b k.state → run_block c.vars a (arms c b) k ≡ restore c a b k

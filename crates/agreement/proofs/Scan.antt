@@ -1,6 +1,7 @@
 -- The stored arm behind the owner of a history is one forward pass over the states below it (01: "SKIPOUT p past all of d; SKIPNOT p d
 -- k+1 if p is kind o; IN d; its actions"): the code does what the steps `scan` do, from any context; and these steps enter just the
 -- states that the slots lead to, where the owner is in and no state below it is. Assumes nothing.
+use Rattle.std.specs.Prelude.{Option, None, Some}
 use mathlib.Core.Path.{◌∙◌, ◌≡◌, ap, refl, subst, sym}
 use mathlib.Core.Logic.{◌⊎◌, ⊎_elim}
 use Prim.Native.Nat.{◌+◌, ◌<◌, ◌≤◌, suc, ℕ, zero}
@@ -30,8 +31,6 @@ use Rattle.meaning.specs.Widget.{Ctx, is_active, set_active, set_queue, set_valu
 use Rattle.meaning.specs.declared.State.{State}
 use Rattle.meaning.specs.declared.chart.Kind.{Kind}
 use Rattle.meaning.specs.declared.chart.Kind.TheVariants.{A as kind_a, B as kind_b, O as kind_o}
-use Rattle.numbers.specs.declared.Place.{Place as Slot}
-use Rattle.numbers.specs.declared.Place.TheVariants.{At as holds, Empty as empty}
 
 -- ---- the code and the steps
 
@@ -111,9 +110,9 @@ held_when : (c : Chart) (a : ℤ) (x : Kind) (p d : ℕ) (k : Ctx)
 unfolding held_step picks look when holds_it slot_way
 held_when c a kind_o p d k = go (slot k.state p)
   where
-    go : (y : Slot) → when (holds_it d y) (enter c a d) k ≡ when (picks c kind_o (slot_way y) p d) (enter c a d) k
-    go empty = refl
-    go (holds y) = refl
+    go : (y : Option ℕ) → when (holds_it d y) (enter c a d) k ≡ when (picks c kind_o (slot_way y) p d) (enter c a d) k
+    go None = refl
+    go (Some y) = refl
 held_when c a kind_a p d k = refl
 held_when c a kind_b p d k = refl
 

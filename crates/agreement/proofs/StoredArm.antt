@@ -1,5 +1,6 @@
 -- The stored arm behind the owner of a history does what going down by the slots does (01, "History"), where the owner is in, nothing
 -- below it is, and filled slots lead to filled ones: so the restore never gives 14, which the machine cannot. Assumes nothing.
+use Rattle.std.specs.Prelude.{Option, None, Some}
 use mathlib.Core.Path.{◌∙◌, ◌≡◌, ap, fun_ext, refl, subst, sym}
 use Prim.Native.Nat.{◌+◌, ◌-◌, ◌<◌, ◌≤◌, suc, ℕ}
 use native.Mathlib.Omega.{arith}
@@ -35,8 +36,6 @@ use Rattle.meaning.specs.Widget.{Ctx, is_active, is_empty, slot}
 use Rattle.meaning.specs.declared.State.{State}
 use Rattle.meaning.specs.declared.chart.Kind.{Kind}
 use Rattle.meaning.specs.declared.chart.Kind.TheVariants.{A as kind_a, B as kind_b, O as kind_o}
-use Rattle.numbers.specs.declared.Place.{Place as Slot}
-use Rattle.numbers.specs.declared.Place.TheVariants.{At as holds, Empty as empty}
 
 -- where a restore of b begins: its owner is in, nothing below it is, and filled slots lead to filled ones
 pub record RestoreBegins (c : Chart) (b : ℕ) (u : State) : Type 0 where
@@ -50,10 +49,10 @@ pub record RestoreBegins (c : Chart) (b : ℕ) (u : State) : Type 0 where
 
 -- ---- going down by the slots visits plainly
 
-plain_by : (k : Kind) (z : Slot) (p x : ℕ) → visit_by k (slot_way z) p x ≡ plain x
+plain_by : (k : Kind) (z : Option ℕ) (p x : ℕ) → visit_by k (slot_way z) p x ≡ plain x
 unfolding visit_by slot_way
-plain_by kind_o empty p x = refl
-plain_by kind_o (holds d) p x = refl
+plain_by kind_o None p x = refl
+plain_by kind_o (Some d) p x = refl
 plain_by kind_a z p x = refl
 plain_by kind_b z p x = refl
 
@@ -75,10 +74,10 @@ module _ (c : Chart) (r : SoundChart c) (sl : List ℤ) (lead : Lead c sl) where
   unfolding slot when is_o is_empty
   passes d j f e = go (kind_of c d) refl (slot_at j.state.slots d) refl
     where
-      go : (x : Kind) → kind_of c d ≡ x → (z : Slot) → slot_at j.state.slots d ≡ z
+      go : (x : Kind) → kind_of c d ≡ x → (z : Option ℕ) → slot_at j.state.slots d ≡ z
           → when (is_o x && is_empty z) (λ _. refuse 14) j ≡ ok j
-      go kind_o q empty y = absurd (filled_not_empty c r sl lead (slot_at sl d) (f q) (ap (λ w. slot_at w d) (sym e) ∙ y))
-      go kind_o q (holds x) y = refl
+      go kind_o q None y = absurd (filled_not_empty c r sl lead (slot_at sl d) (f q) (ap (λ w. slot_at w d) (sym e) ∙ y))
+      go kind_o q (Some x) y = refl
       go kind_a q z y = refl
       go kind_b q z y = refl
 
@@ -107,7 +106,7 @@ module _ (c : Chart) (r : SoundChart c) (a : ℤ) (b : ℕ) (k : Ctx) (y : Resto
   abbrev reaches : ℕ → Bool
   reaches x = reach c (by_slots u) b x x
 
-  fits : (p d : ℕ) → slot u p ≡ holds d → (is_child c p d ≡ true) × (d < length c.states)
+  fits : (p d : ℕ) → slot u p ≡ Some d → (is_child c p d ≡ true) × (d < length c.states)
   unfolding slot
   fits p d e = let q = slot_child c u.slots y.slots p d e in (q.1, q.2)
 
@@ -115,7 +114,7 @@ module _ (c : Chart) (r : SoundChart c) (a : ℤ) (b : ℕ) (k : Ctx) (y : Resto
   stored_visits : all_below c (by_slots u) b ≡ map plain (keep reaches (descendants c b))
   stored_visits = slots_pass c r u b fits y.inside ∙ ap (λ f. map f (keep reaches (descendants c b))) (fun_ext (plain_visit c u))
 
-  stored_fine : (d : ℕ) → slot u b ≡ holds d → Each (Restorable c u.slots) (keep reaches (descendants c b))
+  stored_fine : (d : ℕ) → slot u b ≡ Some d → Each (Restorable c u.slots) (keep reaches (descendants c b))
   unfolding all_below by_slots slot state_of
   stored_fine d e = each_mapped (λ v. Restorable c u.slots (state_of v)) plain (keep reaches (descendants c b))
       (subst (Each (λ v. Restorable c u.slots (state_of v))) stored_visits
@@ -155,13 +154,13 @@ module _ (c : Chart) (r : SoundChart c) (a : ℤ) (b : ℕ) (k : Ctx) (y : Resto
       scan_by n g (sub_run c r.ordered b n g) (sub_kept c r.ordered b n g)
 
   -- the pass does what going down by the slots does
-  pub scan_restores : (d : ℕ) → slot u b ≡ holds d → each (scan c a) (descendants c b) k ≡ each (revisit c a) (all_below c (by_slots u) b) k
+  pub scan_restores : (d : ℕ) → slot u b ≡ Some d → each (scan c a) (descendants c b) k ≡ each (revisit c a) (all_below c (by_slots u) b) k
   scan_restores d e =
       scan_enters
       ∙ sym (revisit_all c r u.slots y.lead a (keep reaches (descendants c b)) (stored_fine d e) k refl)
       ∙ sym (each_map (revisit c a) plain (keep reaches (descendants c b)) k)
       ∙ ap (λ l. each (revisit c a) l k) (sym stored_visits)
 
-  pub stored_arm_agrees : (d : ℕ) → slot u b ≡ holds d
+  pub stored_arm_agrees : (d : ℕ) → slot u b ≡ Some d
       → run_code c.vars a (stored_arm c b) (passing 0 k) ≡ go_on (each (revisit c a) (all_below c (by_slots u) b) k)
   stored_arm_agrees d e = stored_arm_does c a b k ∙ ap go_on (scan_restores d e)

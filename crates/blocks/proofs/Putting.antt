@@ -1,4 +1,5 @@
 -- What is put for one state, piece by piece: the laws that `put_exit`, `put_visit` and `put_stored` cite. Assumes nothing.
+use Rattle.std.specs.Prelude.{Option, None, Some}
 use mathlib.Core.Path.{◌≡◌, refl, sym, ap, subst, ◌∙◌}
 use Prim.Native.Nat.{ℕ, zero, suc, ◌+◌, ◌<◌}
 use mathlib.Core.Bool.{Bool, true, false, false≢true, true≢false, not, cond}
@@ -8,8 +9,6 @@ use borrow.Author.Tests.{not-true, not-false}
 use lib.ListN.{length}
 use lib.IntN.{ℤ}
 use Rattle.chart_rows.proofs.Rows.{states_most}
-use Rattle.numbers.specs.declared.Place.{Place}
-use Rattle.numbers.specs.declared.Place.TheVariants.{Empty, At}
 use Rattle.meaning.specs.Rules.{Ruled}
 use Rattle.tree.proofs.Passing.{sound}
 use Rattle.meaning.specs.Value.{chart_of}
@@ -28,7 +27,7 @@ use Rattle.emitter.proofs.Laws.{put_first, put_both}
 
 -- ---- leaving
 
-pub exit_put : (c : Chart) (s k : ℕ) (up : Place) (p : Pen) {p₁ p₂ p₃ : Pen} → k ≡ length (code_acts c (exit_of s)) → up ≡ o_parent c s
+pub exit_put : (c : Chart) (s k : ℕ) (up : Option ℕ) (p : Pen) {p₁ p₂ p₃ : Pen} → k ≡ length (code_acts c (exit_of s)) → up ≡ o_parent c s
     → p₁ ≡ emits (skip_out s (k + 1) ∷ []) p
     → p₂ ≡ emits (go_out s up ∷ []) p₁ → p₃ ≡ emits (code_acts c (exit_of s)) p₂ → p₃ ≡ emits (exit_code c s) p
 unfolding exit_code
@@ -38,12 +37,12 @@ exit_put c s k up p {p₁} {p₂} e u f g h =
 
 -- the parent in OUT is a 32-bit number
 pub parent_small : (v : List ℤ) → Ruled v
-    → (s : ℕ) → s < length (chart_of v).states → (up : Place) → up ≡ o_parent (chart_of v) s → SmallPlace up
+    → (s : ℕ) → s < length (chart_of v).states → (up : Option ℕ) → up ≡ o_parent (chart_of v) s → SmallPlace up
 unfolding o_parent
 parent_small v r zero l up e = subst SmallPlace (sym e) tt
 parent_small v r (suc n) l up e = subst SmallPlace (sym e) (go (is_o (kind_of (chart_of v) (parent_of (chart_of v) (suc n)))))
   where
-    go : (b : Bool) → SmallPlace (cond b (At (parent_of (chart_of v) (suc n))) Empty)
+    go : (b : Bool) → SmallPlace (cond b (Some (parent_of (chart_of v) (suc n))) None)
     go true = omega (arith, (sound v r).ordered.falls n, states_most v)
     go false = tt
 

@@ -1,10 +1,9 @@
 -- Numbers and instructions put into a lent slice from a place on, and the place after them; a place that the slice does not have is
 -- passed over. Then which numbers an instruction has room for, and the room that places have. Assumes nothing.
+use Rattle.std.specs.Prelude.{Option, None, Some}
 use Rattle.std.specs.Prelude.{ℕ, ◌+◌, ◌*◌, ◌<◌, List, [], ◌∷◌, length, ℤ}
 use Rattle.std.proofs.lemmas.List.Edits.{sets}
 use Rattle.numbers.specs.Reference.{NOWHERE}
-use Rattle.numbers.specs.declared.Place.{Place}
-use Rattle.numbers.specs.declared.Place.TheVariants.{Empty, At}
 use Rattle.meaning.specs.Lists.{concat_map}
 use Rattle.meaning.specs.declared.chart.Act.{Act}
 use Rattle.meaning.specs.declared.chart.Act.TheVariants.{SetTo as set_to, AddTo as add_to, TakeTo as take_to, Send as send, Tell as tell}
@@ -29,9 +28,9 @@ unfoldable pub emits : List Instr → Pen → Pen
 emits is p = puts (concat_map instr_numbers is) p
 
 -- the numbers of an instruction are 32-bit ones
-abbrev pub SmallPlace : Place → Type 0
-SmallPlace Empty = Unit {0}
-SmallPlace (At s) = s < NOWHERE
+abbrev pub SmallPlace : Option ℕ → Type 0
+SmallPlace None = Unit {0}
+SmallPlace (Some s) = s < NOWHERE
 
 abbrev pub SmallAct : Act → Type 0
 SmallAct (set_to v x) = v < NOWHERE

@@ -12,7 +12,7 @@ ghost use Rattle.emitter.specs.Pen.{pen, puts, emits, SmallPlace, SmallAct, Smal
 
 use meaning::chart::Act;
 use meaning::plan::Instr;
-use numbers::{Place, number};
+use numbers::number;
 
 // How many numbers an instruction has.
 pub const WIDTH: usize = 4;
@@ -58,13 +58,13 @@ fn put_plain(plan: &mut [i32], at: usize, code: usize, a: usize, b: usize, c: us
 }
 
 // "2 OUT s p (p the o parent, or -1)"
-fn put_out(plan: &mut [i32], at: usize, s: usize, p: Place) -> usize
+fn put_out(plan: &mut [i32], at: usize, s: usize, p: Option<usize>) -> usize
     requires { (s < NOWHERE) × SmallPlace p × (at + 4 < NOWHERE) }
     ensures { pen plan.new result ≡ emits (go_out s p ∷ []) (pen plan.old at) }
 {
     match p {
-        Place::Empty => put_four(plan, at, 2, number(s), -1, 0),
-        Place::At(q) => put_plain(plan, at, 2, s, q, 0),
+        None => put_four(plan, at, 2, number(s), -1, 0),
+        Some(q) => put_plain(plan, at, 2, s, q, 0),
     }
 }
 

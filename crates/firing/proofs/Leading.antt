@@ -1,5 +1,6 @@
 -- A firing keeps every slot empty or holding a child of its state: leaving stores a state in its own parent, and nothing else changes a
 -- slot. Assumes nothing.
+use Rattle.std.specs.Prelude.{None, Some}
 use mathlib.Core.Path.{◌≡◌, refl, sym, ap, subst, ◌∙◌}
 use mathlib.Core.Logic.{⊎_elim}
 use Prim.Native.Nat.{ℕ, zero, suc, ◌≤◌, ◌<◌}
@@ -11,7 +12,6 @@ use lib.Seq.{get_or-set_same, get_or-set_other}
 use lib.IntN.{ℤ, pos, negsuc}
 use Rattle.sizes.specs.Sizes.{STATES}
 use Rattle.numbers.specs.Place.{place_of}
-use Rattle.numbers.specs.declared.Place.TheVariants.{Empty as empty, At as holds}
 use Rattle.laws.proofs.Lists.{each_reversed, same_or}
 use Rattle.laws.proofs.Sound.{SoundChart, parent_child}
 use Rattle.laws.proofs.Steps.{Holds}
@@ -39,7 +39,7 @@ led_of c slots h l = record { long = l; holding = λ s d e. let q = slot_child c
 
 -- ---- one slot
 
-same_held : (x y : ℕ) → holds x ≡ holds y → x ≡ y
+same_held : (x y : ℕ) → Some x ≡ Some y → x ≡ y
 same_held x y e = cc
 
 led_set : (c : Chart) (slots : List ℤ) (p s : ℕ) → Led c slots → p < STATES → is_child c p s ≡ true → s < length c.states
@@ -77,7 +77,7 @@ module _ (c : Chart) (h : SoundChart c) (small : length c.states ≤ STATES) (a 
   stored_led zero l u f = f
   stored_led (suc n) l u f = go (is_o (kind_of c (parent_of c (suc n))))
     where
-      go : (b : Bool) → LedState c (store_in (cond b (holds (parent_of c (suc n))) empty) (suc n) (set_active (suc n) false u))
+      go : (b : Bool) → LedState c (store_in (cond b (Some (parent_of c (suc n))) None) (suc n) (set_active (suc n) false u))
       go true = led_set c u.slots (parent_of c (suc n)) (suc n) f (omega (arith, h.ordered.falls n)) (parent_child c (parent_of c
           (suc n)) n refl) l
       go false = f

@@ -1,5 +1,6 @@
 -- Entering (01, "Firing" and "History"): each visit sets one mark and nothing else of marks and slots; a restore by slots that lead
 -- on meets no empty one. Assumes nothing.
+use Rattle.std.specs.Prelude.{Option, None, Some}
 use mathlib.Core.Path.{◌∙◌, ◌≡◌, ap, refl, subst, sym}
 use mathlib.Core.Logic.{⊎_elim}
 use Prim.Native.Nat.{◌<◌, ◌≤◌, suc, zero, ℕ}
@@ -27,8 +28,6 @@ use Rattle.meaning.specs.Widget.{Ctx, is_active, is_empty, is_filled, set_active
 use Rattle.meaning.specs.declared.State.{State}
 use Rattle.meaning.specs.declared.chart.Kind.{Kind}
 use Rattle.meaning.specs.declared.chart.Kind.TheVariants.{A as kind_a, B as kind_b, O as kind_o}
-use Rattle.numbers.specs.declared.Place.{Place as Slot}
-use Rattle.numbers.specs.declared.Place.TheVariants.{At as holds, Empty as empty}
 
 -- the marks are those of on, and the slots are sl
 pub record Marks (c : Chart) (sl : List ℤ) (on : ℕ → Bool) (u : State) : Type 0 where
@@ -109,7 +108,7 @@ abbrev pub Restorable : Chart → List ℤ → ℕ → Type 0
 Restorable c sl s = kind_of c s ≡ kind_o → is_filled (slot_at sl s) ≡ true
 
 module _ (c : Chart) (r : SoundChart c) (sl : List ℤ) (l : Lead c sl) where
-  pub filled_not_empty : (x : Slot) → is_filled x ≡ true → x ≡ empty → ⊥
+  pub filled_not_empty : (x : Option ℕ) → is_filled x ≡ true → x ≡ None → ⊥
   unfolding is_filled
   filled_not_empty x e q = false≢true (sym (ap is_filled q) ∙ e)
 
@@ -120,11 +119,11 @@ module _ (c : Chart) (r : SoundChart c) (sl : List ℤ) (l : Lead c sl) where
   }
 
   goes_fine : (deep : ℕ → List Visit) (s : ℕ) → Goes c sl s → ((y : ℕ) → Goes c sl y → Each (λ v. Restorable c sl (state_of v)) (deep y))
-      → (x : Kind) → kind_of c s ≡ x → (z : Slot)
+      → (x : Kind) → kind_of c s ≡ x → (z : Option ℕ)
       → slot_at sl s ≡ z → Each (λ v. Restorable c sl (state_of v)) (goes_on c deep s x (slot_way z))
   unfolding goes_on slot_way children state_of
-  goes_fine deep s g ih kind_o kx empty zx = absurd (filled_not_empty (slot_at sl s) (g.child kx) zx)
-  goes_fine deep s g ih kind_o kx (holds d) zx = one_more (l s d zx).child (ih d (l s d zx))
+  goes_fine deep s g ih kind_o kx None zx = absurd (filled_not_empty (slot_at sl s) (g.child kx) zx)
+  goes_fine deep s g ih kind_o kx (Some d) zx = one_more (l s d zx).child (ih d (l s d zx))
   goes_fine deep s g ih kind_a kx z zx =
       each_collected (λ v. Restorable c sl (state_of v)) (λ d. plain d ∷ deep d) (is_child c s) (all_states c)
       (λ y t. one_more (goes_component s y kx t g).child (ih y (goes_component s y kx t g)))
@@ -142,10 +141,10 @@ module _ (c : Chart) (r : SoundChart c) (sl : List ℤ) (l : Lead c sl) where
   unfolding look when slot is_empty is_filled is_o
   passes on s f k h = go (kind_of c s) refl (slot_at k.state.slots s) refl
     where
-      go : (x : Kind) → kind_of c s ≡ x → (z : Slot) → slot_at k.state.slots s ≡ z
+      go : (x : Kind) → kind_of c s ≡ x → (z : Option ℕ) → slot_at k.state.slots s ≡ z
           → Gives (when (is_o x && is_empty z) (λ _. refuse 14) k) (λ j. Marks c sl on j.state)
-      go kind_o e empty q = absurd (filled_not_empty (slot_at sl s) (f e) (ap (λ w. slot_at w s) (sym h.slots) ∙ q))
-      go kind_o e (holds d) q = h
+      go kind_o e None q = absurd (filled_not_empty (slot_at sl s) (f e) (ap (λ w. slot_at w s) (sym h.slots) ∙ q))
+      go kind_o e (Some d) q = h
       go kind_a e z q = h
       go kind_b e z q = h
 

@@ -1,6 +1,7 @@
 -- What every step keeps true of all that it works on, whatever phase of a firing it stands in: the started mark, the sizes, the
 -- values and the queue of the test for 6, slots that hold children, and a trace in which every entry names what the chart has.
 -- Assumes nothing.
+use Rattle.std.specs.Prelude.{None, Some}
 use mathlib.Core.Path.{◌∙◌, ◌≡◌, refl, subst, sym}
 use mathlib.Core.Logic.{⊎_elim}
 use Prim.Native.Nat.{◌<◌, ◌≤◌, suc, zero, ℕ}
@@ -40,7 +41,6 @@ use Rattle.meaning.specs.declared.chart.Act.TheVariants.{AddTo as add_to, Send a
 use Rattle.meaning.specs.declared.chart.Owner.{Owner}
 use Rattle.meaning.specs.declared.chart.Owner.TheVariants.{DefaultOf as default_of, EntryOf as entry_of, ExitOf as exit_of}
 use Rattle.numbers.specs.Range.{in_range}
-use Rattle.numbers.specs.declared.Place.TheVariants.{At as holds, Empty as empty}
 use Rattle.queue.proofs.Tidy.{appended_long}
 use Rattle.queue.proofs.Waiting.{appended_full}
 use Rattle.queue.specs.Queue.{appended}
@@ -211,7 +211,7 @@ module _ (c : Chart) (h : SoundChart c) (z : SizedChart c) where
 
       go : (b : Bool) → is_o (kind_of c (parent_of c (suc n))) ≡ b
           → Good c (record {
-            state = store_in (cond b (holds (parent_of c (suc n))) empty)
+            state = store_in (cond b (Some (parent_of c (suc n))) None)
                 (suc n) (set_active (suc n) false k.state);
             out = k.out;
             room = k.room;

@@ -1,5 +1,6 @@
 -- What every step keeps, for the steps of a reaction (01, "One reaction"): leaving a span, entering an itinerary, restoring,
 -- firing, a step, null steps. Assumes nothing.
+use Rattle.std.specs.Prelude.{Option, None, Some}
 use mathlib.Core.Path.{subst, sym}
 use Prim.Native.Nat.{◌<◌, suc, zero, ℕ}
 use native.Mathlib.Omega.{arith}
@@ -31,8 +32,6 @@ use Rattle.meaning.specs.declared.State.{State}
 use Rattle.meaning.specs.declared.chart.Owner.TheVariants.{TransitionOf as transition_of}
 use Rattle.meaning.specs.declared.chart.Target.{Target}
 use Rattle.meaning.specs.declared.chart.Target.TheVariants.{History as history, InPlace as in_place, To as to}
-use Rattle.numbers.specs.declared.Place.{Place as Slot}
-use Rattle.numbers.specs.declared.Place.TheVariants.{At as holds, Empty as empty}
 use Rattle.sizes.specs.Sizes.{NULL_STEPS}
 
 module _ (c : Chart) (h : SoundChart c) where
@@ -79,9 +78,9 @@ module _ (c : Chart) (h : SoundChart c) (z : SizedChart c) (a : ℤ) where
   unfolding restore restore_by
   restore_good b l = look_stays (Good c) _ (λ k g. go k g (slot k.state b))
     where
-      go : (k : Ctx) → Good c k → (x : Slot) → Stays (Good c) (restore_by c a b k.state x)
-      go k g empty = visits_good by_defaults (defaults_sound c h) b l
-      go k g (holds d) = each_stays (Good c) (revisit c a)
+      go : (k : Ctx) → Good c k → (x : Option ℕ) → Stays (Good c) (restore_by c a b k.state x)
+      go k g None = visits_good by_defaults (defaults_sound c h) b l
+      go k g (Some d) = each_stays (Good c) (revisit c a)
           (λ v. state_of v < length c.states) revisit_good (all_below c (by_slots k.state) b)
           (below_inside c h (by_slots k.state) (by_slots_sound k.state g.slots) b l)
 

@@ -1,5 +1,6 @@
 -- A firing to a history leads from a legal configuration to a legal one: first with a hole at the owner, then the restore fills it.
 -- Assumes nothing.
+use Rattle.std.specs.Prelude.{Option, None, Some}
 use mathlib.Core.Path.{◌∙◌, ◌≡◌, ap, refl, subst, sym}
 use mathlib.Core.Logic.{◌⊎◌, ⊎_elim}
 use Prim.Native.Nat.{◌<◌, suc, ℕ}
@@ -31,17 +32,15 @@ use Rattle.meaning.specs.Steps.{ok}
 use Rattle.meaning.specs.Tree.{ancestors, is_child, kind_of, parent_of}
 use Rattle.meaning.specs.declared.chart.Kind.{Kind}
 use Rattle.meaning.specs.declared.chart.Kind.TheVariants.{A as kind_a, B as kind_b, O as kind_o}
-use Rattle.numbers.specs.declared.Place.{Place as Slot}
-use Rattle.numbers.specs.declared.Place.TheVariants.{At as holds, Empty as empty}
 
 -- ---- what the slots reach below an owner that leads on
 
 module _ (c : Chart) (r : SoundChart c) (sl : List ℤ) (lead : Lead c sl) where
   next_goes : (p n : ℕ) → parent_of c (suc n) ≡ p → Goes c sl p
-      → (k : Kind) → kind_of c p ≡ k → (x : Slot) → slot_at sl p ≡ x → picks c k (slot_way x) p (suc n) ≡ true → Goes c sl (suc n)
+      → (k : Kind) → kind_of c p ≡ k → (x : Option ℕ) → slot_at sl p ≡ x → picks c k (slot_way x) p (suc n) ≡ true → Goes c sl (suc n)
   unfolding picks slot_way
-  next_goes p n e g kind_o kx empty sx t = absurd (false≢true t)
-  next_goes p n e g kind_o kx (holds d) sx t = subst (Goes c sl) (sym (eqb-true (suc n) d t)) (lead p d sx)
+  next_goes p n e g kind_o kx None sx t = absurd (false≢true t)
+  next_goes p n e g kind_o kx (Some d) sx t = subst (Goes c sl) (sym (eqb-true (suc n) d t)) (lead p d sx)
   next_goes p n e g kind_a kx x sx t = goes_component c r sl lead p (suc n) kx (parent_child c p n e) g
   next_goes p n e g kind_b kx x sx t = absurd (no_child_of_b c r p (suc n) kx (parent_child c p n e))
 
@@ -84,16 +83,16 @@ unfolding towards_owner
 owner_stops c b x e = ⊎_elim (λ q. q)
     (λ q. absurd (towards_goes c b x (sym (ap (λ t. cond t stops (towards c b x)) (ne_eqb x b q)) ∙ e))) (same_or x b)
 
-default_way : (sl : List ℤ) (x : ℕ) → restore_way empty sl x ≡ stops → ⊥
+default_way : (sl : List ℤ) (x : ℕ) → restore_way None sl x ≡ stops → ⊥
 unfolding restore_way
 default_way sl x e = let z : ◌≡◌ {A = ℕ} 0 1 = cc in omega arith
 
-held_way : (sl : List ℤ) (d x : ℕ) → restore_way (holds d) sl x ≡ stops → slot_way (slot_at sl x) ≡ stops
+held_way : (sl : List ℤ) (d x : ℕ) → restore_way (Some d) sl x ≡ stops → slot_way (slot_at sl x) ≡ stops
 unfolding restore_way
 held_way sl d x e = e
 
 held_reached : (c : Chart) (sl : List ℤ) (d b : ℕ) (f : ℕ → Bool)
-    → Reached c (restore_way (holds d) sl) b f → Reached c (λ x. slot_way (slot_at sl x)) b f
+    → Reached c (restore_way (Some d) sl) b f → Reached c (λ x. slot_way (slot_at sl x)) b f
 unfolding restore_way
 held_reached c sl d b f h = h
 
@@ -147,21 +146,21 @@ module _ (c : Chart) (r : SoundChart c)
       go true = refl
       go false = refl
 
-  stops_empty : (x : Slot) → slot_way x ≡ stops → x ≡ empty
+  stops_empty : (x : Option ℕ) → slot_way x ≡ stops → x ≡ None
   unfolding slot_way
-  stops_empty empty e = refl
-  stops_empty (holds d) e = let z : ◌≡◌ {A = ℕ} 0 1 = cc in absurd (omega arith)
+  stops_empty None e = refl
+  stops_empty (Some d) e = let z : ◌≡◌ {A = ℕ} 0 1 = cc in absurd (omega arith)
 
   -- what the second way reaches goes on
   goes_2 : (x : ℕ) → (x ≡ b) ⊎ Under c b x → on_2 x ≡ true → kind_of c x ≡ kind_o → way_2 x ≡ stops → ⊥
   goes_2 x i e k w = by_slot (slot_at sl b) refl
     where
-      by_slot : (z : Slot) → slot_at sl b ≡ z → ⊥
-      by_slot empty q = never (subst (λ z. restore_way z sl x ≡ stops) q w)
+      by_slot : (z : Option ℕ) → slot_at sl b ≡ z → ⊥
+      by_slot None q = never (subst (λ z. restore_way z sl x ≡ stops) q w)
         where
-          never : restore_way empty sl x ≡ stops → ⊥
+          never : restore_way None sl x ≡ stops → ⊥
           never p = default_way sl x p
-      by_slot (holds d) q = filled_not_empty c r sl lead (slot_at sl x)
+      by_slot (Some d) q = filled_not_empty c r sl lead (slot_at sl x)
           (goes_x.child k) (stops_empty (slot_at sl x) (held_way sl d x (subst (λ z. restore_way z sl x ≡ stops) q w)))
         where
           goes_x : Goes c sl x

@@ -1,5 +1,6 @@
 -- Leaving a span (01, "Firing"): from a legal configuration the active states of the span are left, highest number first, and each
 -- is stored where its o parent's slot then leads on. Afterwards no state below the scope is active. Assumes nothing.
+use Rattle.std.specs.Prelude.{None, Some}
 use mathlib.Core.Path.{◌∙◌, ◌≡◌, ap, refl, subst, sym}
 use mathlib.Core.Logic.{◌⊎◌, inl, inr, ⊎_elim}
 use Prim.Native.Nat.{◌+◌, ◌<◌, ◌≤◌, suc, zero, ℕ}
@@ -31,7 +32,6 @@ use Rattle.meaning.specs.declared.chart.Kind.{Kind}
 use Rattle.meaning.specs.declared.chart.Kind.TheVariants.{A as kind_a, B as kind_b, O as kind_o}
 use Rattle.meaning.specs.declared.chart.Owner.TheVariants.{ExitOf as exit_of}
 use Rattle.numbers.specs.Place.{place_of as as_slot}
-use Rattle.numbers.specs.declared.Place.TheVariants.{At as holds, Empty as empty}
 
 -- the n numbers above s, falling
 unfoldable pub falling : ℕ → ℕ → List ℕ
@@ -56,7 +56,7 @@ stays_filled (z ∷ zs) zero x (suc s) e = e
 stays_filled (z ∷ zs) (suc p) x zero e = e
 stays_filled (z ∷ zs) (suc p) x (suc s) e = stays_filled zs p x s e
 
-filled_now : (sl : List ℤ) (p x : ℕ) → p < length sl → slot_at (set sl p (pos x)) p ≡ holds x
+filled_now : (sl : List ℤ) (p x : ℕ) → p < length sl → slot_at (set sl p (pos x)) p ≡ Some x
 filled_now sl p x l = ap as_slot (get_or-set_same sl p (pos x) (negsuc 0) l)
 
 other_slot : (sl : List ℤ) (p x s : ℕ) → (s ≡ p → ⊥) → slot_at (set sl p (pos x)) s ≡ slot_at sl s
@@ -148,7 +148,7 @@ module _ (c : Chart) (r : SoundChart c) (on : ℕ → Bool) (g : Config c on no_
 
   put_away : (z : ℕ) (u : State) → Leaving c on s (suc (suc z)) u → Under c s (suc z) → on (suc z) ≡ true → suc z < length c.states
       → (k : Kind) → kind_of c (parent_of c (suc z)) ≡ k
-      → Leaving c on s (suc z) (store_in (cond (is_o k) (holds (parent_of c (suc z))) empty) (suc z) (set_active (suc z) false u))
+      → Leaving c on s (suc z) (store_in (cond (is_o k) (Some (parent_of c (suc z))) None) (suc z) (set_active (suc z) false u))
   unfolding store_in set_slot set_active is_o is_filled is_active
   put_away z u h v e l kind_o k = record {
     lead = λ x d q. ⊎_elim

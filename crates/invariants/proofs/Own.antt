@@ -1,5 +1,6 @@
 -- A state that passes the test for 6 is one from which all goes on, and what a reaction ends in passes it again; and a fresh state.
 -- Assumes nothing.
+use Rattle.std.specs.Prelude.{None, Some}
 use mathlib.Core.Path.{◌∙◌, ◌≡◌, ap, refl, subst, sym}
 use Prim.Native.Nat.{◌+◌, ◌-◌, ◌<◌, ◌≤◌, suc, zero, ℕ}
 use native.Mathlib.Omega.{arith}
@@ -49,7 +50,6 @@ use Rattle.meaning.specs.declared.State.{State}
 use Rattle.meaning.specs.declared.chart.Kind.TheVariants.{O as kind_o}
 use Rattle.meaning.specs.declared.chart.VarRow.{VarRow}
 use Rattle.numbers.specs.Place.{place_of as as_slot}
-use Rattle.numbers.specs.declared.Place.TheVariants.{At as holds, Empty as empty}
 use Rattle.queue.specs.Queue.{empty_queue, no_item as none_item}
 use Rattle.sizes.specs.Sizes.{QUEUE, STATES, VARIABLES}
 
@@ -164,7 +164,7 @@ module _ (c : Chart) (r : SoundChart c) (z : SizedChart c) where
 
   pub fresh_lead : Lead c no_slots
   fresh_lead s d e =
-      let q : empty ≡ holds d = sym (ap as_slot (replicate_same STATES s (negsuc 0))) ∙ e in
+      let q : None ≡ Some d = sym (ap as_slot (replicate_same STATES s (negsuc 0))) ∙ e in
       let y : ◌≡◌ {A = ℕ} 0 1 = cc in
       absurd (omega arith)
 

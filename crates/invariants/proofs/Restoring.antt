@@ -1,5 +1,6 @@
 -- A history (01, "History"): the owner is entered, and below it what its slot says. Which states that marks, and that from slots
 -- that lead on the configuration becomes legal and no empty slot is met. Assumes nothing.
+use Rattle.std.specs.Prelude.{Option, None, Some}
 use mathlib.Core.Path.{◌∙◌, ◌≡◌, ap, refl, subst, sym}
 use Prim.Native.Nat.{◌<◌, suc, zero, ℕ}
 use native.Mathlib.Omega.{arith}
@@ -28,13 +29,11 @@ use Rattle.meaning.specs.Steps.{◌then◌, each, look, ok, when}
 use Rattle.meaning.specs.Tree.{children, is_child, kind_of}
 use Rattle.meaning.specs.Widget.{Ctx, is_filled, slot}
 use Rattle.meaning.specs.declared.chart.Kind.TheVariants.{B as kind_b, O as kind_o}
-use Rattle.numbers.specs.declared.Place.{Place as Slot}
-use Rattle.numbers.specs.declared.Place.TheVariants.{At as holds, Empty as empty}
 
 -- with what a restore goes on: by the slots where the owner's is filled, else by defaults
-unfoldable pub restore_way : Slot → List ℤ → ℕ → Way
-restore_way empty sl x = defaults
-restore_way (holds d) sl x = slot_way (slot_at sl x)
+unfoldable pub restore_way : Option ℕ → List ℤ → ℕ → Way
+restore_way None sl x = defaults
+restore_way (Some d) sl x = slot_way (slot_at sl x)
 
 -- a b state has no child
 pub no_child_of_b : (c : Chart) → SoundChart c → (s y : ℕ) → kind_of c s ≡ kind_b → is_child c s y ≡ true → ⊥
@@ -57,13 +56,13 @@ module _ (c : Chart) (r : SoundChart c) (sl : List ℤ) (ok : SlotsOk c sl) (lea
       same_on : (d e : ℕ) → on_to d ≡ on_to e → d ≡ e
       same_on d e p = cc
 
-      go : (s d : ℕ) (x : Slot) → slot_at sl s ≡ x → slot_way x ≡ on_to d → (is_child c s d ≡ true) × (d < length c.states)
-      go s d empty q e = let z : ◌≡◌ {A = ℕ} 0 1 = cc in absurd (omega arith)
-      go s d (holds y) q e = let f = slot_child c sl ok s d (q ∙ ap holds (same_on y d e)) in (f.1, f.2)
+      go : (s d : ℕ) (x : Option ℕ) → slot_at sl s ≡ x → slot_way x ≡ on_to d → (is_child c s d ≡ true) × (d < length c.states)
+      go s d None q e = let z : ◌≡◌ {A = ℕ} 0 1 = cc in absurd (omega arith)
+      go s d (Some y) q e = let f = slot_child c sl ok s d (q ∙ ap Some (same_on y d e)) in (f.1, f.2)
 
-      not_by : (x : Slot) → slot_way x ≡ defaults → ⊥
-      not_by empty e = let z : ◌≡◌ {A = ℕ} 0 1 = cc in omega arith
-      not_by (holds d) e = let z : ◌≡◌ {A = ℕ} 0 1 = cc in omega arith
+      not_by : (x : Option ℕ) → slot_way x ≡ defaults → ⊥
+      not_by None e = let z : ◌≡◌ {A = ℕ} 0 1 = cc in omega arith
+      not_by (Some d) e = let z : ◌≡◌ {A = ℕ} 0 1 = cc in omega arith
 
   defaults_way_sound : Sound c (λ x. defaults)
   defaults_way_sound = record {
@@ -73,14 +72,14 @@ module _ (c : Chart) (r : SoundChart c) (sl : List ℤ) (ok : SlotsOk c sl) (lea
     leaf = r.leaf;
   }
 
-  pub restore_sound : (x : Slot) → Sound c (restore_way x sl)
+  pub restore_sound : (x : Option ℕ) → Sound c (restore_way x sl)
   unfolding restore_way
-  restore_sound empty = defaults_way_sound
-  restore_sound (holds d) = slots_way_sound
+  restore_sound None = defaults_way_sound
+  restore_sound (Some d) = slots_way_sound
 
   module _ (b : ℕ) (l : b < length c.states) (kb : kind_of c b ≡ kind_o) where
     -- the owner's own slot is filled, so it leads on
-    pub owner_goes : (d : ℕ) → slot_at sl b ≡ holds d → Goes c sl b
+    pub owner_goes : (d : ℕ) → slot_at sl b ≡ Some d → Goes c sl b
     unfolding is_filled
     owner_goes d e = record { child = λ k. ap is_filled e; components = λ k. absurd (not_o_of_a _ k kb) }
 
@@ -89,13 +88,13 @@ module _ (c : Chart) (r : SoundChart c) (sl : List ℤ) (ok : SlotsOk c sl) (lea
     abbrev restored : List ℕ
     restored = map state_of (all_below c (restore_way (slot_at sl b) sl) b)
 
-    restore_by_marks : (a : ℤ) (on : ℕ → Bool) (k : Ctx) → Marks c sl on k.state → (x : Slot) → slot_at sl b ≡ x
+    restore_by_marks : (a : ℤ) (on : ℕ → Bool) (k : Ctx) → Marks c sl on k.state → (x : Option ℕ) → slot_at sl b ≡ x
         → Gives (restore_by c a b k.state x k)
         (λ j. Marks c sl (with_all (map state_of (all_below c (restore_way x sl) b)) on) j.state)
     unfolding restore_by restore_way by_defaults all_below by_slots slot
-    restore_by_marks a on k h empty e =
+    restore_by_marks a on k h None e =
         visits_mark c sl a (all_below c (λ x. defaults) b) (below_inside c r (λ x. defaults) defaults_way_sound b l) on k h
-    restore_by_marks a on k h (holds d) e =
+    restore_by_marks a on k h (Some d) e =
         subst (λ w. Gives (each (revisit c a) (below c (λ x. slot_way (slot_at w x)) (length c.states) b) k) (λ j. Marks c sl
         (with_all (map state_of (below c (λ x. slot_way (slot_at sl x)) (length c.states) b)) on) j.state)) (sym h.slots)
         (each_marks c sl (revisit c a) (λ v. (state_of v < length c.states) × Restorable c sl (state_of v))

@@ -1,5 +1,6 @@
 -- The slots of a widget as plain facts (01, answer 6): each is empty or holds a child of its o state, and a filled one leads on.
 -- Both ways: from the test to the facts and back. Assumes nothing.
+use Rattle.std.specs.Prelude.{Option, None, Some}
 use mathlib.Core.Path.{◌∙◌, ◌≡◌, ap, refl, subst, sym}
 use mathlib.Core.Logic.{⊎_elim}
 use Prim.Native.Nat.{◌<◌, ◌≤◌, ℕ}
@@ -22,12 +23,10 @@ use Rattle.meaning.specs.declared.State.{State}
 use Rattle.meaning.specs.declared.chart.Kind.{Kind}
 use Rattle.meaning.specs.declared.chart.Kind.TheVariants.{A as kind_a, B as kind_b, O as kind_o}
 use Rattle.numbers.specs.Place.{place_of as as_slot}
-use Rattle.numbers.specs.declared.Place.{Place as Slot}
-use Rattle.numbers.specs.declared.Place.TheVariants.{At as holds, Empty as empty}
 use Rattle.sizes.specs.Sizes.{STATES}
 
 -- what a slot of a list holds
-abbrev pub slot_at : List ℤ → ℕ → Slot
+abbrev pub slot_at : List ℤ → ℕ → Option ℕ
 slot_at sl s = as_slot (get_or sl s (negsuc 0))
 
 -- what a stored state needs to go on: its own slot filled, or that of each component
@@ -37,17 +36,17 @@ pub record Goes (c : Chart) (sl : List ℤ) (d : ℕ) : Type 0 where
 
 -- a filled slot never leads to an empty one
 abbrev pub Lead : Chart → List ℤ → Type 0
-Lead c sl = (s d : ℕ) → slot_at sl s ≡ holds d → Goes c sl d
+Lead c sl = (s d : ℕ) → slot_at sl s ≡ Some d → Goes c sl d
 
-pub same_held : (x y : ℕ) → holds x ≡ holds y → x ≡ y
+pub same_held : (x y : ℕ) → Some x ≡ Some y → x ≡ y
 same_held x y e = cc
 
 -- what a slot holds is a child of its o state
 pub slot_child : (c : Chart) (sl : List ℤ) → SlotsOk c sl
-    → (s d : ℕ) → slot_at sl s ≡ holds d → (kind_of c s ≡ kind_o) × (is_child c s d ≡ true) × (d < length c.states)
+    → (s d : ℕ) → slot_at sl s ≡ Some d → (kind_of c s ≡ kind_o) × (is_child c s d ≡ true) × (d < length c.states)
 slot_child c sl h s d e = go (get_or sl s (negsuc 0)) (h s) e
   where
-    go : (z : ℤ) → SlotOk c s z → as_slot z ≡ holds d → (kind_of c s ≡ kind_o) × (is_child c s d ≡ true) × (d < length c.states)
+    go : (z : ℤ) → SlotOk c s z → as_slot z ≡ Some d → (kind_of c s ≡ kind_o) × (is_child c s d ≡ true) × (d < length c.states)
     go (pos x) k q = let r = same_held x d q in subst (λ y. (kind_of c s ≡ kind_o) × (is_child c s y ≡ true) × (y < length c.states)) r k
     go (negsuc n) k q = let z : ◌≡◌ {A = ℕ} 0 1 = cc in absurd (omega arith)
 
@@ -77,7 +76,7 @@ module _ (c : Chart) (h : SoundChart c) (u : State) where
       )
   fits_ok s (negsuc n) e = eqb-true n 0 e
 
-  fits_leads : (s d : ℕ) (z : ℤ) → slot_fits c u s z ≡ true → as_slot z ≡ holds d → leads_on c u (kind_of c d) d ≡ true
+  fits_leads : (s d : ℕ) (z : ℤ) → slot_fits c u s z ≡ true → as_slot z ≡ Some d → leads_on c u (kind_of c d) d ≡ true
   unfolding slot_fits
   fits_leads s d (pos x) e q =
       let r2 = is_child c s x && leads_on c u (kind_of c x) x in
@@ -100,7 +99,7 @@ module _ (c : Chart) (h : SoundChart c) (u : State) where
 
     pub lead_of : Lead c u.slots
     lead_of s d q = ⊎_elim
-        (λ m. let z : empty ≡ holds d = ap as_slot (sym (past s m)) ∙ q in let y : ◌≡◌ {A = ℕ} 0 1 = cc in absurd (omega arith))
+        (λ m. let z : None ≡ Some d = ap as_slot (sym (past s m)) ∙ q in let y : ◌≡◌ {A = ℕ} 0 1 = cc in absurd (omega arith))
         (λ m. goes_of d (fits_leads s d _ (each_fits s m) q))
         (le_or_lt STATES s)
 
@@ -113,7 +112,7 @@ module _ (c : Chart) (u : State) (k : SlotsOk c u.slots) (g : Lead c u.slots) wh
   leads_by d f kind_a e = child_every c (λ x. is_filled (slot u x)) d (λ y l t. f.components e y t)
   leads_by d f kind_b e = refl
 
-  ok_fits : (s : ℕ) (z : ℤ) → SlotOk c s z → ((d : ℕ) → as_slot z ≡ holds d → Goes c u.slots d) → slot_fits c u s z ≡ true
+  ok_fits : (s : ℕ) (z : ℤ) → SlotOk c s z → ((d : ℕ) → as_slot z ≡ Some d → Goes c u.slots d) → slot_fits c u s z ≡ true
   unfolding slot_fits
   ok_fits s (pos d) f h = and_both (ltb d (length c.states)) _ (lt-ltb _ _ f.2)
       (and_both (is_o (kind_of c s)) _ (of_o _ f.0) (and_both (is_child c s d) _ f.1 (leads_by d (h d refl) (kind_of c d) refl)))

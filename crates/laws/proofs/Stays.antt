@@ -1,5 +1,6 @@
 -- What a step keeps of all that it works on, where it goes on: one lemma for each word in which steps are written; and what the
 -- writing of entries and the changes of a state keep, every step of a reaction keeps. Assumes nothing.
+use Rattle.std.specs.Prelude.{Option, None, Some}
 use mathlib.Core.Path.{◌≡◌, refl}
 use Prim.Native.Nat.{suc, zero, ℕ}
 use mathlib.Core.Bool.{Bool, false, true}
@@ -26,8 +27,6 @@ use Rattle.meaning.specs.declared.chart.Owner.TheVariants.{TransitionOf as trans
 use Rattle.meaning.specs.declared.chart.Target.{Target}
 use Rattle.meaning.specs.declared.chart.Target.TheVariants.{History as history, InPlace as in_place, To as to}
 use Rattle.meaning.specs.declared.chart.VarRow.{VarRow}
-use Rattle.numbers.specs.declared.Place.{Place as Slot}
-use Rattle.numbers.specs.declared.Place.TheVariants.{At as holds, Empty as empty}
 use Rattle.queue.specs.declared.Removed.{Removed}
 use Rattle.sizes.specs.Sizes.{NULL_STEPS}
 
@@ -124,9 +123,9 @@ module _ (P : Ctx → Type 0) (p : Plain P) where
     unfolding restore restore_by
     restore_plain a b = look_stays P _ (λ k h. go k (slot k.state b))
       where
-        go : (k : Ctx) (x : Slot) → Stays P (restore_by c a b k.state x)
-        go k empty = each_stays_all P (visit c a) (visit_plain a) (all_below c by_defaults b)
-        go k (holds d) = each_stays_all P (revisit c a) (revisit_plain a) (all_below c (by_slots k.state) b)
+        go : (k : Ctx) (x : Option ℕ) → Stays P (restore_by c a b k.state x)
+        go k None = each_stays_all P (visit c a) (visit_plain a) (all_below c by_defaults b)
+        go k (Some d) = each_stays_all P (revisit c a) (revisit_plain a) (all_below c (by_slots k.state) b)
 
     towards_plain : (a : ℤ) (b : ℕ) (v : Visit) → Stays P (visit_towards c a b v)
     unfolding visit_towards

@@ -1,5 +1,6 @@
 -- The ways of 01 over a chart that passes the rules: towards a target, by defaults, towards the owner of a history, and by the
 -- slots. Each goes on with children only, so each enters in one forward pass what it enters level by level. Assumes nothing.
+use Rattle.std.specs.Prelude.{Option, None, Some}
 use mathlib.Core.Path.{◌∙◌, ◌≡◌, ap, refl, subst}
 use Prim.Native.Nat.{◌<◌, ◌≤◌, suc, zero, ℕ}
 use native.Mathlib.Omega.{arith}
@@ -17,8 +18,6 @@ use Rattle.meaning.specs.Lists.{first_that, from, has, keep}
 use Rattle.meaning.specs.Tree.{ancestors, climb, descendants, is_child, parent_of}
 use Rattle.meaning.specs.Widget.{slot}
 use Rattle.meaning.specs.declared.State.{State}
-use Rattle.numbers.specs.declared.Place.{Place as Slot}
-use Rattle.numbers.specs.declared.Place.TheVariants.{At as holds, Empty as empty}
 
 -- the proper descendants of a state are the numbers that follow it
 pub descendants_range : (c : Chart) → SoundChart c
@@ -96,7 +95,7 @@ module _ (c : Chart) (h : SoundChart c) where
       go s d false e = towards_on b l s d e
 
   -- slots that hold children
-  pub slots_sound : (u : State) → ((s d : ℕ) → slot u s ≡ holds d → (is_child c s d ≡ true) × (d < length c.states))
+  pub slots_sound : (u : State) → ((s d : ℕ) → slot u s ≡ Some d → (is_child c s d ≡ true) × (d < length c.states))
       → Sound c (by_slots u)
   unfolding by_slots slot_way
   slots_sound u fits = record {
@@ -106,13 +105,13 @@ module _ (c : Chart) (h : SoundChart c) where
     leaf = h.leaf;
   }
     where
-      go : (s d : ℕ) (x : Slot) → slot u s ≡ x → slot_way x ≡ on_to d → (is_child c s d ≡ true) × (d < length c.states)
-      go s d empty q e = absurd (on_not_stops d e)
-      go s d (holds y) q e = fits s d (q ∙ ap holds (same_on y d e))
+      go : (s d : ℕ) (x : Option ℕ) → slot u s ≡ x → slot_way x ≡ on_to d → (is_child c s d ≡ true) × (d < length c.states)
+      go s d None q e = absurd (on_not_stops d e)
+      go s d (Some y) q e = fits s d (q ∙ ap Some (same_on y d e))
 
-      not_by : (x : Slot) → slot_way x ≡ defaults → ⊥
-      not_by empty e = let z : ◌≡◌ {A = ℕ} 0 1 = cc in omega arith
-      not_by (holds d) e = let z : ◌≡◌ {A = ℕ} 0 1 = cc in omega arith
+      not_by : (x : Option ℕ) → slot_way x ≡ defaults → ⊥
+      not_by None e = let z : ◌≡◌ {A = ℕ} 0 1 = cc in omega arith
+      not_by (Some d) e = let z : ◌≡◌ {A = ℕ} 0 1 = cc in omega arith
 
   -- ---- going down level by level is one forward pass
 
@@ -129,7 +128,7 @@ module _ (c : Chart) (h : SoundChart c) where
       ≡ map (visit_of c (towards_owner c b)) (keep (λ x. reach c (towards_owner c b) s x x) (descendants c s))
   owner_pass b s l k = pass c (towards_owner c b) (owner_sound b l) s k
 
-  pub slots_pass : (u : State) (s : ℕ) → ((p d : ℕ) → slot u p ≡ holds d → (is_child c p d ≡ true) × (d < length c.states))
+  pub slots_pass : (u : State) (s : ℕ) → ((p d : ℕ) → slot u p ≡ Some d → (is_child c p d ≡ true) × (d < length c.states))
       → s < length c.states
       → all_below c (by_slots u) s ≡ map (visit_of c (by_slots u)) (keep (λ x. reach c (by_slots u) s x x) (descendants c s))
   slots_pass u s fits k = pass c (by_slots u) (slots_sound u fits) s k

@@ -1,4 +1,5 @@
 -- How a descent goes on below a state that it just entered: at the owner of a history by what its slot says. Assumes nothing.
+use Rattle.std.specs.Prelude.{Option, None, Some}
 use mathlib.Core.Path.{◌≡◌, refl, sym, ap, subst, fun_ext, ◌∙◌}
 use Prim.Native.Nat.{ℕ, zero, suc}
 use mathlib.Core.Bool.{Bool, true, false, cond}
@@ -7,8 +8,6 @@ use lib.ListN.{length}
 use lib.Dec.{eqb}
 use lib.IntN.{ℤ}
 use borrow.Author.Tests.{eq-eqb, eqb-true}
-use Rattle.numbers.specs.declared.Place.{Place}
-use Rattle.numbers.specs.declared.Place.TheVariants.{Empty as empty, At as holds}
 use Rattle.laws.proofs.Steps.{bind_cong}
 use Rattle.meaning.specs.declared.State.{State}
 use Rattle.meaning.specs.declared.chart.Kind.TheVariants.{O as kind_o}
@@ -43,9 +42,9 @@ module _ (c : Chart) (arg : ℤ) (b : ℕ) where
   unfolding restore restore_by look slot ctx tracing
   restores k at = go (slot_of k.slots b)
     where
-      go : (p : Place) → descent c arg k.slots (restored p) b (ctx k at) ≡ restore_by c arg b (widget k) p (ctx k at)
-      go empty = refl
-      go (holds d) = ap (λ w. each (revisit c arg) (all_below c w b) (ctx k at)) (sym (by_slots_is (widget k)))
+      go : (p : Option ℕ) → descent c arg k.slots (restored p) b (ctx k at) ≡ restore_by c arg b (widget k) p (ctx k at)
+      go None = refl
+      go (Some d) = ap (λ w. each (revisit c arg) (all_below c w b) (ctx k at)) (sym (by_slots_is (widget k)))
 
   -- the way to the owner stops there
   nothing_below : kind_of c b ≡ kind_o → all_below c (towards_owner c b) b ≡ []

@@ -1,12 +1,11 @@
 -- Entering one state, by default or not, and what a restore tests after it: the laws that `visit` and `arrive` cite. Assumes nothing.
+use Rattle.std.specs.Prelude.{Option, None, Some}
 use mathlib.Core.Path.{◌≡◌, refl, sym, subst, ◌∙◌}
 use Prim.Native.Nat.{ℕ}
 use mathlib.Core.Bool.{Bool, true, false, not, ◌&&◌, true≢false}
 use mathlib.Core.List.{List}
 use borrow.Author.Tests.{not-true, not-false}
 use lib.IntN.{ℤ}
-use Rattle.numbers.specs.declared.Place.{Place}
-use Rattle.numbers.specs.declared.Place.TheVariants.{Empty as empty, At as holds}
 use Rattle.meaning.specs.Chart.{Chart}
 use Rattle.meaning.specs.declared.chart.Kind.{Kind}
 use Rattle.meaning.specs.declared.chart.Owner.TheVariants.{DefaultOf as default_of}
@@ -136,16 +135,16 @@ module _ (c : Chart) (arg : ℤ) (course : Course) (next : Next) (p s : ℕ)
         unfolding fourteen look when
         arrived_other n = past (rw (o, ← f, ← g, not-true d n) refl)
 
-        module _ (n : not d ≡ false) {u : Place} (h : u ≡ slot_of sl s) where
-          pub arrived_filled : {y : ℕ} → u ≡ holds y → Did (arrival c arg course x) (all_lent a sl v q t) at r (all_lent a₁ sl v₁ q₁ t₁)
+        module _ (n : not d ≡ false) {u : Option ℕ} (h : u ≡ slot_of sl s) where
+          pub arrived_filled : {y : ℕ} → u ≡ Some y → Did (arrival c arg course x) (all_lent a sl v q t) at r (all_lent a₁ sl v₁ q₁ t₁)
           unfolding fourteen look when slot is_empty ctx tracing
           arrived_filled y = past (rw (o, ← f, ← g, not-false d n, ← h, y) refl)
 
-          empty_here : u ≡ empty → fourteen c (state_of x) (ctx (all_lent a₁ sl v₁ q₁ t₁) r.at) ≡ refuse 14
+          empty_here : u ≡ None → fourteen c (state_of x) (ctx (all_lent a₁ sl v₁ q₁ t₁) r.at) ≡ refuse 14
           unfolding fourteen look when slot is_empty ctx tracing
           empty_here y = rw (o, ← f, ← g, not-false d n, ← h, y) refl
 
-          pub arrived_empty : u ≡ empty
+          pub arrived_empty : u ≡ None
               → Did (arrival c arg course x) (all_lent a sl v q t) at (record { number = 14; at = r.at }) (all_lent a₁ sl v₁ q₁ t₁)
           unfolding revisit fourteen
           arrived_empty y = by_slots (then_on entered z (did_refuse (fourteen c (state_of x)) 13 w.0.fits (empty_here y)))

@@ -16,7 +16,6 @@ use acts::{enter, perform_all};
 use chart_rows::kind_of;
 use meaning::answers::SLOT_EMPTY;
 use meaning::chart::Owner;
-use numbers::Place;
 use queue::lent::QUEUE_NUMBERS;
 use sizes::{STATES, VARIABLES};
 use tree::kin::{is_child, is_o};
@@ -90,7 +89,7 @@ fn arrive(
     if !is_o(kind_of(chart, s)) {
         return went;
     }
-    let Place::Empty = slot_of(slots, s) else {
+    let None = slot_of(slots, s) else {
         return went;
     };
     Went {

@@ -1,5 +1,9 @@
 -- The answer numbers (01, "Answer numbers"), one name each; src/answers.rt has the same. Assumes nothing.
-use Rattle.std.specs.Prelude.{ℕ}
+use Rattle.std.specs.Prelude.{ℕ, Result, Ok, Err}
+use Rattle.meaning.specs.declared.Answer.{Answer}
+pub use Rattle.meaning.specs.declared.answers.Refusal.{Refusal}
+pub use Rattle.meaning.specs.declared.answers.Refusal.TheVariants.{WrongLine, OutsideSize, RuleFails, PlanTooLong, NotAPlan, Foreign, NotStarted}
+pub use Rattle.meaning.specs.declared.answers.Refusal.TheVariants.{QueueEmpty, QueueFull, NoSuchEvent, NoRoom, Unsettled, TextTooLong, SlotEmpty}
 
 -- 0: "done"
 abbrev pub DONE : ℕ
@@ -60,3 +64,42 @@ TEXT_TOO_LONG = 13
 -- 14: "a restore meets an empty slot below its owner"
 abbrev pub SLOT_EMPTY : ℕ
 SLOT_EMPTY = 14
+
+-- ---- a refusal in the code is an enum: the number of each of its cases, and the place given with it
+
+abbrev pub number_by : Refusal → ℕ
+number_by (WrongLine p) = WRONG_LINE
+number_by (OutsideSize p) = OUTSIDE_SIZE
+number_by (RuleFails p) = RULE_FAILS
+number_by PlanTooLong = PLAN_TOO_LONG
+number_by NotAPlan = NOT_A_PLAN
+number_by Foreign = FOREIGN
+number_by NotStarted = NOT_STARTED
+number_by QueueEmpty = QUEUE_EMPTY
+number_by QueueFull = QUEUE_FULL
+number_by NoSuchEvent = NO_SUCH_EVENT
+number_by NoRoom = NO_ROOM
+number_by Unsettled = UNSETTLED
+number_by TextTooLong = TEXT_TOO_LONG
+number_by SlotEmpty = SLOT_EMPTY
+
+abbrev pub place_by : Refusal → ℕ
+place_by (WrongLine p) = p
+place_by (OutsideSize p) = p
+place_by (RuleFails p) = p
+place_by PlanTooLong = 0
+place_by NotAPlan = 0
+place_by Foreign = 0
+place_by NotStarted = 0
+place_by QueueEmpty = 0
+place_by QueueFull = 0
+place_by NoSuchEvent = 0
+place_by NoRoom = 0
+place_by Unsettled = 0
+place_by TextTooLong = 0
+place_by SlotEmpty = 0
+
+-- what a call that is done or refused answers
+abbrev pub answer_by : {A : Type 0} → Result A Refusal → Answer
+answer_by (Ok a) = record { number = DONE; place = 0 }
+answer_by (Err e) = record { number = number_by e; place = place_by e }

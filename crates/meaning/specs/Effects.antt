@@ -1,6 +1,6 @@
 -- The effects of a reaction, one at a time (01, "One reaction"): the acts, leaving one state, entering one state.
 -- The chart's reaction and the plan machine both consist of these. Assumes nothing.
-use Rattle.std.specs.Prelude.{ℕ, zero, suc, Bool, true, false, cond, List, [], ◌∷◌, ℤ, pos, ◌+ℤ◌, eqb}
+use Rattle.std.specs.Prelude.{ℕ, zero, suc, Bool, true, false, cond, List, [], ◌∷◌, ℤ, pos, ◌+ℤ◌, eqb, Option, None, Some}
 use Rattle.numbers.specs.Hold.{hold_z}
 use Rattle.queue.specs.Queue.{appended}
 use Rattle.queue.specs.declared.Queued.{Queued}
@@ -11,7 +11,7 @@ use Rattle.meaning.specs.Lists.{concat_map}
 use Rattle.meaning.specs.Chart.{Act, set_to, add_to, take_to, send, tell, Owner, entry_of, exit_of, default_of}
 use Rattle.meaning.specs.Chart.{transition_of, VarRow, ActRow, Chart}
 use Rattle.meaning.specs.Tree.{parent_of, kind_of, var_row, is_o}
-use Rattle.meaning.specs.Widget.{Ctx, Slot, empty, holds, value_at, set_active, set_slot, set_value, set_queue, change, emit}
+use Rattle.meaning.specs.Widget.{Ctx, value_at, set_active, set_slot, set_value, set_queue, change, emit}
 use Rattle.meaning.specs.Widget.{Entry, left, entered, changed, sent, told}
 
 -- ---- the acts
@@ -84,16 +84,16 @@ perform_all c a o = each (perform c.vars a) (acts_of c o)
 -- ---- leaving one state
 
 -- the parent of s if that is an o state
-unfoldable pub o_parent : Chart → ℕ → Slot
-o_parent c zero = empty
-o_parent c (suc n) = cond (is_o (kind_of c (parent_of c (suc n)))) (holds (parent_of c (suc n))) empty
+unfoldable pub o_parent : Chart → ℕ → Option ℕ
+o_parent c zero = None
+o_parent c (suc n) = cond (is_o (kind_of c (parent_of c (suc n)))) (Some (parent_of c (suc n))) None
 
-unfoldable pub store_in : Slot → ℕ → State → State
-store_in empty s u = u
-store_in (holds p) s u = set_slot p s u
+unfoldable pub store_in : Option ℕ → ℕ → State → State
+store_in None s u = u
+store_in (Some p) s u = set_slot p s u
 
 -- "leaving a state stores it in its o parent's slot"
-unfoldable pub mark_left : Slot → ℕ → Step Ctx
+unfoldable pub mark_left : Option ℕ → ℕ → Step Ctx
 mark_left p s = emit (left s) then change (λ u. store_in p s (set_active s false u))
 
 -- "its exit actions follow at once"

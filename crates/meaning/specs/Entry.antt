@@ -1,13 +1,13 @@
 -- Which states a firing enters, in which order (01, "Firing" and "History"): the itinerary, and entering it. Assumes nothing.
 -- An itinerary is a list of visits; the way says with which child an o state goes on.
-use Rattle.std.specs.Prelude.{ℕ, zero, suc, Bool, true, false, cond, ◌&&◌, List, [], ◌∷◌, length, ℤ, eqb}
+use Rattle.std.specs.Prelude.{ℕ, zero, suc, Bool, true, false, cond, ◌&&◌, List, [], ◌∷◌, length, ℤ, eqb, Option, None, Some}
 use Rattle.meaning.specs.Answers.{SLOT_EMPTY}
 use Rattle.meaning.specs.declared.State.{State}
 use Rattle.meaning.specs.Steps.{Res, refuse, Step, ◌then◌, when, look, each}
 use Rattle.meaning.specs.Lists.{has, first_that, concat_map}
 use Rattle.meaning.specs.Chart.{Kind, kind_o, kind_a, kind_b, default_of, Chart}
 use Rattle.meaning.specs.Tree.{kind_of, default_child, is_o, ancestors, is_child, children}
-use Rattle.meaning.specs.Widget.{Ctx, Slot, empty, holds, slot, is_empty}
+use Rattle.meaning.specs.Widget.{Ctx, slot, is_empty}
 use Rattle.meaning.specs.Effects.{perform_all, enter}
 
 -- a state entered on the path, as a component or by a slot; or by the default of its parent
@@ -54,9 +54,9 @@ by_defaults s = defaults
 unfoldable pub towards_owner : Chart → ℕ → ℕ → Way
 towards_owner c b s = cond (eqb s b) stops (towards c b s)
 
-unfoldable pub slot_way : Slot → Way
-slot_way empty = stops
-slot_way (holds d) = on_to d
+unfoldable pub slot_way : Option ℕ → Way
+slot_way None = stops
+slot_way (Some d) = on_to d
 
 -- "and so on down by the slots"
 unfoldable pub by_slots : State → ℕ → Way
@@ -75,9 +75,9 @@ revisit c a v =
     visit c a v then look (λ k. when (is_o (kind_of c (state_of v)) && is_empty (slot k.state (state_of v))) (λ _. refuse SLOT_EMPTY))
 
 -- "If its slot is filled, its stored child is entered and so on down by the slots, without default actions. If empty, the default is taken"
-unfoldable pub restore_by : Chart → ℤ → ℕ → State → Slot → Step Ctx
-restore_by c a b u empty = each (visit c a) (all_below c by_defaults b)
-restore_by c a b u (holds d) = each (revisit c a) (all_below c (by_slots u) b)
+unfoldable pub restore_by : Chart → ℤ → ℕ → State → Option ℕ → Step Ctx
+restore_by c a b u None = each (visit c a) (all_below c by_defaults b)
+restore_by c a b u (Some d) = each (revisit c a) (all_below c (by_slots u) b)
 
 -- below the owner b, which itself is in
 unfoldable pub restore : Chart → ℤ → ℕ → Step Ctx

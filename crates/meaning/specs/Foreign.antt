@@ -12,7 +12,7 @@ use Rattle.meaning.specs.Lists.{keep, every, from}
 use Rattle.meaning.specs.Chart.{Kind, kind_o, kind_a, kind_b, VarRow, Chart}
 use Rattle.meaning.specs.Tree.{kind_of, is_o, all_states, is_child, children}
 use Rattle.meaning.specs.Rules.{within_row}
-use Rattle.meaning.specs.Widget.{is_active, Slot, slot, is_filled}
+use Rattle.meaning.specs.Widget.{is_active, slot, is_filled}
 
 -- ---- "illegal configuration"
 

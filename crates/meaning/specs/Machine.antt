@@ -1,6 +1,6 @@
 -- The plan machine (01, "The plan"): running instructions, choosing by heads, steps and null steps, and the calls on a widget over a plan;
 -- first over a plan that is well formed, then over any list of numbers. The effects are those of the reaction. Assumes nothing.
-use Rattle.std.specs.Prelude.{ℕ, zero, suc, Bool, true, false, ◌&&◌, List, [], ◌∷◌, take, drop, ℤ, pos, negsuc, eqb, leb, ltb}
+use Rattle.std.specs.Prelude.{ℕ, zero, suc, Bool, true, false, ◌&&◌, List, [], ◌∷◌, take, drop, ℤ, pos, negsuc, eqb, leb, ltb, Option, None, Some}
 use Rattle.numbers.specs.Equal.{eq_z}
 use Rattle.queue.specs.declared.Removed.{Removed}
 use Rattle.meaning.specs.Answers.{NOT_A_PLAN}
@@ -8,7 +8,7 @@ use Rattle.meaning.specs.declared.State.{State}
 use Rattle.meaning.specs.Steps.{Res, ok, refuse, Step, ◌then◌, each}
 use Rattle.meaning.specs.Lists.{keep, every, exists}
 use Rattle.meaning.specs.Chart.{VarRow}
-use Rattle.meaning.specs.Widget.{Ctx, Slot, empty, holds, is_active, slot, is_empty, is_filled, emit, Entry, taken}
+use Rattle.meaning.specs.Widget.{Ctx, is_active, slot, is_empty, is_filled, emit, Entry, taken}
 use Rattle.meaning.specs.Effects.{perform, mark_left, mark_entered}
 use Rattle.meaning.specs.Reaction.{guard_holds, step_by, settle_in_by, settle_by}
 use Rattle.meaning.specs.Foreign.{values_fit, queue_fits, marks_fit}
@@ -37,9 +37,9 @@ unfoldable pub on_if : Bool → ℕ → Ctx → Res Mach
 on_if true n k = ok (passing 0 k)
 on_if false n k = ok (passing n k)
 
-unfoldable pub holds_it : ℕ → Slot → Bool
-holds_it d empty = false
-holds_it d (holds x) = eqb d x
+unfoldable pub holds_it : ℕ → Option ℕ → Bool
+holds_it d None = false
+holds_it d (Some x) = eqb d x
 
 -- "1 IN s. 2 OUT s p. Both act and trace even if s is so already. 3 SKIPOUT s n: pass over n if s is not active. 4 SKIPEMPTY s n.
 -- 5 SKIPFULL s n. 6 SKIPNOT s d n: pass over n if the slot of s is not d. 7 SET, 8 ADD, 9 TAKE, 10 SEND, 11 TELL"

@@ -1,9 +1,8 @@
 -- A plan as data and as numbers (01, "The plan"): instructions, heads, the plan, and the numbers of each. Assumes nothing.
 -- The instructions and heads are the types declared in src/plan.rt, by the names that the definitions use.
-use Rattle.std.specs.Prelude.{ℕ, List, [], ◌∷◌, ◌++◌, length, ℤ, pos, negsuc}
+use Rattle.std.specs.Prelude.{ℕ, List, [], ◌∷◌, ◌++◌, length, ℤ, pos, negsuc, Option, None, Some}
 use Rattle.meaning.specs.Lists.{concat_map}
 use Rattle.meaning.specs.Chart.{Sign, equal, less, more, Guard, always, compares, Act, set_to, add_to, take_to, send, tell, VarRow}
-use Rattle.meaning.specs.Widget.{Slot, empty, holds}
 -- IN, OUT, SKIPOUT, SKIPEMPTY, SKIPFULL, SKIPNOT, and SET, ADD, TAKE, SEND, TELL, which are the acts
 pub use Rattle.meaning.specs.declared.plan.Instr.{Instr}
 pub use Rattle.meaning.specs.declared.plan.Instr.TheVariants.{In as go_in, Out as go_out, SkipOut as skip_out}
@@ -24,9 +23,9 @@ pub record Plan : Type 0 where
 -- ---- an instruction's four numbers, "unused ones 0"
 
 -- "or -1"
-unfoldable pub slot_number : Slot → ℤ
-slot_number empty = negsuc 0
-slot_number (holds d) = pos d
+unfoldable pub slot_number : Option ℕ → ℤ
+slot_number None = negsuc 0
+slot_number (Some d) = pos d
 
 -- "7 SET, 8 ADD, 9 TAKE, 10 SEND, 11 TELL, each with its act's fields"
 unfoldable pub act_numbers : Act → List ℤ

@@ -1,13 +1,11 @@
 -- A widget's state and what a call works on (01, "One reaction"): marks, slots, variables, queue, the trace so far and the room left.
 -- Each change of one place has its own definition. The state is the declared struct State, at 01's full size. Assumes nothing.
-use Rattle.std.specs.Prelude.{ℕ, zero, suc, ◌+◌, ◌-◌, ◌/◌, Bool, true, false, List, [], ◌∷◌, ◌++◌, length, get_or, set, replicate, ℤ, pos, negsuc, leb}
+use Rattle.std.specs.Prelude.{ℕ, zero, suc, ◌+◌, ◌-◌, ◌/◌, Bool, true, false, List, [], ◌∷◌, ◌++◌, length, get_or, set, replicate, ℤ, pos, negsuc, leb, Option, None, Some}
 use Rattle.queue.specs.declared.Queue.{Queue}
 use Rattle.meaning.specs.Answers.{NO_ROOM}
 use Rattle.meaning.specs.declared.State.{State}
 use Rattle.meaning.specs.Steps.{Res, ok, refuse, Step, ◌then◌, require}
--- "An empty slot is -1": a slot is empty, or holds a state; no number below 0 is a state
-pub use Rattle.numbers.specs.declared.Place.{Place as Slot}
-pub use Rattle.numbers.specs.declared.Place.TheVariants.{Empty as empty, At as holds}
+-- "An empty slot is -1": a slot is None, or Some state; no number below 0 is a state
 pub use Rattle.numbers.specs.Place.{place_of as as_slot}
 
 -- the state, the trace numbers so far, and how many more numbers there is room for
@@ -22,16 +20,16 @@ unfoldable pub is_active : State → ℕ → Bool
 is_active u s = get_or u.active s false
 
 -- what a slot holds; a slot is told from a state by its own type, so that no marker is ever taken for a state
-unfoldable pub slot : State → ℕ → Slot
+unfoldable pub slot : State → ℕ → Option ℕ
 slot u s = as_slot (get_or u.slots s (negsuc 0))
 
-unfoldable pub is_empty : Slot → Bool
-is_empty empty = true
-is_empty (holds d) = false
+unfoldable pub is_empty : Option ℕ → Bool
+is_empty None = true
+is_empty (Some d) = false
 
-unfoldable pub is_filled : Slot → Bool
-is_filled empty = false
-is_filled (holds d) = true
+unfoldable pub is_filled : Option ℕ → Bool
+is_filled None = false
+is_filled (Some d) = true
 
 unfoldable pub value_at : State → ℕ → ℤ
 value_at u v = get_or u.vars v (pos 0)

@@ -2,13 +2,12 @@
 // A number that names a state, a variable, an event or a transition is a usize here, as in the rows of a chart.
 use crate::Answer;
 use crate::chart::{Act, Guard};
-use numbers::Place;
 
 // IN s; OUT s p (p the o parent, or none); SKIPOUT s n; SKIPEMPTY s n; SKIPFULL s n; SKIPNOT s d n; and the acts.
 #[derive(Drop)]
 pub enum Instr {
     In(usize),
-    Out(usize, Place),
+    Out(usize, Option<usize>),
     SkipOut(usize, usize),
     SkipEmpty(usize, usize),
     SkipFull(usize, usize),

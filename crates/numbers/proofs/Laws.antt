@@ -1,4 +1,5 @@
 -- Laws of signed numbers that proofs cite: what tests say, what fits.
+use Rattle.std.specs.Prelude.{None, Some}
 use mathlib.Core.Path.{◌≡◌, refl, sym, ap, ◌∙◌}
 use mathlib.Core.Bool.{Bool, true, false, cond, true≢false, false≢true}
 use Prim.Native.Nat.{ℕ, suc, ◌+◌, ◌-◌, ◌<◌, ◌^◌}
@@ -13,7 +14,6 @@ use mir.Val.{SFits, Fits, to_z, of_z}
 use mir.Facts.{to_z-of_z}
 use Rattle.numbers.specs.Place.{place_of}
 use Rattle.numbers.specs.Reference.{ref, NOWHERE}
-use Rattle.numbers.specs.declared.Place.TheVariants.{Empty, At}
 
 -- what lies between two numbers that fit, fits
 pub mag_between : (B : ℕ) (lo v hi : ℤ) → lt_z v lo ≡ false → lt_z hi v ≡ false → mag lo < B → mag hi < B → mag v < B
@@ -51,11 +51,11 @@ pub cast_up : (x : ℤ) → lt_z x (pos 0) ≡ false → mag x < 2 ^ 31 → T (n
 cast_up (pos n) t f = (tt, record { fits = omega arith })
 cast_up (negsuc n) t f = absurd (true≢false t)
 
-pub place_some : (x : ℤ) → lt_z x (pos 0) ≡ false → At (nat_abs x) ≡ place_of x
+pub place_some : (x : ℤ) → lt_z x (pos 0) ≡ false → Some (nat_abs x) ≡ place_of x
 place_some (pos n) t = refl
 place_some (negsuc n) t = absurd (true≢false t)
 
-pub place_none : (x : ℤ) → lt_z x (pos 0) ≡ true → Empty ≡ place_of x
+pub place_none : (x : ℤ) → lt_z x (pos 0) ≡ true → None ≡ place_of x
 place_none (pos n) t = let h = ltb-true n 0 t in absurd (omega arith)
 place_none (negsuc n) t = refl
 

@@ -82,20 +82,10 @@ pub fn add_held(v: i32, c: i32, low: i32, high: i32) -> i32
 }
 
 // A slot's content: one below 0 is the empty slot's marker, never a state.
-#[derive(Drop)]
-pub enum Place {
-    Empty,
-    At(usize),
-}
-
-pub fn place_of(x: i32) -> Place
+pub fn place_of(x: i32) -> Option<usize>
     ensures { result ≡ place_of x }
 {
-    if x < 0 {
-        Place::Empty
-    } else {
-        Place::At(x as usize)
-    }
+    if x < 0 { None } else { Some(x as usize) }
 }
 
 // A number that names a state, variable or event; one below 0 names nothing.

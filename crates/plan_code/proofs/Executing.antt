@@ -1,4 +1,5 @@
 -- One instruction, over plain variables: what its effect or its test makes of what is lent. Assumes nothing.
+use Rattle.std.specs.Prelude.{Option, None, Some}
 use mathlib.Core.Path.{◌≡◌, refl, sym, ap, ◌∙◌, subst}
 use Prim.Native.Nat.{ℕ, zero, suc, ◌+◌, ◌*◌, ◌≤◌, ◌<◌}
 use native.Mathlib.Omega.{arith}
@@ -9,8 +10,6 @@ use lib.Dec.{eqb, leb}
 use lib.IntN.{ℤ, pos, negsuc}
 use Rattle.sizes.specs.Sizes.{INSTRUCTIONS, STATES, VARIABLES}
 use Rattle.numbers.specs.Place.{place_of}
-use Rattle.numbers.specs.declared.Place.{Place as Slot}
-use Rattle.numbers.specs.declared.Place.TheVariants.{Empty as empty, At as holds}
 use Rattle.meaning.specs.declared.chart.VarRow.{VarRow}
 use Rattle.meaning.specs.declared.chart.Act.TheVariants.{SetTo as set_to, AddTo as add_to, TakeTo as take_to, Send as send, Tell as tell}
 use Rattle.meaning.specs.declared.plan.Instr.{Instr}
@@ -65,7 +64,7 @@ module _ {vs : List VarRow} {a : ℤ} {before after : Lent} {at : ℕ} {w : Went
   unfolding exec_now
   enters {i} {s} q d h = effect (go_in s) q (mark_entered s) (λ k. refl) d (λ z. ap length h)
 
-  pub leaves : {i : Instr} {s : ℕ} {p : Slot} → i ≡ go_out s p → Did (mark_left p s) before at w after
+  pub leaves : {i : Instr} {s : ℕ} {p : Option ℕ} → i ≡ go_out s p → Did (mark_left p s) before at w after
       → (w.number ≡ 0 → length after.slots ≡ length before.slots) → Execs vs a i before at r after
   unfolding exec_now
   leaves {i} {s} {p} q d h = effect (go_out s p) q (mark_left p s) (λ k. refl) d h
@@ -100,17 +99,17 @@ Long : ℕ → Res Ctx → Type 0
 Long n (ok k) = length k.state.slots ≡ n
 Long n (refuse m) = Unit {0}
 
-left_long : (p : Slot) (s : ℕ) (k : Ctx) → Long (length k.state.slots) (mark_left p s k)
+left_long : (p : Option ℕ) (s : ℕ) (k : Ctx) → Long (length k.state.slots) (mark_left p s k)
 unfolding Long mark_left emit ◌then◌ bind require add_numbers change store_in set_active set_slot
 left_long p s k = go p (leb ENTRY k.room)
   where
-    go : (p : Slot) (b : Bool) → Long (length k.state.slots) (bind (bind (require 11 b k) (add_numbers (numbers (left s))))
+    go : (p : Option ℕ) (b : Bool) → Long (length k.state.slots) (bind (bind (require 11 b k) (add_numbers (numbers (left s))))
         (change (λ u. store_in p s (set_active s false u))))
-    go empty true = refl
-    go (holds q) true = length-set k.state.slots q (pos s)
+    go None true = refl
+    go (Some q) true = length-set k.state.slots q (pos s)
     go p false = tt
 
-pub left_slots : (p : Slot) (s : ℕ) {a a₁ : List Bool} {sl sl₁ t t₁ : List ℤ} {at : ℕ} {w : Went}
+pub left_slots : (p : Option ℕ) (s : ℕ) {a a₁ : List Bool} {sl sl₁ t t₁ : List ℤ} {at : ℕ} {w : Went}
     → ((k : Lent) → Did (mark_left p s) (with_active a (with_slots sl (with_trace t k))) at w (with_active a₁ (with_slots sl₁
     (with_trace t₁ k))))
     → w.number ≡ 0 → length sl₁ ≡ length sl
@@ -137,10 +136,10 @@ over_near : (c : Bool) (n : ℕ) → n ≤ INSTRUCTIONS → cond c 0 n ≤ INSTR
 over_near true n l = omega arith
 over_near false n l = l
 
-not_filled : (p : Slot) → not (is_filled p) ≡ is_empty p
+not_filled : (p : Option ℕ) → not (is_filled p) ≡ is_empty p
 unfolding is_filled is_empty
-not_filled empty = refl
-not_filled (holds d) = refl
+not_filled None = refl
+not_filled (Some d) = refl
 
 get_d_any : {A : Type 0} (xs : List A) (i : ℕ) (d e : A) → i < length xs → get_or xs i d ≡ get_or xs i e
 get_d_any [] i d e l = absurd (omega arith)
@@ -197,19 +196,19 @@ module _ {vs : List VarRow} {a : ℤ} {k : Lent} {at : ℕ} {b : Bool} {n : ℕ}
 
 -- ---- slots
 
-pub filled_empty : {p : Slot} → p ≡ empty → false ≡ is_filled p
+pub filled_empty : {p : Option ℕ} → p ≡ None → false ≡ is_filled p
 unfolding is_filled
 filled_empty e = rw e
 
-pub filled_at : {p : Slot} {d : ℕ} → p ≡ holds d → true ≡ is_filled p
+pub filled_at : {p : Option ℕ} {d : ℕ} → p ≡ Some d → true ≡ is_filled p
 unfolding is_filled
 filled_at e = rw e
 
-pub holds_empty : {p : Slot} (d : ℕ) → p ≡ empty → false ≡ holds_it d p
+pub holds_empty : {p : Option ℕ} (d : ℕ) → p ≡ None → false ≡ holds_it d p
 unfolding holds_it
 holds_empty d e = rw e
 
-pub holds_at : {p : Slot} (d : ℕ) {s : ℕ} → p ≡ holds s → eqb d s ≡ holds_it d p
+pub holds_at : {p : Option ℕ} (d : ℕ) {s : ℕ} → p ≡ Some s → eqb d s ≡ holds_it d p
 unfolding holds_it
 holds_at d e = rw e
 

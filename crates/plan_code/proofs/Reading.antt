@@ -1,5 +1,6 @@
 -- What the row of an instruction says, number by number, to code that reads its numbers where they stand (01, "The plan"): by its code,
 -- which instruction it is, and that what it names is there. Assumes nothing.
+use Rattle.std.specs.Prelude.{Option}
 use mathlib.Core.Path.{◌≡◌, refl, sym, subst}
 use Prim.Native.Nat.{ℕ, ◌+◌, ◌<◌, ◌≤◌}
 use native.Mathlib.Omega.{arith}
@@ -12,7 +13,6 @@ use mathlib.Core.Bool.{false}
 use Rattle.sizes.specs.Sizes.{INSTRUCTIONS, STATES}
 use Rattle.numbers.specs.Reference.{NOWHERE, ref}
 use Rattle.numbers.specs.Place.{place_of}
-use Rattle.numbers.specs.declared.Place.{Place}
 use Rattle.meaning.specs.declared.chart.Act.TheVariants.{SetTo as set_to, AddTo as add_to, TakeTo as take_to, Send as send, Tell as tell}
 use Rattle.meaning.specs.declared.plan.Instr.{Instr}
 use Rattle.meaning.specs.declared.plan.Instr.TheVariants.{In as go_in, Out as go_out, SkipOut as skip_out, SkipEmpty as skip_empty}
@@ -44,7 +44,7 @@ module _ {ns : List ℤ} {b : ℕ} (w : Row ns b) where
     pub is_in : ref (nth 0) ≡ 1 → instr_from ns b ≡ go_in s
     is_in e = says (in_said (nth 0) (nth 1) (nth 2) (nth 3) e f)
 
-    pub is_out : {p : Place} → ref (nth 0) ≡ 2 → p ≡ place_of (nth 2) → instr_from ns b ≡ go_out s p
+    pub is_out : {p : Option ℕ} → ref (nth 0) ≡ 2 → p ≡ place_of (nth 2) → instr_from ns b ≡ go_out s p
     is_out e g = says (out_said (nth 0) (nth 1) (nth 2) (nth 3) e f g)
 
     pub is_skip_out : ref (nth 0) ≡ 3 → instr_from ns b ≡ skip_out s (ref (nth 2))

@@ -1,5 +1,6 @@
 -- What every instruction of a well-formed plan keeps true of all that the plan machine works on: the started mark, the sizes, each
 -- clause of the machine's test for 6 but the root's mark, and a trace that names only what the plan has. Assumes nothing.
+use Rattle.std.specs.Prelude.{Option, None, Some}
 use mathlib.Core.Path.{◌∙◌, ◌≡◌, refl, subst, sym}
 use mathlib.Core.Logic.{⊎_elim}
 use Prim.Native.Nat.{◌<◌, ◌≤◌, suc, zero, ℕ}
@@ -34,8 +35,6 @@ use Rattle.meaning.specs.declared.plan.Instr.TheVariants.{Does as does, In as go
 use Rattle.meaning.specs.declared.plan.Instr.TheVariants.{SkipFull as skip_full, SkipNot as skip_not, SkipOut as skip_out}
 use Rattle.numbers.specs.Equal.{eq_z}
 use Rattle.numbers.specs.Range.{in_range}
-use Rattle.numbers.specs.declared.Place.{Place as Slot}
-use Rattle.numbers.specs.declared.Place.TheVariants.{At as holds, Empty as empty}
 use Rattle.invariants.proofs.Naming.{EntryNamed, named_more, numbers_named}
 use Rattle.plan_invariants.proofs.Walk.{Effects, Ends, Refusal, Runs, either_way, gone_on, look_runs, then_runs}
 use Rattle.plan_invariants.proofs.Well.{InstrNamed, Well, well_rows}
@@ -218,15 +217,15 @@ module _ (p : Plan) (w : Well p) where
       then_runs Refusal (Good p) _ _ (emit_good p (sent e x) h) (enqueue_good p (pos e) x h)
   act_good a (tell x) f = emit_good p (told x) f
 
-  store_fit : (q : Slot) (s : ℕ) (u : State) → SlotFits (counts p) q → s < p.states → Fit p u → Fit p (store_in q s u)
+  store_fit : (q : Option ℕ) (s : ℕ) (u : State) → SlotFits (counts p) q → s < p.states → Fit p u → Fit p (store_in q s u)
   unfolding store_in counts
-  store_fit empty s u h l f = f
-  store_fit (holds q) s u h l f = slot_fit p q s u h l f
+  store_fit None s u h l f = f
+  store_fit (Some q) s u h l f = slot_fit p q s u h l f
 
   -- ---- one instruction
 
   -- OUT s q: the mark goes, and the slot of q, if there is one, takes s
-  out_fit : (s : ℕ) (q : Slot) → s < p.states → SlotFits (counts p) q → (u : State) → Fit p u
+  out_fit : (s : ℕ) (q : Option ℕ) → s < p.states → SlotFits (counts p) q → (u : State) → Fit p u
       → Fit p (store_in q s (set_active s false u))
   out_fit s q l m u f = store_fit q s (set_active s false u) m l (mark_fit p s false u l f)
 

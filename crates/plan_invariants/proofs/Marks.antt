@@ -1,5 +1,6 @@
 -- What the plan machine's steps keep of the marks alone, and with which numbers they refuse, over any plan: from what IN and OUT do to
 -- the marks. In the order: entries, queue and acts, which leave the marks; instructions; what follows the tests. Assumes nothing.
+use Rattle.std.specs.Prelude.{Option, None, Some}
 use Prim.Native.Nat.{ℕ}
 use mathlib.Core.Bool.{Bool, false, true}
 use mathlib.Core.List.{List}
@@ -23,8 +24,6 @@ use Rattle.meaning.specs.declared.plan.Instr.{Instr}
 use Rattle.meaning.specs.declared.plan.Instr.TheVariants.{Does as does, In as go_in, Out as go_out, SkipEmpty as skip_empty}
 use Rattle.meaning.specs.declared.plan.Instr.TheVariants.{SkipFull as skip_full, SkipNot as skip_not, SkipOut as skip_out}
 use Rattle.numbers.specs.Reference.{ref}
-use Rattle.numbers.specs.declared.Place.{Place as Slot}
-use Rattle.numbers.specs.declared.Place.TheVariants.{At as holds, Empty as empty}
 use Rattle.plan_invariants.proofs.Walk.{Effects, Ends, Runs, either_way, gone_on, look_runs, settle_runs, step_runs, then_runs}
 use Rattle.queue.specs.Queue.{appended}
 use Rattle.queue.specs.declared.Queue.{Queue}
@@ -75,10 +74,10 @@ module _ (R : ℕ → Type 0) (M : List Bool → Type 0) where
   act_marked full no_room r a (send e x) = then_runs R (On M) _ _ (emit_marked no_room _) (enqueue_marked full (pos e) x)
   act_marked full no_room r a (tell x) = emit_marked no_room _
 
-  store_marked : (q : Slot) (s : ℕ) (u : State) → M u.active → M (store_in q s u).active
+  store_marked : (q : Option ℕ) (s : ℕ) (u : State) → M u.active → M (store_in q s u).active
   unfolding store_in set_slot
-  store_marked empty s u h = h
-  store_marked (holds q) s u h = h
+  store_marked None s u h = h
+  store_marked (Some q) s u h = h
 
 -- ---- instructions
 
@@ -88,7 +87,7 @@ pub record Marking (R : ℕ → Type 0) (C : Instr → Type 0) (M : List Bool �
   pub no_room : R 11
   pub unsettled : R 12
   pub enters : (s : ℕ) → C (go_in s) → (l : List Bool) → M l → M (set l s true)
-  pub leaves : (s : ℕ) (q : Slot) → C (go_out s q) → (l : List Bool) → M l → M (set l s false)
+  pub leaves : (s : ℕ) (q : Option ℕ) → C (go_out s q) → (l : List Bool) → M l → M (set l s false)
 
 module _ (p : Plan) (R : ℕ → Type 0) (C : Instr → Type 0) (M : List Bool → Type 0) (w : Marking R C M) where
   pub instr_marked : (a : ℤ) (i : Instr) → C i → (k : Ctx) → On M k → Ends R (exec_now p.vars a i k) (λ m. On M m.ctx)

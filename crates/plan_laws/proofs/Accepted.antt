@@ -1,5 +1,6 @@
 -- A plan that fits is well formed: each test of 01's definition passes on the plan's numbers, whatever follows them. In the order of
 -- the definition: counts, variables, heads, blocks, instructions, the plan. Assumes nothing.
+use Rattle.std.specs.Prelude.{None, Some}
 use mathlib.Core.Path.{◌∙◌, ◌≡◌, ap, refl}
 use Prim.Native.Nat.{◌+◌, ◌≤◌, suc, ℕ}
 use native.Mathlib.Omega.{arith}
@@ -31,7 +32,6 @@ use Rattle.meaning.specs.declared.plan.Instr.{Instr}
 use Rattle.meaning.specs.declared.plan.Instr.TheVariants.{Does as does, In as go_in, Out as go_out, SkipEmpty as skip_empty}
 use Rattle.meaning.specs.declared.plan.Instr.TheVariants.{SkipFull as skip_full, SkipNot as skip_not, SkipOut as skip_out}
 use Rattle.numbers.specs.Reference.{ref}
-use Rattle.numbers.specs.declared.Place.TheVariants.{At as holds, Empty as empty}
 use Rattle.plan_laws.proofs.Fits.{Fills, Fits, GuardFits, HeadFits, InstrFits, Piece, VarFits, next_block, no_piece, one_instr}
 use Rattle.plan_laws.proofs.Fits.{to_the_end}
 use Rattle.plan_laws.proofs.ReadBack.{Sayable, after_heads, counts, counts_back, head_long, head_rows_back, instr_long, var_long}
@@ -160,8 +160,8 @@ instr_passes : (k : Counts) (left : ℕ) (i : Instr) (rest : List ℤ) → Instr
     → instr_fits k left (instr_numbers i ++ rest) ≡ true
 unfolding instr_fits shape_fits operand_fits instr_numbers act_numbers slot_number
 instr_passes k left (go_in s) rest h = rw (lt-ltb s k.states h)
-instr_passes k left (go_out s empty) rest h = rw (lt-ltb s k.states h.0)
-instr_passes k left (go_out s (holds p)) rest h = rw (lt-ltb s k.states h.0, lt-ltb p k.states h.1)
+instr_passes k left (go_out s None) rest h = rw (lt-ltb s k.states h.0)
+instr_passes k left (go_out s (Some p)) rest h = rw (lt-ltb s k.states h.0, lt-ltb p k.states h.1)
 instr_passes k left (skip_out s n) rest h = rw (lt-ltb s k.states h.0, le-leb 0 n (omega arith), le-leb n left h.1)
 instr_passes k left (skip_empty s n) rest h = rw (lt-ltb s k.states h.0, le-leb 0 n (omega arith), le-leb n left h.1)
 instr_passes k left (skip_full s n) rest h = rw (lt-ltb s k.states h.0, le-leb 0 n (omega arith), le-leb n left h.1)

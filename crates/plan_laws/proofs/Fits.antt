@@ -1,5 +1,6 @@
 -- What 01, "The plan", asks of a well-formed plan, said of the plan as data in plain facts, clause by clause: its instructions by
 -- blocks, its heads, its variables, the whole plan. That the test of the numbers then passes is in Ruled. Assumes nothing.
+use Rattle.std.specs.Prelude.{Option, None, Some}
 use mathlib.Core.Path.{◌≡◌}
 use Prim.Native.Nat.{◌+◌, ◌<◌, ◌≤◌, ℕ}
 use native.Mathlib.Omega.{arith}
@@ -22,17 +23,15 @@ use Rattle.meaning.specs.declared.plan.Instr.{Instr}
 use Rattle.meaning.specs.declared.plan.Instr.TheVariants.{Does as does, In as go_in, Out as go_out, SkipEmpty as skip_empty}
 use Rattle.meaning.specs.declared.plan.Instr.TheVariants.{SkipFull as skip_full, SkipNot as skip_not, SkipOut as skip_out}
 use Rattle.numbers.specs.Range.{in_range}
-use Rattle.numbers.specs.declared.Place.{Place as Slot}
-use Rattle.numbers.specs.declared.Place.TheVariants.{At as holds, Empty as empty}
 use Rattle.plan_laws.proofs.ReadBack.{counts}
 use Rattle.sizes.specs.Sizes.{TRANSITIONS}
 
 -- ---- instructions
 
 -- "p may be -1"
-abbrev pub SlotFits : Counts → Slot → Type 0
-SlotFits k empty = Unit {0}
-SlotFits k (holds p) = p < k.states
+abbrev pub SlotFits : Counts → Option ℕ → Type 0
+SlotFits k None = Unit {0}
+SlotFits k (Some p) = p < k.states
 
 -- "variables and events named exist, .. a sent event is 1 or more, constants are in range"
 abbrev pub ActFits : Counts → Act → Type 0

@@ -1,5 +1,6 @@
 -- The blocks of a chart that passes the rules: each piece names states, variables and events of the chart and constants in range, and
 -- its skips stay within it. In the order of 01, "A block": acts, exits, entries, the two arms of a history, blocks. Assumes nothing.
+use Rattle.std.specs.Prelude.{None, Some}
 use mathlib.Core.Path.{◌≡◌, refl, subst, sym}
 use Prim.Native.Nat.{◌<◌, suc, zero, ℕ}
 use native.Mathlib.Omega.{arith}
@@ -32,7 +33,6 @@ use Rattle.meaning.specs.declared.chart.Target.{Target}
 use Rattle.meaning.specs.declared.chart.Target.TheVariants.{History as history, InPlace as in_place, To as to}
 use Rattle.meaning.specs.declared.plan.Counts.{Counts}
 use Rattle.meaning.specs.declared.plan.Instr.TheVariants.{Does as does, Out as go_out, SkipEmpty as skip_empty}
-use Rattle.numbers.specs.declared.Place.TheVariants.{At as holds, Empty as empty}
 use Rattle.plan_laws.proofs.Below.{descendants_each, visits_each}
 use Rattle.plan_laws.proofs.Fits.{ActFits, Piece, SlotFits, no_piece, one_instr, piece_joined, pieces_joined, skip_empty_piece}
 use Rattle.plan_laws.proofs.Fits.{skip_full_piece, skip_not_piece, skip_out_piece}
@@ -79,7 +79,7 @@ module _ (c : Chart) (h : SoundChart c) (z : SizedChart c) (k : Counts) (q : Cou
   slot_fits zero l = tt
   slot_fits (suc n) l = go (is_o (kind_of c (parent_of c (suc n))))
     where
-      go : (b : Bool) → SlotFits k (cond b (holds (parent_of c (suc n))) empty)
+      go : (b : Bool) → SlotFits k (cond b (Some (parent_of c (suc n))) None)
       go true = parent_inside (suc n) (omega arith) l
       go false = tt
 

@@ -1,5 +1,6 @@
 -- A plan read back from its numbers is the plan, whatever follows it in the slice (01, "The plan"): the rows of each kind, the six
 -- counts, then the plan. Only the counts must keep their sizes: every field of a head or an instruction reads back. Assumes nothing.
+use Rattle.std.specs.Prelude.{Option, None, Some}
 use mathlib.Core.Path.{◌∙◌, ◌≡◌, ap, refl, sym}
 use Prim.Native.Nat.{◌*◌, ◌≤◌, suc, ℕ}
 use mathlib.Core.List.{List, [], ◌++◌, ◌∷◌, append_assoc, map}
@@ -24,8 +25,6 @@ use Rattle.meaning.specs.declared.plan.Instr.{Instr}
 use Rattle.meaning.specs.declared.plan.Instr.TheVariants.{Does as does, In as go_in, Out as go_out, SkipEmpty as skip_empty}
 use Rattle.meaning.specs.declared.plan.Instr.TheVariants.{SkipFull as skip_full, SkipNot as skip_not, SkipOut as skip_out}
 use Rattle.numbers.specs.Place.{place_of as as_slot}
-use Rattle.numbers.specs.declared.Place.{Place as Slot}
-use Rattle.numbers.specs.declared.Place.TheVariants.{At as holds, Empty as empty}
 use Rattle.plan_laws.proofs.Rows.{map_back, rows_back, rows_past}
 use Rattle.sizes.specs.Sizes.{EVENTS, INSTRUCTIONS, STATES, TRANSITIONS, VARIABLES}
 
@@ -61,10 +60,10 @@ pub head_long : (h : Head) → length (head_numbers h) ≡ HEAD_ROW
 unfolding head_numbers
 head_long h = ap (λ n. suc (suc (suc n))) (guard_long h.guard (pos h.first ∷ pos h.last ∷ pos h.start ∷ pos h.length ∷ []))
 
-slot_back : (p : Slot) → as_slot (slot_number p) ≡ p
+slot_back : (p : Option ℕ) → as_slot (slot_number p) ≡ p
 unfolding slot_number
-slot_back empty = refl
-slot_back (holds d) = refl
+slot_back None = refl
+slot_back (Some d) = refl
 
 pub instr_back : (i : Instr) → instr_by (instr_numbers i) ≡ i
 unfolding instr_by instr_of instr_act_by instr_numbers act_numbers

@@ -1,5 +1,6 @@
 -- What a head's sign and an instruction's code say, number by number: code that goes by cases on the number meets the definitions, which
 -- test one number after the other. Assumes nothing.
+use Rattle.std.specs.Prelude.{Option}
 use Prim.Native.Nat.{ℕ, ◌<◌}
 use mathlib.Core.Path.{◌≡◌, refl, ap}
 use mathlib.Core.Bool.{false}
@@ -8,7 +9,6 @@ use borrow.Author.Tests.{ne_eqb}
 use lib.IntN.{ℤ, pos, negsuc}
 use Rattle.numbers.specs.Equal.{eq_z}
 use Rattle.numbers.specs.Reference.{ref, NOWHERE}
-use Rattle.numbers.specs.declared.Place.{Place}
 use Rattle.numbers.specs.Place.{place_of}
 use Rattle.meaning.specs.declared.chart.Sign.TheVariants.{Equal as equal, Less as less, More as more}
 use Rattle.meaning.specs.declared.chart.Guard.TheVariants.{Always as always, Compares as compares}
@@ -52,7 +52,7 @@ module _ (k x y z : ℤ) {s : ℕ} where
   unfolding instr_of
   in_said e f = rw (names k 1 (omega arith) e, f)
 
-  pub out_said : {p : Place} → ref k ≡ 2 → s ≡ ref x → p ≡ place_of y → go_out s p ≡ instr_of k x y z
+  pub out_said : {p : Option ℕ} → ref k ≡ 2 → s ≡ ref x → p ≡ place_of y → go_out s p ≡ instr_of k x y z
   unfolding instr_of
   out_said e f g = rw (names k 2 (omega arith) e, f, g)
 

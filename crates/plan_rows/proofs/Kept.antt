@@ -1,5 +1,6 @@
 -- What the tests of a head and of an instruction say, as plain facts about what the row states: numbers that name something name one that
 -- there is, constants are in range, and a skip stays within its block. Assumes nothing.
+use Rattle.std.specs.Prelude.{Option, None, Some}
 use Prim.Native.Nat.{ℕ, zero, suc, ◌<◌, ◌≤◌}
 use mathlib.Core.Path.{◌≡◌, refl, sym, ◌∙◌}
 use mathlib.Core.Bool.{Bool, true, false, cond, ◌&&◌, false≢true}
@@ -17,8 +18,6 @@ use Rattle.numbers.specs.Equal.{eq_z}
 use Rattle.numbers.specs.Range.{in_range}
 use Rattle.numbers.specs.Reference.{ref, NOWHERE}
 use Rattle.numbers.specs.Place.{place_of}
-use Rattle.numbers.specs.declared.Place.{Place}
-use Rattle.numbers.specs.declared.Place.TheVariants.{Empty, At}
 use Rattle.numbers.proofs.Laws.{eq_z_true}
 use Rattle.laws.proofs.Lists.{and_left, and_right, or_cases}
 use Rattle.meaning.specs.declared.chart.Act.{Act}
@@ -43,9 +42,9 @@ abbrev pub GuardKept : Counts → Guard → Type 0
 GuardKept k always = Unit {0}
 GuardKept k (compares v g x) = (v < k.vars) × (in_range x ≡ true)
 
-abbrev pub SlotKept : Counts → Place → Type 0
-SlotKept k Empty = Unit {0}
-SlotKept k (At p) = p < k.states
+abbrev pub SlotKept : Counts → Option ℕ → Type 0
+SlotKept k None = Unit {0}
+SlotKept k (Some p) = p < k.states
 
 abbrev pub ActKept : Counts → Act → Type 0
 ActKept k (set_to v x) = (v < k.vars) × (in_range x ≡ true)

@@ -1,5 +1,6 @@
 -- The components of the a states that slots hold, in one pass: where the slots of all are filled, the other tests of a slot say
 -- whether it fits; where one is empty, some slot does not. Assumes nothing.
+use Rattle.std.specs.Prelude.{Option}
 use mathlib.Core.Path.{◌≡◌, refl, sym, ap, ◌∙◌}
 use Prim.Native.Nat.{ℕ, zero, suc, ◌+◌, ◌≤◌, ◌<◌}
 use mathlib.Core.Bool.{Bool, true, false, ◌&&◌, false≢true}
@@ -11,7 +12,6 @@ use lib.IntN.{ℤ, pos, negsuc}
 use lib.ListN.{length, get_or, drop, get_or-eq_default}
 use Rattle.sizes.specs.Sizes.{STATES}
 use Rattle.numbers.specs.Place.{place_of}
-use Rattle.numbers.specs.declared.Place.{Place}
 use Rattle.meaning.specs.declared.State.{State}
 use Rattle.meaning.specs.declared.chart.Kind.{Kind}
 use Rattle.meaning.specs.declared.chart.Kind.TheVariants.{O as kind_o, A as kind_a, B as kind_b}
@@ -65,7 +65,7 @@ pub at_past : (u : State) (d s : ℕ) → length u.slots ≤ s → false ≡ is_
 unfolding slot is_at
 at_past u d s h = rw (get_or-eq_default u.slots (negsuc 0) h)
 
-pub at_told : (u : State) {slots : List ℤ} → u.slots ≡ slots → (d s : ℕ) → s < length slots → {p : Place}
+pub at_told : (u : State) {slots : List ℤ} → u.slots ≡ slots → (d s : ℕ) → s < length slots → {p : Option ℕ}
     → p ≡ place_of (get_or slots s (pos 0)) → is_at d p ≡ is_at d (slot u s)
 unfolding slot
 at_told u {slots} e d s h q =

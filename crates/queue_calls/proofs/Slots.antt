@@ -1,4 +1,5 @@
 -- The slots of a started state, one at a time: empty, or at an o state a child of it that leads on. Assumes nothing.
+use Rattle.std.specs.Prelude.{Option, None, Some}
 use mathlib.Core.Path.{◌≡◌, refl, sym, ap, ◌∙◌}
 use Prim.Native.Nat.{ℕ, zero, suc, ◌+◌, ◌-◌, ◌≤◌, ◌<◌}
 use mathlib.Core.Bool.{Bool, true, false, false≢true}
@@ -10,8 +11,6 @@ use lib.ListN.{length, get_or, drop}
 use Rattle.sizes.specs.Sizes.{STATES}
 use Rattle.numbers.specs.Equal.{eq_z}
 use Rattle.numbers.specs.Place.{place_of}
-use Rattle.numbers.specs.declared.Place.{Place}
-use Rattle.numbers.specs.declared.Place.TheVariants.{Empty, At}
 use Rattle.meaning.specs.declared.State.{State}
 use Rattle.meaning.specs.declared.chart.Kind.{Kind}
 use Rattle.meaning.specs.declared.chart.Kind.TheVariants.{O as kind_o, A as kind_a, B as kind_b}
@@ -29,11 +28,11 @@ get_d_any [] i d e h = absurd (omega arith)
 get_d_any (x ∷ xs) zero d e h = refl
 get_d_any (x ∷ xs) (suc i) d e h = get_d_any xs i d e (omega arith)
 
-pub filled_empty : {p : Place} → p ≡ Empty → false ≡ is_filled p
+pub filled_empty : {p : Option ℕ} → p ≡ None → false ≡ is_filled p
 unfolding is_filled
 filled_empty e = rw e
 
-pub filled_at : {p : Place} {n : ℕ} → p ≡ At n → true ≡ is_filled p
+pub filled_at : {p : Option ℕ} {n : ℕ} → p ≡ Some n → true ≡ is_filled p
 unfolding is_filled
 filled_at e = rw e
 
@@ -59,17 +58,17 @@ module _ (whole : Bool) (c : Chart) (u : State) (d : ℕ) {k : Kind} (e : k ≡ 
 
 -- ---- one slot
 
-pub place_at : (x : ℤ) {p : Place} (d : ℕ) → p ≡ place_of x → p ≡ At d → x ≡ pos d
+pub place_at : (x : ℤ) {p : Option ℕ} (d : ℕ) → p ≡ place_of x → p ≡ Some d → x ≡ pos d
 place_at (pos n) d q r = let z : n ≡ d = cc in ap pos z
 place_at (negsuc n) d q r = let z : ◌≡◌ {A = ℕ} 0 1 = cc in absurd (omega arith)
 
-empty_fits : (whole : Bool) (c : Chart) (u : State) (s : ℕ) (x : ℤ) → place_of x ≡ Empty → eq_z x (negsuc 0) ≡ slot_if whole c u s x
+empty_fits : (whole : Bool) (c : Chart) (u : State) (s : ℕ) (x : ℤ) → place_of x ≡ None → eq_z x (negsuc 0) ≡ slot_if whole c u s x
 unfolding slot_if
 empty_fits whole c u s (pos n) e = let z : ◌≡◌ {A = ℕ} 0 1 = cc in absurd (omega arith)
 empty_fits whole c u s (negsuc n) e = refl
 
 module _ (whole : Bool) (c : Chart) (u : State) (s : ℕ) (x : ℤ) where
-  pub slot_empty : {p : Place} → p ≡ place_of x → p ≡ Empty → eq_z x (negsuc 0) ≡ slot_if whole c u s x
+  pub slot_empty : {p : Option ℕ} → p ≡ place_of x → p ≡ None → eq_z x (negsuc 0) ≡ slot_if whole c u s x
   slot_empty q r = empty_fits whole c u s x (sym q ∙ r)
 
   module _ {d : ℕ} (e : x ≡ pos d) where

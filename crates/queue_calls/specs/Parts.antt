@@ -1,9 +1,8 @@
 -- Parts of the test for answer 6 (01, "Answer numbers") as the functions compute them, and an answer without entries. Assumes nothing.
+use Rattle.std.specs.Prelude.{Option, None, Some}
 use Rattle.std.specs.Prelude.{◌≡◌, ℕ, ◌<◌, Bool, true, false, cond, ◌&&◌, List, [], length, get_or, ℤ, pos, negsuc, ltb, eqb}
 use Rattle.sizes.specs.Sizes.{STATES}
 use Rattle.numbers.specs.Equal.{eq_z}
-use Rattle.numbers.specs.declared.Place.{Place}
-use Rattle.numbers.specs.declared.Place.TheVariants.{Empty, At}
 use Rattle.meaning.specs.declared.chart.Kind.{Kind}
 use Rattle.meaning.specs.declared.chart.Kind.TheVariants.{O as kind_o, A as kind_a, B as kind_b}
 use Rattle.meaning.specs.declared.chart.VarRow.{VarRow}
@@ -47,9 +46,9 @@ unfoldable pub slots_if : Bool → Chart → State → Bool
 slots_if whole c u = every (λ s. slot_if whole c u s (get_or u.slots s (negsuc 0))) (from 0 STATES)
 
 -- a slot that holds d
-unfoldable pub is_at : ℕ → Place → Bool
-is_at d Empty = false
-is_at d (At e) = eqb e d
+unfoldable pub is_at : ℕ → Option ℕ → Bool
+is_at d None = false
+is_at d (Some e) = eqb e d
 
 unfoldable pub in_slot_as : Chart → State → Kind → ℕ → Bool
 in_slot_as c u kind_o p = false

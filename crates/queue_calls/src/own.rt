@@ -15,7 +15,7 @@ ghost use Rattle.queue_calls.specs.Parts.{tally_of, Tallied, value_fits, leads_i
 use chart_rows::{kind_of, parent_of, state_count, var_count, var_row};
 use meaning::State;
 use meaning::chart::Kind;
-use numbers::{Place, between, place_of, same};
+use numbers::{between, place_of, same};
 use sizes::{STATES, VARIABLES};
 use tree::kin::{is_child, is_o};
 use widget::fits::{marks_fit, queue_fits};
@@ -142,8 +142,8 @@ fn filled(x: i32) -> bool
     ensures { result ≡ is_filled (place_of x) }
 {
     match place_of(x) {
-        Place::Empty => false,
-        Place::At(_) => true,
+        None => false,
+        Some(_) => true,
     }
 }
 
@@ -155,7 +155,7 @@ fn holds(slots: &[i32; STATES], s: usize, d: usize) -> bool
     if STATES <= s {
         return false;
     }
-    let Place::At(e) = place_of(slots[s]) else {
+    let Some(e) = place_of(slots[s]) else {
         return false;
     };
     e == d
@@ -210,7 +210,7 @@ fn slot_fits(chart: &[i32], slots: &[i32; STATES], s: usize, x: i32, whole: bool
     requires { length slots.now ≡ states }
     ensures { (u : Widget) → u.slots ≡ slots.now → result ≡ slot_if whole (chart_of chart.now) u s x }
 {
-    let Place::At(d) = place_of(x) else {
+    let Some(d) = place_of(x) else {
         return same(x, -1);
     };
     if state_count(chart) <= d {

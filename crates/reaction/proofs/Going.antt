@@ -1,4 +1,5 @@
 -- A step function that went on leaves a widget that is ready for the next: what its step keeps holds of what it left. Assumes nothing.
+use Rattle.std.specs.Prelude.{Some}
 use mathlib.Core.Path.{◌≡◌, sym, ◌∙◌, subst}
 use Prim.Native.Nat.{ℕ, ◌<◌}
 use mathlib.Core.Bool.{true}
@@ -6,7 +7,6 @@ use mathlib.Core.List.{List}
 use lib.ListN.{length, get_or}
 use lib.IntN.{ℤ, negsuc}
 use Rattle.numbers.specs.Place.{place_of}
-use Rattle.numbers.specs.declared.Place.TheVariants.{At as holds}
 use Rattle.meaning.specs.Steps.{ok, Step}
 use Rattle.meaning.specs.Tree.{is_child}
 use Rattle.meaning.specs.Value.{chart_of}
@@ -47,7 +47,7 @@ module _ {F : Step Ctx} {k : Lent} {at : ℕ} {r : Went} {k₁ : Lent} where
 pub ready_led : {v : List ℤ} {k : Lent} {at : ℕ} → Ready v k at → Led (chart_of v) k.slots
 ready_led {v} {k} {at} h = record { long = unfold ctx in h.good.sized.slots; holding = holding }
   where
-    holding : (s d : ℕ) → place_of (get_or k.slots s (negsuc 0)) ≡ holds d
+    holding : (s d : ℕ) → place_of (get_or k.slots s (negsuc 0)) ≡ Some d
         → (is_child (chart_of v) s d ≡ true) × (d < length (chart_of v).states)
     holding s d e =
         let q = slot_child (chart_of v) k.slots (unfold ctx in h.good.slots) s d e in

@@ -1,4 +1,5 @@
 -- What holds of each form of a target holds of where it leads. Assumes nothing.
+use Rattle.std.specs.Prelude.{Option, None, Some}
 use mathlib.Core.Path.{◌≡◌, refl, sym, ap, subst, ◌∙◌}
 use Prim.Native.Nat.{ℕ, ◌<◌}
 use native.Mathlib.Omega.{arith}
@@ -8,8 +9,6 @@ use borrow.Author.Tests.{eq-eqb, ne_eqb}
 use lib.Dec.{eqb}
 use lib.ListN.{length}
 use lib.IntN.{ℤ}
-use Rattle.numbers.specs.declared.Place.{Place}
-use Rattle.numbers.specs.declared.Place.TheVariants.{Empty as empty, At as holds}
 use Rattle.laws.specs.Facts.{TargetFacts}
 use Rattle.meaning.specs.Chart.{Chart}
 use Rattle.meaning.specs.Entry.{Way}
@@ -74,7 +73,7 @@ module _ (sl : List ℤ) (s : ℕ) {goal : Goal} where
     pub onward_past : (s ≡ b → ⊥) → Towards (owner b) ≡ onward_goal sl goal s
     onward_past n = by_test (ne_eqb s b n) refl
 
-    pub onward_owner : s ≡ b → {p : Place} → p ≡ slot_of sl s → {x : Place} → p ≡ x → restored x ≡ onward_goal sl goal s
+    pub onward_owner : s ≡ b → {p : Option ℕ} → p ≡ slot_of sl s → {x : Option ℕ} → p ≡ x → restored x ≡ onward_goal sl goal s
     onward_owner n h y = by_test (eq-eqb s b n) (ap restored (sym y ∙ h))
 
 -- how any descent goes on, by what its course is
@@ -89,7 +88,7 @@ onward_bound c sl s slot_course b = tt
 onward_bound c sl s (Towards (target t)) b = b
 onward_bound c sl s (Towards (owner o)) b = go (eqb s o) (slot_of sl s)
   where
-    go : (x : Bool) (p : Place) → Bound c (cond x (restored p) (Towards (owner o)))
-    go true (holds d) = tt
-    go true empty = tt
+    go : (x : Bool) (p : Option ℕ) → Bound c (cond x (restored p) (Towards (owner o)))
+    go true (Some d) = tt
+    go true None = tt
     go false p = b

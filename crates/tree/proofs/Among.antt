@@ -1,4 +1,5 @@
 -- With which children a state goes on, kind by kind and way by way: what `goes_on`, `stored` and `next_of` cite. Assumes nothing.
+use Rattle.std.specs.Prelude.{Option, None, Some}
 use mathlib.Core.Path.{◌≡◌, refl, sym, ap, subst, ◌∙◌}
 use Prim.Native.Nat.{ℕ, zero, suc, ◌+◌, ◌-◌, ◌≤◌, ◌<◌}
 use mathlib.Core.Bool.{Bool, true, false, cond}
@@ -9,8 +10,6 @@ use lib.IntN.{ℤ, pos, negsuc}
 use borrow.Author.Tests.{eq-eqb, ne_eqb}
 use Rattle.sizes.specs.Sizes.{STATES}
 use Rattle.numbers.specs.Place.{place_of}
-use Rattle.numbers.specs.declared.Place.{Place}
-use Rattle.numbers.specs.declared.Place.TheVariants.{Empty as empty, At as holds}
 use Rattle.laws.specs.Facts.{Sound}
 use Rattle.laws.proofs.Lists.{is_false}
 use Rattle.laws.proofs.Sound.{SoundChart, child_later}
@@ -165,32 +164,32 @@ get_d_any (x ∷ xs) zero d e h = refl
 get_d_any (x ∷ xs) (suc i) d e h = get_d_any xs i d e (omega arith)
 
 -- what the code reads of a slot is what the definition reads
-pub slot_read : (slots : List ℤ) (s : ℕ) → s < STATES → length slots ≡ STATES → (z : ℤ) → z ≡ get_or slots s (pos 0) → (p : Place)
+pub slot_read : (slots : List ℤ) (s : ℕ) → s < STATES → length slots ≡ STATES → (z : ℤ) → z ≡ get_or slots s (pos 0) → (p : Option ℕ)
     → p ≡ place_of z → p ≡ place_of (get_or slots s (negsuc 0))
 slot_read slots s l n z e p q = q ∙ ap place_of (e ∙ get_d_any slots s (pos 0) (negsuc 0) (omega arith))
 
-pub stored_on : (slots : List ℤ) (s d : ℕ) (p : Place) → p ≡ place_of (get_or slots s (negsuc 0)) → p ≡ holds d → on_to d ≡ stored_way slots s
+pub stored_on : (slots : List ℤ) (s d : ℕ) (p : Option ℕ) → p ≡ place_of (get_or slots s (negsuc 0)) → p ≡ Some d → on_to d ≡ stored_way slots s
 unfolding stored_way slot_way
 stored_on slots s d p e q = rw (← e, q)
 
-pub stored_stop : (slots : List ℤ) (s : ℕ) (p : Place) → p ≡ place_of (get_or slots s (negsuc 0)) → p ≡ empty → stops ≡ stored_way slots s
+pub stored_stop : (slots : List ℤ) (s : ℕ) (p : Option ℕ) → p ≡ place_of (get_or slots s (negsuc 0)) → p ≡ None → stops ≡ stored_way slots s
 unfolding stored_way slot_way
 stored_stop slots s p e q = rw (← e, q)
 
-way_of_path : (c : Chart) (t s : ℕ) (p : Place) → path_child c s t ≡ p → towards c t s ≡ elim p [ empty ↦ defaults | holds d ↦ on_to d ]
+way_of_path : (c : Chart) (t s : ℕ) (p : Option ℕ) → path_child c s t ≡ p → towards c t s ≡ elim p [ None ↦ defaults | Some d ↦ on_to d ]
 unfolding path_child towards
 way_of_path c t s p e = go (has s (ancestors c t)) (first_that (is_child c s) (t ∷ ancestors c t))
-    ∙ ap (λ x. elim x [ empty ↦ defaults | holds d ↦ on_to d ]) e
+    ∙ ap (λ x. elim x [ None ↦ defaults | Some d ↦ on_to d ]) e
   where
-    go : (b : Bool) (x : ℕ) → cond b (on_to x) defaults ≡ elim (cond b (holds x) empty) [ empty ↦ defaults | holds d ↦ on_to d ]
+    go : (b : Bool) (x : ℕ) → cond b (on_to x) defaults ≡ elim (cond b (Some x) None) [ None ↦ defaults | Some d ↦ on_to d ]
     go true x = refl
     go false x = refl
 
-pub path_on : (c : Chart) (t s d : ℕ) (p : Place) → p ≡ path_child c s t → p ≡ holds d → on_to d ≡ towards c t s
-path_on c t s d p e q = sym (way_of_path c t s (holds d) (sym e ∙ q))
+pub path_on : (c : Chart) (t s d : ℕ) (p : Option ℕ) → p ≡ path_child c s t → p ≡ Some d → on_to d ≡ towards c t s
+path_on c t s d p e q = sym (way_of_path c t s (Some d) (sym e ∙ q))
 
-pub path_off : (c : Chart) (t s : ℕ) (p : Place) → p ≡ path_child c s t → p ≡ empty → defaults ≡ towards c t s
-path_off c t s p e q = sym (way_of_path c t s empty (sym e ∙ q))
+pub path_off : (c : Chart) (t s : ℕ) (p : Option ℕ) → p ≡ path_child c s t → p ≡ None → defaults ≡ towards c t s
+path_off c t s p e q = sym (way_of_path c t s None (sym e ∙ q))
 
 module _ (c : Chart) (goal : Goal) (s : ℕ) where
   pub goal_target : (t : ℕ) (next : Next) → goal ≡ Target t → way_by next ≡ towards c t s → way_by next ≡ goal_way c goal s
@@ -213,15 +212,15 @@ defaults_way s = refl
 pub defaults_on : (c : Chart) (s : ℕ) → OnChild c s defaults
 defaults_on c s d k e = let z : ◌≡◌ {A = ℕ} 0 1 = cc in absurd (omega arith)
 
-held_on : (p : Place) (d : ℕ) → slot_way p ≡ on_to d → p ≡ holds d
+held_on : (p : Option ℕ) (d : ℕ) → slot_way p ≡ on_to d → p ≡ Some d
 unfolding slot_way
-held_on empty d e = let z : ◌≡◌ {A = ℕ} 0 1 = cc in absurd (omega arith)
-held_on (holds x) d e = let z : x ≡ d = cc in ap holds z
+held_on None d e = let z : ◌≡◌ {A = ℕ} 0 1 = cc in absurd (omega arith)
+held_on (Some x) d e = let z : x ≡ d = cc in ap Some z
 
-not_defaults : (p : Place) → slot_way p ≡ defaults → ⊥
+not_defaults : (p : Option ℕ) → slot_way p ≡ defaults → ⊥
 unfolding slot_way
-not_defaults empty e = let z : ◌≡◌ {A = ℕ} 0 1 = cc in omega arith
-not_defaults (holds d) e = let z : ◌≡◌ {A = ℕ} 0 1 = cc in omega arith
+not_defaults None e = let z : ◌≡◌ {A = ℕ} 0 1 = cc in omega arith
+not_defaults (Some d) e = let z : ◌≡◌ {A = ℕ} 0 1 = cc in omega arith
 
 pub stored_sound : (v : List ℤ) → Ruled v → (slots : List ℤ) → Led (chart_of v) slots → Sound (chart_of v) (stored_way slots)
 unfolding stored_way

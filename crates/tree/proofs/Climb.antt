@@ -1,11 +1,11 @@
 -- The tree of a chart, one step at a time: what the loops and tests of the code ask of the definitions of Tree. Assumes nothing.
+use Rattle.std.specs.Prelude.{None, Some}
 use Prim.Native.Nat.{ℕ, zero, suc, ◌-◌, ◌<◌}
 use mathlib.Core.Path.{◌≡◌, refl}
 use mathlib.Core.Bool.{Bool, true, false, cond, ◌||◌}
 use native.Mathlib.Omega.{arith}
 use borrow.Author.Tests.{eq-eqb, ne_eqb}
 use lib.Dec.{eqb}
-use Rattle.numbers.specs.declared.Place.TheVariants.{Empty, At}
 use Rattle.meaning.specs.Lists.{has}
 use Rattle.meaning.specs.Chart.{Chart}
 use Rattle.meaning.specs.Tree.{parent_of, kind_of, is_o, is_child, climb, ancestors}
@@ -21,11 +21,11 @@ module _ (c : Chart) where
   child_below s zero h = absurd (h refl)
   child_below s (suc n) h = refl
 
-  pub o_parent_root : (s : ℕ) → s ≡ 0 → o_parent c s ≡ Empty
+  pub o_parent_root : (s : ℕ) → s ≡ 0 → o_parent c s ≡ None
   unfolding o_parent
   o_parent_root s e = rw e
 
-  pub o_parent_below : (s : ℕ) → (s ≡ 0 → ⊥) → o_parent c s ≡ cond (is_o (kind_of c (parent_of c s))) (At (parent_of c s)) Empty
+  pub o_parent_below : (s : ℕ) → (s ≡ 0 → ⊥) → o_parent c s ≡ cond (is_o (kind_of c (parent_of c s))) (Some (parent_of c s)) None
   unfolding o_parent
   o_parent_below zero h = absurd (h refl)
   o_parent_below (suc n) h = refl

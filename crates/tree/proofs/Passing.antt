@@ -1,4 +1,5 @@
 -- What is known of a chart handed over as a value that passes the rules. Assumes nothing.
+use Rattle.std.specs.Prelude.{None, Some}
 use mathlib.Core.Path.{◌≡◌, refl, sym, ap, ◌∙◌}
 use Prim.Native.Nat.{ℕ, suc, ◌+◌, ◌≤◌, ◌<◌}
 use mathlib.Core.Bool.{Bool, true, false}
@@ -7,7 +8,6 @@ use mathlib.Core.Option.{none}
 use native.Mathlib.Omega.{arith}
 use lib.IntN.{ℤ}
 use lib.ListN.{length}
-use Rattle.numbers.specs.declared.Place.TheVariants.{Empty, At}
 use Rattle.laws.proofs.Sound.{SoundChart, sound_chart}
 use Rattle.meaning.specs.Chart.{Chart}
 use Rattle.meaning.specs.Lists.{has}
@@ -39,13 +39,13 @@ module _ (v : List ℤ) (r : Ruled v) where
   up_falls x h p e = omega (arith, parent_falls (chart_of v) (sound v r).ordered x h)
 
   module _ (s t x : ℕ) (inv : path_child (chart_of v) s x ≡ path_child (chart_of v) s t) where
-    pub path_found : 0 < x → (p : ℕ) → p ≡ parent_of (chart_of v) x → p ≡ s → At x ≡ path_child (chart_of v) s t
+    pub path_found : 0 < x → (p : ℕ) → p ≡ parent_of (chart_of v) x → p ≡ s → Some x ≡ path_child (chart_of v) s t
     path_found h p e q = sym (path_here (chart_of v) (sound v r).ordered s x h (sym e ∙ q)) ∙ inv
 
     pub path_on : 0 < x → (p : ℕ) → p ≡ parent_of (chart_of v) x → (p ≡ s → ⊥) → path_child (chart_of v) s p ≡ path_child (chart_of v) s t
     path_on h p e n = ap (path_child (chart_of v) s) e ∙ path_up (chart_of v) (sound v r).ordered s x h (λ q. n (e ∙ q)) ∙ inv
 
-    pub path_end : x ≤ 0 → Empty ≡ path_child (chart_of v) s t
+    pub path_end : x ≤ 0 → None ≡ path_child (chart_of v) s t
     path_end h = let z : x ≡ 0 = omega arith in sym (ap (path_child (chart_of v) s) z ∙ path_none (chart_of v) (sound v r).ordered s) ∙ inv
 
   module _ (s t x : ℕ) (inv : scope (chart_of v) x t ≡ scope (chart_of v) s t) where

@@ -1,5 +1,6 @@
 -- The way up from a state, one parent at a time: the ancestors without their count, and what one step says of the child on the way to a
 -- target and of the scope. Assumes nothing.
+use Rattle.std.specs.Prelude.{None, Some}
 use mathlib.Core.Path.{◌≡◌, refl, sym, ap, ◌∙◌}
 use Prim.Native.Nat.{ℕ, zero, suc, ◌≤◌, ◌<◌}
 use mathlib.Core.Bool.{Bool, true, false, cond, ◌&&◌, ◌||◌}
@@ -7,8 +8,6 @@ use mathlib.Core.List.{List, [], ◌∷◌}
 use native.Mathlib.Omega.{arith}
 use borrow.Author.Tests.{eq-eqb, ne_eqb}
 use lib.Dec.{eqb}
-use Rattle.numbers.specs.declared.Place.{Place}
-use Rattle.numbers.specs.declared.Place.TheVariants.{Empty, At}
 use Rattle.laws.specs.Facts.{Ordered}
 use Rattle.meaning.specs.Chart.{Chart}
 use Rattle.meaning.specs.Lists.{has, first_that}
@@ -50,11 +49,11 @@ module _ (c : Chart) (o : Ordered c) where
   child_is s zero h = absurd (omega arith)
   child_is s (suc n) h = refl
 
-  pub path_none : (s : ℕ) → path_child c s 0 ≡ Empty
+  pub path_none : (s : ℕ) → path_child c s 0 ≡ None
   unfolding path_child has
   path_none s = rw ancestors_root refl
 
-  pub path_here : (s x : ℕ) → 0 < x → parent_of c x ≡ s → path_child c s x ≡ At x
+  pub path_here : (s x : ℕ) → 0 < x → parent_of c x ≡ s → path_child c s x ≡ Some x
   unfolding path_child has first_that
   path_here s x h e = rw (ancestors_up x h, eq-eqb s (parent_of c x) (sym e), child_is s x h, eq-eqb (parent_of c x) s e) refl
 

@@ -1,10 +1,9 @@
 -- What the code of a descent asks and gives, in the words of the definitions (01, "Firing" and "History"): the ways as the code has them,
 -- the children among which it looks, and slots that hold children. Assumes nothing.
+use Rattle.std.specs.Prelude.{Option, None, Some}
 use Rattle.std.specs.Prelude.{◌≡◌, ℕ, ◌-◌, ◌≤◌, ◌<◌, Bool, true, false, cond, List, ◌∷◌, length, get_or, eqb, ℤ, negsuc}
 use Rattle.sizes.specs.Sizes.{STATES}
 use Rattle.numbers.specs.Place.{place_of}
-use Rattle.numbers.specs.declared.Place.{Place}
-use Rattle.numbers.specs.declared.Place.TheVariants.{At as holds, Empty as empty}
 use Rattle.laws.specs.Facts.{Sound}
 use Rattle.meaning.specs.Chart.{Chart}
 use Rattle.meaning.specs.declared.chart.Kind.{Kind}
@@ -23,8 +22,8 @@ use Rattle.tree.specs.declared.ways.Course.{Course}
 use Rattle.tree.specs.declared.ways.Course.TheVariants.{Defaults as default_course, Slots as slot_course, Towards}
 
 -- "the path from below the scope to the target": the child of s on it, where s is a proper ancestor of t
-unfoldable pub path_child : Chart → ℕ → ℕ → Place
-path_child c s t = cond (has s (ancestors c t)) (holds (first_that (is_child c s) (t ∷ ancestors c t))) empty
+unfoldable pub path_child : Chart → ℕ → ℕ → Option ℕ
+path_child c s t = cond (has s (ancestors c t)) (Some (first_that (is_child c s) (t ∷ ancestors c t))) None
 
 -- how an o state goes on, as the code says it
 abbrev pub way_by : Next → Way
@@ -33,7 +32,7 @@ way_by Defaults = defaults
 way_by Stops = stops
 
 -- "down by the slots": the way of a list of slots; by-slots of a state is that of its slots
-abbrev pub slot_of : List ℤ → ℕ → Place
+abbrev pub slot_of : List ℤ → ℕ → Option ℕ
 slot_of slots s = place_of (get_or slots s (negsuc 0))
 
 unfoldable pub stored_way : List ℤ → ℕ → Way
@@ -79,9 +78,9 @@ restoring slot_course = true
 restoring (Towards goal) = false
 
 -- "If its slot is filled, its stored child is entered and so on down by the slots .. If empty, the default is taken"
-abbrev pub restored : Place → Course
-restored (holds d) = slot_course
-restored empty = default_course
+abbrev pub restored : Option ℕ → Course
+restored (Some d) = slot_course
+restored None = default_course
 
 -- how a descent goes on below s, which it just entered
 abbrev pub onward_goal : List ℤ → Goal → ℕ → Course
@@ -123,7 +122,7 @@ OnChild c s way = (d : ℕ) → kind_of c s ≡ kind_o → way ≡ on_to d → (
 -- there are as many slots as 01 has, and each is empty or holds a child of its state
 pub record Led (c : Chart) (slots : List ℤ) : Type 0 where
   pub long : length slots ≡ STATES
-  pub holding : (s d : ℕ) → slot_of slots s ≡ holds d → (is_child c s d ≡ true) × (d < length c.states)
+  pub holding : (s d : ℕ) → slot_of slots s ≡ Some d → (is_child c s d ≡ true) × (d < length c.states)
 
 -- what is entered below s, on a way that goes on so there, are those of the numbers from first up to below end that are its children, each
 -- with what is below it; level: the same of one level, whatever is entered below the children

@@ -8,7 +8,6 @@ ghost use Rattle.meaning.specs.Value.{chart_of};
 
 use chart_rows::{kind_of, parent_of};
 use meaning::chart::Kind;
-use numbers::Place;
 
 pub fn is_o(kind: Kind) -> bool
     ensures { result ≡ is_o kind }
@@ -31,17 +30,17 @@ pub fn is_child(chart: &[i32], s: usize, d: usize) -> bool
 }
 
 // The parent of s if that is an o state: leaving s stores it there.
-pub fn o_parent(chart: &[i32], s: usize) -> Place
+pub fn o_parent(chart: &[i32], s: usize) -> Option<usize>
     ensures { result ≡ o_parent (chart_of chart.now) s }
 {
     if s == 0 {
-        return Place::Empty;
+        return None;
     }
     let p = parent_of(chart, s);
     if is_o(kind_of(chart, p)) {
-        return Place::At(p);
+        return Some(p);
     }
-    Place::Empty
+    None
 }
 
 // Is a a proper ancestor of d? The way up from d has at most d steps.

@@ -8,7 +8,6 @@ ghost use Rattle.tree.specs.Courses.{path_child};
 
 use super::kin::{is_ancestor, is_o};
 use chart_rows::{kind_of, parent_of, state_count};
-use numbers::Place;
 
 // The first number past the proper descendants of s: they are the numbers that follow it.
 pub fn end_below(chart: &[i32], s: usize) -> usize
@@ -27,7 +26,7 @@ pub fn end_below(chart: &[i32], s: usize) -> usize
 }
 
 // The child of s through which the way goes to t, where s is a proper ancestor of t.
-pub fn path_child(chart: &[i32], s: usize, t: usize) -> Place
+pub fn path_child(chart: &[i32], s: usize, t: usize) -> Option<usize>
     requires { Ruled chart.now }
     ensures { result ≡ path_child (chart_of chart.now) s t }
 {
@@ -35,11 +34,11 @@ pub fn path_child(chart: &[i32], s: usize, t: usize) -> Place
     while 0 < x {
         let p = parent_of(chart, x);
         if p == s {
-            return Place::At(x);
+            return Some(x);
         }
         x = p;
     }
-    Place::Empty
+    None
 }
 
 // 01, "Scope": the lowest o state that is a proper ancestor of source and target.

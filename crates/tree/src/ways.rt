@@ -13,7 +13,7 @@ ghost use Rattle.tree.specs.Courses.{onward_from, defaulting, OnChild, Kids};
 use super::walks::path_child;
 use chart_rows::{default_child, kind_of, state_count};
 use meaning::chart::{Kind, Target};
-use numbers::{Place, place_of};
+use numbers::place_of;
 use sizes::STATES;
 
 // How an o state goes on: with one child, with its default, or not at all.
@@ -120,7 +120,7 @@ pub fn by_default(chart: &[i32], s: usize, next: Next) -> bool
 }
 
 // What a slot holds: an empty slot's marker is no state.
-pub fn slot_of(slots: &[i32; STATES], s: usize) -> Place
+pub fn slot_of(slots: &[i32; STATES], s: usize) -> Option<usize>
     requires { (s < states) × (length slots.now ≡ states) }
     ensures { result ≡ slot_in slots.now s }
 {
@@ -134,8 +134,8 @@ pub fn stored(slots: &[i32; STATES], s: usize) -> Next
 {
     let place = slot_of(slots, s);
     match place {
-        Place::At(d) => Next::OnTo(d),
-        Place::Empty => Next::Stops,
+        Some(d) => Next::OnTo(d),
+        None => Next::Stops,
     }
 }
 
@@ -146,8 +146,8 @@ fn next_to(chart: &[i32], t: usize, s: usize) -> Next
 {
     let place = path_child(chart, s, t);
     match place {
-        Place::At(d) => Next::OnTo(d),
-        Place::Empty => Next::Defaults,
+        Some(d) => Next::OnTo(d),
+        None => Next::Defaults,
     }
 }
 
@@ -202,7 +202,7 @@ fn onward_to(slots: &[i32; STATES], goal: Goal, s: usize) -> Course
     if s != b {
         return Course::Towards(goal);
     }
-    let Place::Empty = slot_of(slots, s) else {
+    let None = slot_of(slots, s) else {
         return Course::Slots;
     };
     Course::Defaults

@@ -1,4 +1,5 @@
 -- What a function that writes an entry and then changes one place has to show, for each of the effects. Assumes nothing.
+use Rattle.std.specs.Prelude.{Option, None, Some}
 use mathlib.Core.Path.{◌≡◌, refl, sym, ap, ◌∙◌}
 use Prim.Native.Nat.{ℕ}
 use mathlib.Core.Bool.{Bool, true, false}
@@ -8,8 +9,6 @@ use lib.IntN.{ℤ, pos, ◌+ℤ◌}
 use Rattle.queue.specs.Queue.{appended}
 use Rattle.queue.specs.Numbers.{queue_by}
 use Rattle.queue.proofs.Numbers.{Appends}
-use Rattle.numbers.specs.declared.Place.{Place as Slot}
-use Rattle.numbers.specs.declared.Place.TheVariants.{Empty as empty, At as holds}
 use Rattle.meaning.specs.Steps.{ok, Step, bind, ◌then◌, require, look}
 use Rattle.meaning.specs.Widget.{Ctx, Entry, left, entered, changed, sent, told, taken, numbers, emit, change, set_active}
 use Rattle.meaning.specs.Widget.{set_slot, set_value, set_queue, value_at}
@@ -83,18 +82,18 @@ module _ {k : Lent} {at : ℕ} {w : Went} {t' : List ℤ} where
 
   -- ---- a state left, a state entered
 
-  pub left_stop : (p : Slot) {i : ℕ} → Noted (pos 2 ∷ pos i ∷ pos 0 ∷ []) k.trace at w t' → (w.number ≡ 0 → ⊥)
+  pub left_stop : (p : Option ℕ) {i : ℕ} → Noted (pos 2 ∷ pos i ∷ pos 0 ∷ []) k.trace at w t' → (w.number ≡ 0 → ⊥)
       → Did (mark_left p i) k at w (with_trace t' k)
   unfolding mark_left numbers
   left_stop p {i} d z = notes_stop (left i) (change (λ u. store_in p i (set_active i false u))) d z
 
-  pub left_alone : {p : Slot} {i : ℕ} → Noted (pos 2 ∷ pos i ∷ pos 0 ∷ []) k.trace at w t' → w.number ≡ 0 → p ≡ empty
+  pub left_alone : {p : Option ℕ} {i : ℕ} → Noted (pos 2 ∷ pos i ∷ pos 0 ∷ []) k.trace at w t' → w.number ≡ 0 → p ≡ None
       → Did (mark_left p i) k at w (with_active (set k.active i false) (with_trace t' k))
   unfolding mark_left numbers change set_active store_in ctx tracing
   left_alone {p} {i} d z e = notes_on (left i) (change (λ u. store_in p i (set_active i false u))) d z refl refl (λ l. rw e)
 
-  pub left_in : {p : Slot} {o i : ℕ} {x : ℤ}
-      → Noted (pos 2 ∷ pos i ∷ pos 0 ∷ []) k.trace at w t' → w.number ≡ 0 → p ≡ holds o → x ≡ pos i
+  pub left_in : {p : Option ℕ} {o i : ℕ} {x : ℤ}
+      → Noted (pos 2 ∷ pos i ∷ pos 0 ∷ []) k.trace at w t' → w.number ≡ 0 → p ≡ Some o → x ≡ pos i
       → Did (mark_left p i) k at w (with_active (set k.active i false) (with_slots (set k.slots o x) (with_trace t' k)))
   unfolding mark_left numbers change set_active set_slot store_in ctx tracing
   left_in {p} {o} {i} d z e f = notes_on (left i) (change (λ u. store_in p i (set_active i false u))) d z refl refl (λ l. rw (e, f))

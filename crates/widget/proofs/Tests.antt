@@ -1,4 +1,5 @@
 -- What the tests of the code say in the words of the test for answer 6: an event, a free place. Assumes nothing.
+use Rattle.std.specs.Prelude.{Option, None, Some}
 use mathlib.Core.Path.{◌≡◌, refl, sym, ap, ◌∙◌}
 use Prim.Native.Nat.{ℕ, zero, suc, ◌≤◌, ◌<◌}
 use mathlib.Core.Bool.{Bool, true, false, ◌&&◌}
@@ -15,8 +16,6 @@ use lib.IntN.{ℤ, pos, negsuc}
 use Rattle.numbers.specs.Equal.{eq_z}
 use Rattle.numbers.specs.Range.{in_range}
 use Rattle.numbers.specs.Place.{place_of}
-use Rattle.numbers.specs.declared.Place.{Place}
-use Rattle.numbers.specs.declared.Place.TheVariants.{Empty, At}
 use Rattle.queue.specs.declared.Item.{Item}
 use Rattle.meaning.specs.Foreign.{event_fits, item_fits, is_none, queue_fits}
 
@@ -26,11 +25,11 @@ and_no false = refl
 
 -- ---- an event, by what it names
 
-pub event_names : (e : ℤ) {p : Place} (k : ℕ) → p ≡ place_of e → p ≡ At k → e ≡ pos k
+pub event_names : (e : ℤ) {p : Option ℕ} (k : ℕ) → p ≡ place_of e → p ≡ Some k → e ≡ pos k
 event_names (pos n) k q r = let z : n ≡ k = cc in ap pos z
 event_names (negsuc n) k q r = let z : ◌≡◌ {A = ℕ} 0 1 = cc in absurd (omega arith)
 
-pub event_below : (n : ℕ) (e a : ℤ) {p : Place} → p ≡ place_of e → p ≡ Empty → false ≡ event_fits n e a
+pub event_below : (n : ℕ) (e a : ℤ) {p : Option ℕ} → p ≡ place_of e → p ≡ None → false ≡ event_fits n e a
 unfolding event_fits
 event_below n (pos k) a q r = let z : ◌≡◌ {A = ℕ} 0 1 = cc in absurd (omega arith)
 event_below n (negsuc k) a q r = refl

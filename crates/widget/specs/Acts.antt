@@ -1,5 +1,6 @@
 -- What the functions of the acts promise and ask (01, "One reaction"): a variable's new value, a sent event, and that an act names what
 -- there is. Assumes nothing.
+use Rattle.std.specs.Prelude.{Option, None, Some}
 use Rattle.std.specs.Prelude.{ℕ, ◌<◌, ℤ, pos, ◌+ℤ◌}
 use Rattle.sizes.specs.Sizes.{VARIABLES}
 use Rattle.numbers.specs.Reference.{NOWHERE}
@@ -7,8 +8,6 @@ use Rattle.meaning.specs.Steps.{Step, ◌then◌, look}
 use Rattle.meaning.specs.declared.chart.VarRow.{VarRow}
 use Rattle.meaning.specs.declared.chart.Act.{Act}
 use Rattle.meaning.specs.declared.chart.Act.TheVariants.{SetTo as set_to, AddTo as add_to, TakeTo as take_to, Send as send, Tell as tell}
-use Rattle.numbers.specs.declared.Place.{Place as Slot}
-use Rattle.numbers.specs.declared.Place.TheVariants.{Empty as empty, At as holds}
 use Rattle.meaning.specs.Widget.{Ctx, emit, changed, sent, change, set_value, value_at}
 use Rattle.meaning.specs.Effects.{assign, enqueue}
 
@@ -33,6 +32,6 @@ Named (send e x) = e < NOWHERE
 Named (tell x) = Unit {0}
 
 -- a slot's owner, where there is one, is a place of the arrays
-abbrev pub Below : ℕ → Slot → Type 0
-Below n empty = Unit {0}
-Below n (holds p) = p < n
+abbrev pub Below : ℕ → Option ℕ → Type 0
+Below n None = Unit {0}
+Below n (Some p) = p < n

@@ -6,7 +6,7 @@ ghost use Rattle.queue.specs.Queue.{waiting};
 ghost use Rattle.meaning.specs.Lists.{every};
 ghost use Rattle.meaning.specs.Foreign.{event_fits, item_fits, is_none, queue_fits};
 
-use numbers::{Place, in_range, place_of, same};
+use numbers::{in_range, place_of, same};
 use queue::{Item, Queue};
 use sizes::{QUEUE, STATES};
 
@@ -14,7 +14,7 @@ use sizes::{QUEUE, STATES};
 pub fn event_fits(events: usize, event: i32, arg: i32) -> bool
     ensures { result ≡ event_fits events event arg }
 {
-    let Place::At(e) = place_of(event) else {
+    let Some(e) = place_of(event) else {
         return false;
     };
     if e == 0 {

@@ -15,7 +15,7 @@ ghost use Rattle.widget.specs.Acts.{stored, adding, sending, Named, Below};
 
 use meaning::answers::{NO_ROOM, QUEUE_FULL};
 use meaning::chart::{Act, VarRow};
-use numbers::{Place, add_held, hold, number, wide};
+use numbers::{add_held, hold, number, wide};
 use queue::lent::{QUEUE_NUMBERS, append};
 use sizes::{ENTRY, STATES, VARIABLES};
 
@@ -188,7 +188,7 @@ pub fn perform(
 
 // 01, "Trace": 2, state left; leaving a state stores it in its o parent's slot.
 pub fn mark_left(
-    p: Place,
+    p: Option<usize>,
     s: usize,
     active: &mut [bool; STATES],
     slots: &mut [i32; STATES],
@@ -206,7 +206,7 @@ pub fn mark_left(
         return went;
     }
     active[s] = false;
-    let Place::At(parent) = p else {
+    let Some(parent) = p else {
         return went;
     };
     slots[parent] = named;
