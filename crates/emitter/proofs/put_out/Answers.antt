@@ -7,18 +7,18 @@ use Rattle.emitter.proofs.put_out.Goals as goal
 
 pub put_plain-requires : goal.put_plain-requires
 put_plain-requires c =
-    let o = rw c.in-At.is at c.requires.1 in
+    let o = rw c.in-Some.is at c.requires.1 in
     omega (arith, c.requires.0, c.requires.2)
 
-pub returns-in-Empty : goal.returns-in-Empty
+pub returns-in-None : goal.returns-in-None
 unfolding instr_numbers slot_number
-returns-in-Empty c =
-    rw c.in-Empty.is
+returns-in-None c =
+    rw c.in-None.is
     (emits_one _ _ (rw (
       back32 c.number.result c.number.type_inv,
       c.number.ensures,
     ) at c.put_four.ensures))
 
-pub returns-in-At : goal.returns-in-At
+pub returns-in-Some : goal.returns-in-Some
 unfolding instr_numbers slot_number
-returns-in-At c = rw c.in-At.is (emits_one _ _ c.put_plain.ensures)
+returns-in-Some c = rw c.in-Some.is (emits_one _ _ c.put_plain.ensures)

@@ -4,14 +4,14 @@ use mir.Facts.{to_z-of_z}
 use Rattle.plan_code.proofs.Executing.{filled_empty, filled_at}
 use Rattle.plan_code.proofs.filled.Goals as goal
 
-pub returns-in-Empty : goal.returns-in-Empty
-returns-in-Empty c =
+pub returns-in-None : goal.returns-in-None
+returns-in-None c =
     filled_empty (sym
     (rw (to_z-of_z c.ranges.x) at c.place_of.ensures) ∙
-    c.in-Empty.is)
+    c.in-None.is)
 
-pub returns-in-At : goal.returns-in-At
-returns-in-At c =
+pub returns-in-Some : goal.returns-in-Some
+returns-in-Some c =
     filled_at (sym
     (rw (to_z-of_z c.ranges.x) at c.place_of.ensures) ∙
-    c.in-At.is)
+    c.in-Some.is)

@@ -13,4 +13,4 @@ returns-in_default c =
 pub returns : goal.returns
 returns c =
     holds_at _ (sym (rw (to_z-of_z c.ranges.x) at
-    c.place_of.ensures) ∙ c.in-At.is)
+    c.place_of.ensures) ∙ c.in-Some.is)

@@ -31,12 +31,12 @@ returns-in_default c = (
 
 pub offset_bounds-slots-parent : goal.offset_bounds-slots-parent
 offset_bounds-slots-parent c =
-    let o = rw c.in-At.is at
+    let o = rw c.in-Some.is at
     c.requires.0 in omega arith
 
 pub bounds-slots-parent : goal.bounds-slots-parent
 bounds-slots-parent c =
-    let o = rw c.in-At.is at
+    let o = rw c.in-Some.is at
     c.requires.0 in omega arith
 
 pub returns : goal.returns
@@ -44,5 +44,5 @@ returns c =
     let n = c.number-named in (
       search rules,
       λ k. left_in (rw (back32 n.result n.type_inv, n.ensures) at c.emit-went.ensures)
-          c.if-went-ne0.false c.in-At.is (back32 n.result n.type_inv ∙ n.ensures),
+          c.if-went-ne0.false c.in-Some.is (back32 n.result n.type_inv ∙ n.ensures),
     )

@@ -41,4 +41,4 @@ returns c =
     arrived_empty _ _ c.args.course c.args.next _ _ c.args.slots.now
     (rw (to_z-of_z c.ranges.arg) at c.visit-went.ensures) c.if-went-ne0.false c.restores.ensures
     c.if-not-restores.false-raw c.kind_of.ensures c.is_o.ensures c.if-not-is_o.false-raw
-    c.slot_of.ensures c.in-Empty.is
+    c.slot_of.ensures c.in-None.is

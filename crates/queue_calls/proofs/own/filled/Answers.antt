@@ -4,10 +4,10 @@ use mir.Facts.{to_z-of_z}
 use Rattle.queue_calls.proofs.Slots.{filled_empty, filled_at}
 use Rattle.queue_calls.proofs.own.filled.Goals as goal
 
-pub returns-in-Empty : goal.returns-in-Empty
-returns-in-Empty c = filled_empty (sym (rw (to_z-of_z c.ranges.x) at c.place_of.ensures)
-    ∙ c.in-Empty.is)
+pub returns-in-None : goal.returns-in-None
+returns-in-None c = filled_empty (sym (rw (to_z-of_z c.ranges.x) at c.place_of.ensures)
+    ∙ c.in-None.is)
 
-pub returns-in-At : goal.returns-in-At
-returns-in-At c = filled_at (sym (rw (to_z-of_z c.ranges.x) at c.place_of.ensures)
-    ∙ c.in-At.is)
+pub returns-in-Some : goal.returns-in-Some
+returns-in-Some c = filled_at (sym (rw (to_z-of_z c.ranges.x) at c.place_of.ensures)
+    ∙ c.in-Some.is)

@@ -32,5 +32,5 @@ pub returns : goal.returns
 unfolding is_at
 returns c u e =
     let p = c.before in
-    sym (ap (is_at c.args.d) c.in-At.is)
+    sym (ap (is_at c.args.d) c.in-Some.is)
     ∙ at_told u e c.args.d c.args.s (omega (arith, c.requires, c.if-s-ge-STATES.false)) (read p)

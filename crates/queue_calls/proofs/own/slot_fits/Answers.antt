@@ -20,18 +20,18 @@ returns-in_default c u e =
 pub returns-then-state_count-d : goal.returns-then-state_count-d
 returns-then-state_count-d c u e =
     let k = c.args in
-    slot_nowhere k.whole (chart_of k.chart.now) u k.s k.x (place_at c.args.x c.in-At.d (rw (to_z-of_z c.ranges.x) at c.place_of.ensures) c.in-At.is) c.state_count.ensures c.if-state_count-d.true
+    slot_nowhere k.whole (chart_of k.chart.now) u k.s k.x (place_at c.args.x c.in-Some.d (rw (to_z-of_z c.ranges.x) at c.place_of.ensures) c.in-Some.is) c.state_count.ensures c.if-state_count-d.true
 
 pub returns-then-not-is_o : goal.returns-then-not-is_o
 returns-then-not-is_o c u e =
     let k = c.args in
-    slot_not_o k.whole (chart_of k.chart.now) u k.s k.x (place_at c.args.x c.in-At.d (rw (to_z-of_z c.ranges.x) at c.place_of.ensures) c.in-At.is) c.state_count.ensures c.if-state_count-d.false
+    slot_not_o k.whole (chart_of k.chart.now) u k.s k.x (place_at c.args.x c.in-Some.d (rw (to_z-of_z c.ranges.x) at c.place_of.ensures) c.in-Some.is) c.state_count.ensures c.if-state_count-d.false
     (sym (c.is_o.ensures ∙ ap is_o c.kind_of.ensures) ∙ not-true _ c.if-not-is_o.true-raw)
 
 pub returns-then-not-is_child : goal.returns-then-not-is_child
 returns-then-not-is_child c u e =
     let k = c.args in
-    slot_no_child k.whole (chart_of k.chart.now) u k.s k.x (place_at c.args.x c.in-At.d (rw (to_z-of_z c.ranges.x) at c.place_of.ensures) c.in-At.is) c.state_count.ensures c.if-state_count-d.false
+    slot_no_child k.whole (chart_of k.chart.now) u k.s k.x (place_at c.args.x c.in-Some.d (rw (to_z-of_z c.ranges.x) at c.place_of.ensures) c.in-Some.is) c.state_count.ensures c.if-state_count-d.false
     (sym (c.is_o.ensures ∙ ap is_o c.kind_of.ensures) ∙ not-false _ c.if-not-is_o.false-raw) (sym c.is_child.ensures ∙ not-true _ c.if-not-is_child.true-raw)
 
 pub leads_on-requires : goal.leads_on-requires
@@ -48,5 +48,5 @@ leads_on-requires c = (
 pub returns : goal.returns
 returns c u e =
     let k = c.args in
-    slot_child k.whole (chart_of k.chart.now) u k.s k.x (place_at c.args.x c.in-At.d (rw (to_z-of_z c.ranges.x) at c.place_of.ensures) c.in-At.is) c.state_count.ensures c.if-state_count-d.false
+    slot_child k.whole (chart_of k.chart.now) u k.s k.x (place_at c.args.x c.in-Some.d (rw (to_z-of_z c.ranges.x) at c.place_of.ensures) c.in-Some.is) c.state_count.ensures c.if-state_count-d.false
     (sym (c.is_o.ensures ∙ ap is_o c.kind_of.ensures) ∙ not-false _ c.if-not-is_o.false-raw) (sym c.is_child.ensures ∙ not-false _ c.if-not-is_child.false-raw) (c.leads_on.ensures u e)

@@ -2,8 +2,8 @@
 use Rattle.tree.proofs.Among.{path_on, path_off}
 use Rattle.tree.proofs.ways.next_to.Goals as goal
 
-pub returns-in-At : goal.returns-in-At
-returns-in-At c = path_on _ _ _ _ _ c.path_child-place.ensures c.in-At.is
+pub returns-in-Some : goal.returns-in-Some
+returns-in-Some c = path_on _ _ _ _ _ c.path_child-place.ensures c.in-Some.is
 
-pub returns-in-Empty : goal.returns-in-Empty
-returns-in-Empty c = path_off _ _ _ _ c.path_child-place.ensures c.in-Empty.is
+pub returns-in-None : goal.returns-in-None
+returns-in-None c = path_off _ _ _ _ c.path_child-place.ensures c.in-None.is

@@ -16,4 +16,4 @@ returns-in_default-slot_of c =
 pub returns : goal.returns
 returns c =
     onward_owner _ _ c.in-Owner.is c.if-s-b.false c.slot_of.ensures
-    c.in-Empty.is
+    c.in-None.is
