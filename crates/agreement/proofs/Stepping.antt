@@ -22,7 +22,8 @@ use Rattle.meaning.specs.Machine.{fire_head, head_block, plan_settle, plan_settl
 use Rattle.meaning.specs.Reaction.{fire, fire_to, if_any, settle, settle_in, step}
 use Rattle.meaning.specs.Steps.{Res, Step, ◌then◌, bind, each, look, ok, refuse}
 use Rattle.meaning.specs.Tree.{trans_row}
-use Rattle.meaning.specs.Widget.{Ctx, emit, taken}
+use Rattle.meaning.specs.Widget.{Ctx, emit}
+use Rattle.meaning.specs.declared.Entry.TheVariants.{Taken as taken}
 use Rattle.meaning.specs.declared.plan.Head.{Head}
 use Rattle.sizes.specs.Sizes.{NULL_STEPS}
 

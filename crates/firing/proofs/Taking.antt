@@ -19,7 +19,8 @@ use Rattle.meaning.specs.Reaction.{fire, fire_to, leave_all}
 use Rattle.meaning.specs.Steps.{Step, ◌then◌, each}
 use Rattle.meaning.specs.Tree.{descendants, scope, trans_row}
 use Rattle.meaning.specs.Value.{chart_of}
-use Rattle.meaning.specs.Widget.{Ctx, emit, taken}
+use Rattle.meaning.specs.Widget.{Ctx, emit}
+use Rattle.meaning.specs.declared.Entry.TheVariants.{Taken as taken}
 use Rattle.meaning.specs.Rules.{Ruled}
 use Rattle.tree.proofs.Passing.{sound}
 use Rattle.widget.specs.declared.Went.{Went}

@@ -33,9 +33,12 @@ use Rattle.meaning.specs.Foreign.{event_fits, queue_fits}
 use Rattle.meaning.specs.Rules.{within_row}
 use Rattle.meaning.specs.Steps.{◌then◌, bind, look, require}
 use Rattle.meaning.specs.Tree.{is_o, kind_of, parent_of, var_row}
-use Rattle.meaning.specs.Widget.{Ctx, ENTRY, Entry, change, changed, emit, entered, left, numbers, sent, set_active, set_queue}
+use Rattle.meaning.specs.Widget.{Ctx, ENTRY, change, emit, numbers, set_active, set_queue}
+use Rattle.meaning.specs.declared.Entry.{Entry}
+use Rattle.meaning.specs.declared.Entry.TheVariants.{Changed as changed, Entered as entered, Left as left, Sent as sent}
 use Rattle.meaning.specs.Widget.{set_slot, set_value}
-use Rattle.meaning.specs.Widget.{told, value_at, add_numbers}
+use Rattle.meaning.specs.Widget.{value_at, add_numbers}
+use Rattle.meaning.specs.declared.Entry.TheVariants.{Told as told}
 use Rattle.meaning.specs.declared.chart.Act.{Act}
 use Rattle.meaning.specs.declared.chart.Act.TheVariants.{AddTo as add_to, Send as send, SetTo as set_to, TakeTo as take_to, Tell as tell}
 use Rattle.meaning.specs.declared.chart.Owner.{Owner}

@@ -27,7 +27,8 @@ use Rattle.meaning.specs.Entry.{visit_towards}
 use Rattle.meaning.specs.Reaction.{chosen, fire, fire_to, leave_active, leave_all, settle, settle_in, step}
 use Rattle.meaning.specs.Steps.{each}
 use Rattle.meaning.specs.Tree.{all_states, descendants, scope, trans_row}
-use Rattle.meaning.specs.Widget.{Ctx, is_active, slot, taken}
+use Rattle.meaning.specs.Widget.{Ctx, is_active, slot}
+use Rattle.meaning.specs.declared.Entry.TheVariants.{Taken as taken}
 use Rattle.meaning.specs.declared.State.{State}
 use Rattle.meaning.specs.declared.chart.Owner.TheVariants.{TransitionOf as transition_of}
 use Rattle.meaning.specs.declared.chart.Target.{Target}

@@ -13,7 +13,8 @@ use Rattle.meaning.specs.Effects.{act_on, act_var, acts_of, assign, enqueue, ent
 use Rattle.meaning.specs.Entry.{Visit, by_default, plain, state_of, visit}
 use Rattle.meaning.specs.Steps.{Res, Step, ◌then◌, bind, each, look, ok, refuse, require}
 use Rattle.meaning.specs.Tree.{var_row}
-use Rattle.meaning.specs.Widget.{Ctx, ENTRY, Entry, change, emit, numbers, set_active, set_queue, set_value, value_at, add_numbers}
+use Rattle.meaning.specs.Widget.{Ctx, ENTRY, change, emit, numbers, set_active, set_queue, set_value, value_at, add_numbers}
+use Rattle.meaning.specs.declared.Entry.{Entry}
 use Rattle.meaning.specs.declared.State.{State}
 use Rattle.meaning.specs.declared.chart.Act.{Act}
 use Rattle.meaning.specs.declared.chart.Act.TheVariants.{AddTo as add_to, Send as send, SetTo as set_to, TakeTo as take_to, Tell as tell}

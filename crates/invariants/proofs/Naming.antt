@@ -32,7 +32,9 @@ use Rattle.meaning.specs.Rules.{failing_rule_of, within_row}
 use Rattle.meaning.specs.Steps.{Step, ◌then◌, bind, require}
 use Rattle.meaning.specs.Tree.{var_row}
 use Rattle.meaning.specs.Value.{chart_of}
-use Rattle.meaning.specs.Widget.{Ctx, Entry, begin, changed, entered, left, numbers, sent, taken, told}
+use Rattle.meaning.specs.Widget.{Ctx, begin, numbers}
+use Rattle.meaning.specs.declared.Entry.{Entry}
+use Rattle.meaning.specs.declared.Entry.TheVariants.{Changed as changed, Entered as entered, Left as left, Sent as sent, Taken as taken, Told as told}
 use Rattle.meaning.specs.declared.State.{State}
 use Rattle.numbers.specs.Range.{in_range}
 use Rattle.queue.specs.Queue.{removed}

@@ -29,7 +29,8 @@ use Rattle.meaning.specs.Lists.{from, has}
 use Rattle.meaning.specs.Reaction.{chosen, enabled, enabled_by, fire, fire_to, guard_holds, if_any, meets, settle, settle_in, step}
 use Rattle.meaning.specs.Steps.{Step, ◌then◌, each, look, refuse, skip}
 use Rattle.meaning.specs.Tree.{all_states, ancestors, descendants, parent_of, scope, span, span_of, trans_row}
-use Rattle.meaning.specs.Widget.{Ctx, emit, is_active, taken}
+use Rattle.meaning.specs.Widget.{Ctx, emit, is_active}
+use Rattle.meaning.specs.declared.Entry.TheVariants.{Taken as taken}
 use Rattle.meaning.specs.declared.State.{State}
 use Rattle.meaning.specs.declared.chart.Target.{Target}
 use Rattle.meaning.specs.declared.chart.Target.TheVariants.{History as history, InPlace as in_place, To as to}

@@ -9,7 +9,9 @@ use Rattle.meaning.specs.Foreign.{queue_fits}
 use Rattle.meaning.specs.Lists.{concat_map}
 use Rattle.meaning.specs.Rules.{within_row}
 use Rattle.meaning.specs.Tree.{is_child, kind_of, var_row}
-use Rattle.meaning.specs.Widget.{Ctx, Entry, changed, entered, left, numbers, sent, taken, told}
+use Rattle.meaning.specs.Widget.{Ctx, numbers}
+use Rattle.meaning.specs.declared.Entry.{Entry}
+use Rattle.meaning.specs.declared.Entry.TheVariants.{Changed as changed, Entered as entered, Left as left, Sent as sent, Taken as taken, Told as told}
 use Rattle.meaning.specs.declared.State.{State}
 use Rattle.meaning.specs.declared.chart.Kind.TheVariants.{O as kind_o}
 use Rattle.meaning.specs.declared.chart.VarRow.{VarRow}

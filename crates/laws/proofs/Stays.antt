@@ -17,7 +17,8 @@ use Rattle.meaning.specs.Entry.{visit_towards}
 use Rattle.meaning.specs.Reaction.{chosen, fire, fire_to, if_any, leave_active, leave_all, settle, settle_in, step}
 use Rattle.meaning.specs.Steps.{Step, ◌then◌, each, look, require, skip, when}
 use Rattle.meaning.specs.Tree.{var_row}
-use Rattle.meaning.specs.Widget.{Ctx, Entry, change, emit, slot, value_at}
+use Rattle.meaning.specs.Widget.{Ctx, change, emit, slot, value_at}
+use Rattle.meaning.specs.declared.Entry.{Entry}
 use Rattle.meaning.specs.declared.State.{State}
 use Rattle.meaning.specs.declared.chart.Act.{Act}
 use Rattle.meaning.specs.declared.chart.Act.TheVariants.{AddTo as add_to, Send as send, SetTo as set_to, TakeTo as take_to, Tell as tell}

@@ -16,7 +16,9 @@ use Rattle.meaning.specs.Chart.{Chart}
 use Rattle.meaning.specs.Foreign.{own}
 use Rattle.meaning.specs.Lists.{concat_map}
 use Rattle.meaning.specs.Steps.{Res, ◌then◌, bind, ok, refuse, require}
-use Rattle.meaning.specs.Widget.{Ctx, ENTRY, Entry, begin, change, changed, emit, entered, left, numbers, sent, taken, told, add_numbers}
+use Rattle.meaning.specs.Widget.{Ctx, ENTRY, begin, change, emit, numbers, add_numbers}
+use Rattle.meaning.specs.declared.Entry.{Entry}
+use Rattle.meaning.specs.declared.Entry.TheVariants.{Changed as changed, Entered as entered, Left as left, Sent as sent, Taken as taken, Told as told}
 use Rattle.meaning.specs.declared.State.{State}
 use Rattle.queue.specs.Queue.{removed}
 

@@ -7,7 +7,8 @@ use mathlib.Core.Option.{none}
 use lib.IntN.{ℤ, pos, negsuc}
 use Rattle.meaning.specs.declared.State.{State}
 use Rattle.meaning.specs.Open.{all_open}
-use Rattle.meaning.specs.Widget.{Entry, taken, left, entered}
+use Rattle.meaning.specs.declared.Entry.{Entry}
+use Rattle.meaning.specs.declared.Entry.TheVariants.{Taken as taken, Left as left, Entered as entered}
 use Rattle.meaning.specs.Rules.{failing_rule}
 use Rattle.meaning.specs.Calls.{Outcome, as_found, unstarted, start, run}
 use Rattle.meaning.specs.Compile.{compile}

@@ -8,7 +8,8 @@ use lib.ListN.{length}
 use lib.IntN.{ℤ, pos, negsuc}
 use Rattle.meaning.specs.declared.State.{State}
 use Rattle.meaning.specs.Open.{all_open}
-use Rattle.meaning.specs.Widget.{Entry, taken, left, entered, changed, told}
+use Rattle.meaning.specs.declared.Entry.{Entry}
+use Rattle.meaning.specs.declared.Entry.TheVariants.{Taken as taken, Left as left, Entered as entered, Changed as changed, Told as told}
 use Rattle.meaning.specs.Value.{VALUE, chart_of}
 use Rattle.meaning.specs.Rules.{failing_rule}
 use Rattle.meaning.specs.Text.{done, read}

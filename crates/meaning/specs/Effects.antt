@@ -12,7 +12,8 @@ use Rattle.meaning.specs.Chart.{Act, set_to, add_to, take_to, send, tell, Owner,
 use Rattle.meaning.specs.Chart.{transition_of, VarRow, ActRow, Chart}
 use Rattle.meaning.specs.Tree.{parent_of, kind_of, var_row, is_o}
 use Rattle.meaning.specs.Widget.{Ctx, value_at, set_active, set_slot, set_value, set_queue, change, emit}
-use Rattle.meaning.specs.Widget.{Entry, left, entered, changed, sent, told}
+use Rattle.meaning.specs.declared.Entry.{Entry}
+use Rattle.meaning.specs.declared.Entry.TheVariants.{Left as left, Entered as entered, Changed as changed, Sent as sent, Told as told}
 
 -- ---- the acts
 

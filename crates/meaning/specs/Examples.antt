@@ -11,7 +11,8 @@ use Rattle.meaning.specs.Chart.{add_to, send, tell, entry_of, exit_of, default_o
 use Rattle.meaning.specs.Chart.{StateRow, VarRow, TransRow, ActRow, Act, Owner, Chart}
 use Rattle.meaning.specs.Value.{ABSENT}
 use Rattle.meaning.specs.Text.{value_of}
-use Rattle.meaning.specs.Widget.{Entry, numbers}
+use Rattle.meaning.specs.Widget.{numbers}
+use Rattle.meaning.specs.declared.Entry.{Entry}
 use Rattle.meaning.specs.Calls.{Outcome, run, post, run_of, post_of}
 use Rattle.meaning.specs.Compile.{compile}
 use Rattle.meaning.specs.Machine.{machine_run, machine_post}

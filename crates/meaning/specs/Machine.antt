@@ -8,7 +8,9 @@ use Rattle.meaning.specs.declared.State.{State}
 use Rattle.meaning.specs.Steps.{Res, ok, refuse, Step, ◌then◌, each}
 use Rattle.meaning.specs.Lists.{keep, every, exists}
 use Rattle.meaning.specs.Chart.{VarRow}
-use Rattle.meaning.specs.Widget.{Ctx, is_active, slot, is_empty, is_filled, emit, Entry, taken}
+use Rattle.meaning.specs.Widget.{Ctx, is_active, slot, is_empty, is_filled, emit}
+use Rattle.meaning.specs.declared.Entry.{Entry}
+use Rattle.meaning.specs.declared.Entry.TheVariants.{Taken as taken}
 use Rattle.meaning.specs.Effects.{perform, mark_left, mark_entered}
 use Rattle.meaning.specs.Reaction.{guard_holds, step_by, settle_in_by, settle_by}
 use Rattle.meaning.specs.Foreign.{values_fit, queue_fits, marks_fit}

@@ -12,7 +12,9 @@ use Rattle.meaning.specs.Lists.{has, keep, exists, concat_map}
 use Rattle.meaning.specs.Chart.{Sign, equal, less, more, Guard, always, compares, Target, to, history, in_place, transition_of}
 use Rattle.meaning.specs.Chart.{TransRow, Chart}
 use Rattle.meaning.specs.Tree.{trans_row, all_states, all_transitions, descendants, scope, span}
-use Rattle.meaning.specs.Widget.{Ctx, is_active, value_at, emit, Entry, taken}
+use Rattle.meaning.specs.Widget.{Ctx, is_active, value_at, emit}
+use Rattle.meaning.specs.declared.Entry.{Entry}
+use Rattle.meaning.specs.declared.Entry.TheVariants.{Taken as taken}
 use Rattle.meaning.specs.Effects.{perform_all, leave}
 use Rattle.meaning.specs.Entry.{all_below, towards, towards_owner, visit, visit_towards}
 

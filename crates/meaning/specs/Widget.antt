@@ -7,6 +7,11 @@ use Rattle.meaning.specs.declared.State.{State}
 use Rattle.meaning.specs.Steps.{Res, ok, refuse, Step, ◌then◌, require}
 -- "An empty slot is -1": a slot is None, or Some state; no number below 0 is a state
 pub use Rattle.numbers.specs.Place.{place_of as as_slot}
+-- an entry of the trace is the type declared in src/lib.rt: 1 transition taken; 2 state left; 3 state entered; 4 variable and its new
+-- value; 5 event sent and its argument; 6 number told
+pub use Rattle.meaning.specs.declared.Entry.{Entry}
+pub use Rattle.meaning.specs.declared.Entry.TheVariants.{Taken as taken, Left as left, Entered as entered, Changed as changed}
+pub use Rattle.meaning.specs.declared.Entry.TheVariants.{Sent as sent, Told as told}
 
 -- the state, the trace numbers so far, and how many more numbers there is room for
 pub record Ctx : Type 0 where
@@ -52,13 +57,6 @@ unfoldable pub change : (State → State) → Step Ctx
 change f k = ok (record { state = f k.state; out = k.out; room = k.room })
 
 -- ---- the trace
-
--- 1 transition taken; 2 state left; 3 state entered; 4 variable and its new value; 5 event sent and its argument; 6 number told
-pub data Entry : Type 0 where
-  taken left entered : ℕ → Entry
-  changed : ℕ → ℤ → Entry
-  sent : ℕ → ℤ → Entry
-  told : ℤ → Entry
 
 -- "three signed 32-bit numbers an entry"; "An unused third" is 0
 unfoldable pub numbers : Entry → List ℤ

@@ -3,7 +3,7 @@
 // and is numbers::NOWHERE, which no chart has.
 
 // kind (o, a, b)
-#[derive(Drop)]
+#[derive(Clone, Copy, PartialEq, Eq)]
 pub enum Kind {
     O,
     A,
@@ -11,7 +11,7 @@ pub enum Kind {
 }
 
 // guard sign (=, <, >)
-#[derive(Clone, Copy)]
+#[derive(Clone, Copy, PartialEq, Eq)]
 pub enum Sign {
     Equal,
     Less,

@@ -19,6 +19,18 @@ pub struct State {
     pub queue: Queue,
 }
 
+// An entry of the trace (01, "Trace"): 1 transition taken; 2 state left; 3 state entered; 4 variable and its new value; 5 event sent and
+// its argument; 6 number told.
+#[derive(Clone, Copy)]
+pub enum Entry {
+    Taken(usize),
+    Left(usize),
+    Entered(usize),
+    Changed(usize, i32),
+    Sent(usize, i32),
+    Told(i32),
+}
+
 // An answer number of 01 and the place given with it.
 #[derive(Clone, Copy)]
 pub struct Answer {

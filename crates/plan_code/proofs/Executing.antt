@@ -20,7 +20,8 @@ use Rattle.meaning.specs.Chart.{no_var}
 use Rattle.meaning.specs.Tree.{var_row}
 use Rattle.meaning.specs.Effects.{mark_left, mark_entered, assign, act_on, act_var, perform, store_in}
 use Rattle.meaning.specs.Widget.{Ctx, ENTRY, is_active, slot, is_empty, is_filled}
-use Rattle.meaning.specs.Widget.{set_active, set_slot, change, add_numbers, emit, numbers, left, told}
+use Rattle.meaning.specs.Widget.{set_active, set_slot, change, add_numbers, emit, numbers}
+use Rattle.meaning.specs.declared.Entry.TheVariants.{Left as left, Told as told}
 use Rattle.meaning.specs.Machine.{go_on, on_if, holds_it, exec_now}
 use Rattle.meaning.specs.Value.{VAR_ROW, var_by}
 use Rattle.meaning.specs.WellFormed.{SIX, counts_of, plan_by}

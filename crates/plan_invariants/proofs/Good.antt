@@ -25,8 +25,11 @@ use Rattle.meaning.specs.Plan.{Plan}
 use Rattle.meaning.specs.Rules.{row_fits, within_row}
 use Rattle.meaning.specs.Steps.{◌then◌, bind, look, require}
 use Rattle.meaning.specs.Tree.{var_row}
-use Rattle.meaning.specs.Widget.{Ctx, ENTRY, Entry, change, changed, emit, entered, is_active, is_empty, is_filled, left, numbers, sent}
-use Rattle.meaning.specs.Widget.{set_active, set_queue, set_slot, set_value, slot, taken, told, value_at, add_numbers}
+use Rattle.meaning.specs.Widget.{Ctx, ENTRY, change, emit, is_active, is_empty, is_filled, numbers}
+use Rattle.meaning.specs.declared.Entry.{Entry}
+use Rattle.meaning.specs.declared.Entry.TheVariants.{Changed as changed, Entered as entered, Left as left, Sent as sent}
+use Rattle.meaning.specs.Widget.{set_active, set_queue, set_slot, set_value, slot, value_at, add_numbers}
+use Rattle.meaning.specs.declared.Entry.TheVariants.{Taken as taken, Told as told}
 use Rattle.meaning.specs.declared.State.{State}
 use Rattle.meaning.specs.declared.chart.Act.{Act}
 use Rattle.meaning.specs.declared.chart.Act.TheVariants.{AddTo as add_to, Send as send, SetTo as set_to, TakeTo as take_to, Tell as tell}

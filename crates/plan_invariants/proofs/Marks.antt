@@ -14,7 +14,9 @@ use Rattle.meaning.specs.Machine.{exec_now, holds_it, plan_react, plan_settle, p
 use Rattle.meaning.specs.Plan.{Plan}
 use Rattle.meaning.specs.Steps.{◌then◌, bind, look, require}
 use Rattle.meaning.specs.Tree.{var_row}
-use Rattle.meaning.specs.Widget.{Ctx, ENTRY, Entry, change, emit, entered, is_active, is_empty, is_filled, left, numbers, set_active}
+use Rattle.meaning.specs.Widget.{Ctx, ENTRY, change, emit, is_active, is_empty, is_filled, numbers, set_active}
+use Rattle.meaning.specs.declared.Entry.{Entry}
+use Rattle.meaning.specs.declared.Entry.TheVariants.{Entered as entered, Left as left}
 use Rattle.meaning.specs.Widget.{set_queue, set_slot, set_value, slot, value_at, add_numbers}
 use Rattle.meaning.specs.declared.State.{State}
 use Rattle.meaning.specs.declared.chart.Act.{Act}

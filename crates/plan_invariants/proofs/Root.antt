@@ -25,7 +25,8 @@ use Rattle.meaning.specs.Machine.{plan_start, plan_start_steps, plan_tests, run_
 use Rattle.meaning.specs.Plan.{Plan}
 use Rattle.meaning.specs.Steps.{Res, Step, ◌then◌, bind, each, ok, refuse, require}
 use Rattle.meaning.specs.WellFormed.{plan_by, well_formed}
-use Rattle.meaning.specs.Widget.{Ctx, begin, change, emit, entered, is_active, set_active}
+use Rattle.meaning.specs.Widget.{Ctx, begin, change, emit, is_active, set_active}
+use Rattle.meaning.specs.declared.Entry.TheVariants.{Entered as entered}
 use Rattle.meaning.specs.declared.State.{State}
 use Rattle.meaning.specs.declared.plan.Instr.{Instr}
 use Rattle.meaning.specs.declared.plan.Instr.TheVariants.{Does as does, In as go_in, Out as go_out, SkipEmpty as skip_empty}

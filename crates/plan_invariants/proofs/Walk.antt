@@ -18,7 +18,8 @@ use Rattle.meaning.specs.Machine.{passing, plan_settle, plan_settle_in, plan_ste
 use Rattle.meaning.specs.Plan.{Plan}
 use Rattle.meaning.specs.Reaction.{if_any}
 use Rattle.meaning.specs.Steps.{Res, Step, ◌then◌, bind, each, look, ok, refuse, skip}
-use Rattle.meaning.specs.Widget.{Ctx, emit, taken}
+use Rattle.meaning.specs.Widget.{Ctx, emit}
+use Rattle.meaning.specs.declared.Entry.TheVariants.{Taken as taken}
 use Rattle.meaning.specs.declared.State.{State}
 use Rattle.meaning.specs.declared.chart.VarRow.{VarRow}
 use Rattle.meaning.specs.declared.plan.Head.{Head}

@@ -7,7 +7,8 @@ use lib.ListN.{length, get_or, drop}
 use lib.IntN.{ℤ, pos}
 use Rattle.numbers.specs.Reference.{ref, NOWHERE}
 use Rattle.meaning.specs.Steps.{◌then◌, each}
-use Rattle.meaning.specs.Widget.{emit, taken}
+use Rattle.meaning.specs.Widget.{emit}
+use Rattle.meaning.specs.declared.Entry.TheVariants.{Taken as taken}
 use Rattle.meaning.specs.Machine.{head_block, fire_head}
 use Rattle.meaning.specs.Plan.{Plan}
 use Rattle.meaning.specs.declared.plan.Counts.{Counts}

@@ -10,7 +10,9 @@ use Rattle.queue.specs.Queue.{appended}
 use Rattle.queue.specs.Numbers.{queue_by}
 use Rattle.queue.proofs.Numbers.{Appends}
 use Rattle.meaning.specs.Steps.{ok, Step, bind, ◌then◌, require, look}
-use Rattle.meaning.specs.Widget.{Ctx, Entry, left, entered, changed, sent, told, taken, numbers, emit, change, set_active}
+use Rattle.meaning.specs.Widget.{Ctx, numbers, emit, change, set_active}
+use Rattle.meaning.specs.declared.Entry.{Entry}
+use Rattle.meaning.specs.declared.Entry.TheVariants.{Left as left, Entered as entered, Changed as changed, Sent as sent, Told as told, Taken as taken}
 use Rattle.meaning.specs.Widget.{set_slot, set_value, set_queue, value_at}
 use Rattle.numbers.specs.Hold.{hold_z}
 use Rattle.meaning.specs.declared.chart.VarRow.{VarRow}

@@ -10,7 +10,8 @@ use lib.ListN.{length, take, drop, get_or, set, replicate, length-set, length-ap
 use lib.Seq.{length-take-le, take-suc-set, drop-length, drop-cons, set_at}
 use lib.IntN.{ℤ, pos}
 use Rattle.meaning.specs.Steps.{bind, ◌then◌, require}
-use Rattle.meaning.specs.Widget.{Ctx, add_numbers, Entry, emit, numbers}
+use Rattle.meaning.specs.Widget.{Ctx, add_numbers, emit, numbers}
+use Rattle.meaning.specs.declared.Entry.{Entry}
 use Rattle.widget.specs.View.{tracing, said, note, Noted}
 
 -- an entry is written as its numbers are noted

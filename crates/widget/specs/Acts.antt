@@ -8,7 +8,8 @@ use Rattle.meaning.specs.Steps.{Step, ◌then◌, look}
 use Rattle.meaning.specs.declared.chart.VarRow.{VarRow}
 use Rattle.meaning.specs.declared.chart.Act.{Act}
 use Rattle.meaning.specs.declared.chart.Act.TheVariants.{SetTo as set_to, AddTo as add_to, TakeTo as take_to, Send as send, Tell as tell}
-use Rattle.meaning.specs.Widget.{Ctx, emit, changed, sent, change, set_value, value_at}
+use Rattle.meaning.specs.Widget.{Ctx, emit, change, set_value, value_at}
+use Rattle.meaning.specs.declared.Entry.TheVariants.{Changed as changed, Sent as sent}
 use Rattle.meaning.specs.Effects.{assign, enqueue}
 
 -- the variable v takes the value x: "written before the effect goes on"
