@@ -1,4 +1,5 @@
 -- The arms, a visit on the way to a goal, a move and a block, put together from their parts; and how long each is. Assumes nothing.
+use Rattle.std.specs.Prelude.{Option, None, Some}
 use mathlib.Core.Path.{◌≡◌, refl, sym, ap, subst, ◌∙◌}
 use Prim.Native.Nat.{ℕ, zero, suc, ◌+◌, ◌<◌}
 use mathlib.Core.Bool.{Bool, true, false}
@@ -26,8 +27,6 @@ use Rattle.meaning.specs.Rules.{Ruled}
 use Rattle.tree.proofs.Passing.{sound}
 use Rattle.tree.specs.declared.ways.Goal.{Goal}
 use Rattle.tree.specs.declared.ways.Goal.TheVariants.{Target as aim, Owner as owner}
-use Rattle.tree.specs.declared.ways.Aim.{Aim}
-use Rattle.tree.specs.declared.ways.Aim.TheVariants.{Goes, Stays}
 use Rattle.tree.specs.Aims.{aim_by, aimed_at}
 use Rattle.tree.specs.Courses.{goal_way, defaulting, visit_as, Inside}
 use Rattle.tree.proofs.Aiming.{goes_by, stays_by, goal_facts, goal_bound}
@@ -141,17 +140,17 @@ module _ (c : Chart) (t : ℕ) (goal : Goal) (top n : ℕ) (e : n ≡ length c.s
       ∙ ap (λ k. length (exits_code c (descendants c top)) + k)
       (length-append (code_acts c (transition_of t)) (concat_map (goal_code c goal) (below c (goal_way c goal) n top)))
 
-block_to_goes : (c : Chart) (t s : ℕ) (g : Target) (goal : Goal) → aim_by g ≡ Goes goal
+block_to_goes : (c : Chart) (t s : ℕ) (g : Target) (goal : Goal) → aim_by g ≡ Some goal
     → block_to c t s g ≡ move_code c t goal (scope c s (aimed_at goal))
 unfolding block_to move_code
 block_to_goes c t s = goes_by (λ g goal. block_to c t s g ≡ move_code c t goal (scope c s (aimed_at goal))) (λ d. refl) (λ b. refl)
 
-block_to_stays : (c : Chart) (t s : ℕ) (g : Target) → aim_by g ≡ Stays → block_to c t s g ≡ code_acts c (transition_of t)
+block_to_stays : (c : Chart) (t s : ℕ) (g : Target) → aim_by g ≡ None → block_to c t s g ≡ code_acts c (transition_of t)
 unfolding block_to
 block_to_stays c t s = stays_by (λ g. block_to c t s g ≡ code_acts c (transition_of t)) refl
 
 module _ (v : List ℤ) (r : Ruled v) (t : ℕ) (l : t < length (chart_of v).transitions) (row : TransRow) (e : row ≡ trans_row (chart_of v) t)
-    {x : Aim} (q : x ≡ aim_by row.target) {goal : Goal} (o : x ≡ Goes goal) {d : ℕ} (m : d ≡ aimed_at goal) where
+    {x : Option Goal} (q : x ≡ aim_by row.target) {goal : Goal} (o : x ≡ Some goal) {d : ℕ} (m : d ≡ aimed_at goal) where
   facts : TargetFacts (chart_of v) row.source row.target
   facts = subst (λ y. TargetFacts (chart_of v) y.source y.target) (sym e) ((sound v r).transitions t l).target
 
@@ -166,15 +165,15 @@ module _ (v : List ℤ) (r : Ruled v) (t : ℕ) (l : t < length (chart_of v).tra
         ),
       )
 
-module _ (c : Chart) (t : ℕ) (row : TransRow) (e : row ≡ trans_row c t) {x : Aim} (q : x ≡ aim_by row.target) where
+module _ (c : Chart) (t : ℕ) (row : TransRow) (e : row ≡ trans_row c t) {x : Option Goal} (q : x ≡ aim_by row.target) where
   block_of : block c t ≡ block_to c t row.source row.target
   unfolding block
   block_of = ap (λ y. block_to c t y.source y.target) (sym e)
 
-  pub block_goes : {goal : Goal} → x ≡ Goes goal → {d : ℕ} → d ≡ aimed_at goal → {top : ℕ} → top ≡ scope c row.source d
+  pub block_goes : {goal : Goal} → x ≡ Some goal → {d : ℕ} → d ≡ aimed_at goal → {top : ℕ} → top ≡ scope c row.source d
       → block c t ≡ move_code c t goal top
   block_goes {goal} o m f = block_of ∙ block_to_goes c t row.source row.target goal (sym q ∙ o)
       ∙ ap (move_code c t goal) (sym (f ∙ ap (scope c row.source) m))
 
-  pub block_stays : x ≡ Stays → block c t ≡ code_acts c (transition_of t)
+  pub block_stays : x ≡ None → block c t ≡ code_acts c (transition_of t)
   block_stays o = block_of ∙ block_to_stays c t row.source row.target (sym q ∙ o)

@@ -27,7 +27,7 @@ use meaning::chart::Owner;
 use pieces::{put_enter, put_exit, put_visit};
 use tree::kin::is_child;
 use tree::walks::{end_below, scope};
-use tree::ways::{Aim, Goal, aim_of, aimed, next_of};
+use tree::ways::{Goal, aim_of, aimed, next_of};
 
 // "for each state of the span, falling": those below s.
 fn put_exits(chart: &[i32], index: &[u16; INDEX], s: usize, plan: &mut [i32], at: usize) -> usize
@@ -137,7 +137,7 @@ pub fn put_block(
     let row = trans_row(chart, t);
     let target = row.target;
     let aim = aim_of(target);
-    let Aim::Goes(goal) = aim else {
+    let Some(goal) = aim else {
         return put_acts(chart, index, Owner::TransitionOf(t), plan, at);
     };
     let top = scope(chart, row.source, aimed(goal));

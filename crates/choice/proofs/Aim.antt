@@ -1,4 +1,5 @@
 -- Laws of a span by where its target leads: the scope is a state of the chart, and what lies below it is the span. Assumes nothing.
+use Rattle.std.specs.Prelude.{Option, None, Some}
 use mathlib.Core.Path.{◌≡◌, refl, sym, ap, ◌∙◌, subst}
 use Prim.Native.Nat.{ℕ, suc, ◌+◌, ◌<◌}
 use native.Mathlib.Omega.{arith}
@@ -13,8 +14,6 @@ use Rattle.meaning.specs.Value.{chart_of}
 use Rattle.laws.proofs.Scope.{ScopeFacts, scope_facts}
 use Rattle.meaning.specs.Rules.{Ruled}
 use Rattle.tree.proofs.Passing.{sound}
-use Rattle.tree.specs.declared.ways.Aim.{Aim}
-use Rattle.tree.specs.declared.ways.Aim.TheVariants.{Goes, Stays}
 use Rattle.tree.specs.declared.ways.Goal.{Goal}
 use Rattle.tree.specs.Aims.{aim_by, aimed_at, top_of}
 use Rattle.tree.proofs.Aiming.{goes_by, stays_by, goal_facts}
@@ -22,18 +21,18 @@ use Rattle.choice.specs.declared.Span.{Span}
 use Rattle.choice.specs.Span.{Spans, Spanned, Aims}
 use Rattle.choice.proofs.Walk.{scope_spans, place_spans}
 
-span_goes : (c : Chart) (s : ℕ) (g : Target) (goal : Goal) → aim_by g ≡ Goes goal → span_of c s g
+span_goes : (c : Chart) (s : ℕ) (g : Target) (goal : Goal) → aim_by g ≡ Some goal → span_of c s g
     ≡ descendants c (scope c s (aimed_at goal))
 unfolding span_of
 span_goes c s = goes_by (λ g goal. span_of c s g ≡ descendants c (scope c s (aimed_at goal))) (λ d. refl) (λ b. refl)
 
-span_stays : (c : Chart) (s : ℕ) (g : Target) → aim_by g ≡ Stays → span_of c s g ≡ s ∷ descendants c s
+span_stays : (c : Chart) (s : ℕ) (g : Target) → aim_by g ≡ None → span_of c s g ≡ s ∷ descendants c s
 unfolding span_of
 span_stays c s = stays_by (λ g. span_of c s g ≡ s ∷ descendants c s) refl
 
-module _ (v : List ℤ) (h : Ruled v) (s : ℕ) (g : Target) (a : Aims (chart_of v) s g) {aim : Aim} (q : aim ≡ aim_by g) where
-  module _ {goal : Goal} (e : aim ≡ Goes goal) {d top : ℕ} (o : d ≡ aimed_at goal) (p : top ≡ scope (chart_of v) s d) where
-    goes : aim_by g ≡ Goes goal
+module _ (v : List ℤ) (h : Ruled v) (s : ℕ) (g : Target) (a : Aims (chart_of v) s g) {aim : Option Goal} (q : aim ≡ aim_by g) where
+  module _ {goal : Goal} (e : aim ≡ Some goal) {d top : ℕ} (o : d ≡ aimed_at goal) (p : top ≡ scope (chart_of v) s d) where
+    goes : aim_by g ≡ Some goal
     goes = sym q ∙ e
 
     is_scope : top ≡ scope (chart_of v) s (aimed_at goal)
@@ -57,7 +56,7 @@ module _ (v : List ℤ) (h : Ruled v) (s : ℕ) (g : Target) (a : Aims (chart_of
       below = n ∙ ap (λ x. suc x + length (descendants (chart_of v) x)) (sym f);
     }
 
-  pub stays_spanned : aim ≡ Stays → (w : Span) → w.top ≡ s → w.first ≡ s → w.end ≡ suc s + length (descendants (chart_of v) s)
+  pub stays_spanned : aim ≡ None → (w : Span) → w.top ≡ s → w.first ≡ s → w.end ≡ suc s + length (descendants (chart_of v) s)
       → Spanned (chart_of v) s g w
   stays_spanned e w f l n = record {
     spans = subst (λ x. Spans x w) (sym (span_stays (chart_of v) s g (sym q ∙ e)))

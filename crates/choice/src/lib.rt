@@ -16,7 +16,7 @@ use meaning::chart::{Guard, Sign, Target, TransRow};
 use numbers::{less, reference, same};
 use sizes::{STATES, TRANSITIONS, VARIABLES};
 use tree::walks::{end_below, scope};
-use tree::ways::{Aim, aim_of, aimed};
+use tree::ways::{aim_of, aimed};
 
 // What choosing finds out of each transition that it chooses, in three parts of one array: the transition, the top of its span, and
 // where the states below that top end. Two bytes each, since the array is cleared for each step.
@@ -40,7 +40,7 @@ pub fn span_of(chart: &[i32], s: usize, target: Target) -> Span
     ensures { Spanned (chart_of chart.now) s target result }
 {
     let aim = aim_of(target);
-    let Aim::Goes(goal) = aim else {
+    let Some(goal) = aim else {
         let below = end_below(chart, s);
         return Span {
             top: s,

@@ -1,4 +1,5 @@
 -- The laws by which `move_to` and `fire` meet their promises. Assumes nothing.
+use Rattle.std.specs.Prelude.{Option, None, Some}
 use mathlib.Core.Path.{◌≡◌, refl, sym, ap, subst, ◌∙◌}
 use native.Mathlib.Omega.{arith}
 use Prim.Native.Nat.{ℕ, ◌<◌}
@@ -28,8 +29,6 @@ use Rattle.widget.specs.View.{Lent, all_lent, with_vars, with_queue, with_trace,
 use Rattle.widget.proofs.Going.{then_on, then_stop}
 use Rattle.tree.specs.Aims.{aim_by, aimed_at, top_of, Found}
 use Rattle.tree.specs.Courses.{goal_way, goal_visit, Inside, Owned, Led}
-use Rattle.tree.specs.declared.ways.Aim.{Aim}
-use Rattle.tree.specs.declared.ways.Aim.TheVariants.{Goes, Stays}
 use Rattle.tree.specs.declared.ways.Goal.{Goal}
 use Rattle.tree.proofs.Aiming.{goes_by, stays_by, goal_facts, goal_bound}
 use Rattle.firing.specs.Moving.{moving}
@@ -68,22 +67,22 @@ left_led w f arg s d h z l = led_after (chart_of w) (leave_all_led (chart_of w) 
 
 -- ---- a transition that leads somewhere: what choosing found out of it is its scope
 
-fire_goes : (c : Chart) (arg : ℤ) (n s : ℕ) (g : Target) (goal : Goal) → aim_by g ≡ Goes goal
+fire_goes : (c : Chart) (arg : ℤ) (n s : ℕ) (g : Target) (goal : Goal) → aim_by g ≡ Some goal
     → fire_to c arg n s g ≡ moving c arg n goal (scope c s (aimed_at goal))
 unfolding fire_to moving
 fire_goes c arg n s = goes_by (λ g goal. fire_to c arg n s g ≡ moving c arg n goal (scope c s (aimed_at goal))) (λ d. refl) (λ b. refl)
 
-fire_stays : (c : Chart) (arg : ℤ) (n s : ℕ) (g : Target) → aim_by g ≡ Stays → fire_to c arg n s g ≡ perform_all c arg (transition_of n)
+fire_stays : (c : Chart) (arg : ℤ) (n s : ℕ) (g : Target) → aim_by g ≡ None → fire_to c arg n s g ≡ perform_all c arg (transition_of n)
 unfolding fire_to
 fire_stays c arg n s = stays_by (λ g. fire_to c arg n s g ≡ perform_all c arg (transition_of n)) refl
 
-module _ (c : Chart) (n : ℕ) (row : TransRow) (e : row ≡ trans_row c n) {aim : Aim} (q : aim ≡ aim_by row.target)
-    {goal : Goal} (o : aim ≡ Goes goal) {top end : ℕ} (h : Found c n top end) where
+module _ (c : Chart) (n : ℕ) (row : TransRow) (e : row ≡ trans_row c n) {aim : Option Goal} (q : aim ≡ aim_by row.target)
+    {goal : Goal} (o : aim ≡ Some goal) {top end : ℕ} (h : Found c n top end) where
   is_scope : top ≡ scope c row.source (aimed_at goal)
   is_scope = h.is ∙ ap (λ x. top_of c x.source (aim_by x.target)) (sym e) ∙ ap (top_of c row.source) (sym q ∙ o)
 
 module _ (w : List ℤ) (f : Ruled w) (n : ℕ) (l : n < length (chart_of w).transitions) (row : TransRow) (e : row ≡ trans_row (chart_of w) n)
-    {aim : Aim} (q : aim ≡ aim_by row.target) {goal : Goal} (o : aim ≡ Goes goal) where
+    {aim : Option Goal} (q : aim ≡ aim_by row.target) {goal : Goal} (o : aim ≡ Some goal) where
   facts : TargetFacts (chart_of w) row.source row.target
   facts = subst (λ y. TargetFacts (chart_of w) y.source y.target) (sym e) ((sound w f).transitions n l).target
 
@@ -111,7 +110,7 @@ module _ (c : Chart) (arg : ℤ) (n : ℕ) (a : List Bool) (sl v q : List ℤ) {
   unfolding fire
   fired_stop z = then_stop _ noted z
 
-  module _ (z : r.number ≡ 0) (row : TransRow) (e : row ≡ trans_row c n) {aim : Aim}
+  module _ (z : r.number ≡ 0) (row : TransRow) (e : row ≡ trans_row c n) {aim : Option Goal}
       (m : aim ≡ aim_by row.target) {y : Went} {k₂ : Lent} where
     fired_as : {E : Step Ctx} → E ≡ fire_to c arg n row.source row.target → Did E (all_lent a sl v q t₁) r.at y k₂
         → Did (fire c arg n) (all_lent a sl v q t) at y k₂
@@ -119,11 +118,11 @@ module _ (c : Chart) (arg : ℤ) (n : ℕ) (a : List Bool) (sl v q : List ℤ) {
     fired_as p d = then_on noted z
         (subst (λ F. Did F (all_lent a sl v q t₁) r.at y k₂) (p ∙ ap (λ x. fire_to c arg n x.source x.target) e) d)
 
-    pub fired_goes : {goal : Goal} → aim ≡ Goes goal → {top end : ℕ} → Found c n top end
+    pub fired_goes : {goal : Goal} → aim ≡ Some goal → {top end : ℕ} → Found c n top end
         → Did (moving c arg n goal top) (all_lent a sl v q t₁) r.at y k₂ → Did (fire c arg n) (all_lent a sl v q t) at y k₂
     fired_goes {goal} o h d = fired_as (ap (moving c arg n goal) (is_scope c n row e m o h)
         ∙ sym (fire_goes c arg n row.source row.target goal (sym m ∙ o))) d
 
-    pub fired_stays : aim ≡ Stays → Did (perform_all c arg (transition_of n)) (all_lent a sl v q t₁) r.at y k₂
+    pub fired_stays : aim ≡ None → Did (perform_all c arg (transition_of n)) (all_lent a sl v q t₁) r.at y k₂
         → Did (fire c arg n) (all_lent a sl v q t) at y k₂
     fired_stays o d = fired_as (sym (fire_stays c arg n row.source row.target (sym m ∙ o))) d

@@ -22,7 +22,7 @@ use leave_enter::leaving::leave_below;
 use meaning::chart::Owner;
 use queue::lent::QUEUE_NUMBERS;
 use sizes::{STATES, VARIABLES};
-use tree::ways::{Aim, Course, Goal, aim_of};
+use tree::ways::{Course, Goal, aim_of};
 use widget::{Went, mark_taken};
 
 // The states below the scope are left, then the transition's actions, then the way down to the goal.
@@ -93,7 +93,7 @@ pub fn fire(
     let row = trans_row(chart, t);
     let target = row.target;
     let aim = aim_of(target);
-    let Aim::Goes(goal) = aim else {
+    let Some(goal) = aim else {
         let owner = Owner::TransitionOf(t);
         return perform_all(chart, index, arg, owner, vars, queue, trace, taken.at);
     };

@@ -1,4 +1,5 @@
 -- What holds of each form of a target holds of where it leads. Assumes nothing.
+use Rattle.std.specs.Prelude.{None, Some}
 use Rattle.std.specs.Prelude.{Option, None, Some}
 use mathlib.Core.Path.{◌≡◌, refl, sym, ap, subst, ◌∙◌}
 use Prim.Native.Nat.{ℕ, ◌<◌}
@@ -14,8 +15,6 @@ use Rattle.meaning.specs.Chart.{Chart}
 use Rattle.meaning.specs.Entry.{Way}
 use Rattle.meaning.specs.declared.chart.Target.{Target}
 use Rattle.meaning.specs.declared.chart.Target.TheVariants.{To as to, History as history, InPlace as in_place}
-use Rattle.tree.specs.declared.ways.Aim.{Aim}
-use Rattle.tree.specs.declared.ways.Aim.TheVariants.{Goes, Stays}
 use Rattle.tree.specs.declared.ways.Goal.{Goal}
 use Rattle.tree.specs.declared.ways.Goal.TheVariants.{Target as target, Owner as owner}
 use Rattle.tree.specs.declared.ways.Course.{Course}
@@ -23,34 +22,34 @@ use Rattle.tree.specs.declared.ways.Course.TheVariants.{Defaults as default_cour
 use Rattle.tree.specs.Aims.{aim_by, aimed_at}
 use Rattle.tree.specs.Courses.{slot_of, course_way, restored, onward_goal, onward_from, Inside, Owned, Bound}
 
-same_goal : (x y : Goal) → Goes x ≡ Goes y → x ≡ y
+same_goal : (x y : Goal) → Some x ≡ Some y → x ≡ y
 same_goal x y e = cc
 
-goes_not : (x : Goal) → Stays ≡ Goes x → ⊥
+goes_not : (x : Goal) → None ≡ Some x → ⊥
 goes_not x e = let z : ◌≡◌ {A = ℕ} 0 1 = cc in omega arith
 
 pub goes_by : (P : Target → Goal → Type 0) → ((d : ℕ) → P (to d) (target d)) → ((b : ℕ) → P (history b) (owner b))
-    → (g : Target) (goal : Goal) → aim_by g ≡ Goes goal → P g goal
+    → (g : Target) (goal : Goal) → aim_by g ≡ Some goal → P g goal
 goes_by P f h (to d) goal e = subst (P (to d)) (same_goal (target d) goal e) (f d)
 goes_by P f h (history b) goal e = subst (P (history b)) (same_goal (owner b) goal e) (h b)
 goes_by P f h in_place goal e = absurd (goes_not goal e)
 
-stays_not : (x : Goal) → Goes x ≡ Stays → ⊥
+stays_not : (x : Goal) → Some x ≡ None → ⊥
 stays_not x e = let z : ◌≡◌ {A = ℕ} 0 1 = cc in omega arith
 
-pub stays_by : (P : Target → Type 0) → P in_place → (g : Target) → aim_by g ≡ Stays → P g
+pub stays_by : (P : Target → Type 0) → P in_place → (g : Target) → aim_by g ≡ None → P g
 stays_by P f (to d) e = absurd (stays_not (target d) e)
 stays_by P f (history b) e = absurd (stays_not (owner b) e)
 stays_by P f in_place e = f
 
 -- R6: the state aimed at is one of the chart, and neither it nor the source is the root
-pub goal_facts : (c : Chart) (s : ℕ) (g : Target) (goal : Goal) → aim_by g ≡ Goes goal → TargetFacts c s g
+pub goal_facts : (c : Chart) (s : ℕ) (g : Target) (goal : Goal) → aim_by g ≡ Some goal → TargetFacts c s g
     → (aimed_at goal < length c.states) × (0 < aimed_at goal) × (0 < s)
 goal_facts c s = goes_by (λ g goal. TargetFacts c s g → (aimed_at goal < length c.states) × (0 < aimed_at goal) × (0 < s))
     (λ d f. (f.0, f.1, f.2)) (λ b f. (f.0, f.1, f.3))
 
 -- and the owner of a history is an o state
-pub goal_bound : (c : Chart) (s : ℕ) (g : Target) (goal : Goal) → aim_by g ≡ Goes goal → TargetFacts c s g → Inside c goal × Owned c goal
+pub goal_bound : (c : Chart) (s : ℕ) (g : Target) (goal : Goal) → aim_by g ≡ Some goal → TargetFacts c s g → Inside c goal × Owned c goal
 goal_bound c s = goes_by (λ g goal. TargetFacts c s g → Inside c goal × Owned c goal) (λ d f. (f.0, tt)) (λ b f. (f.0, f.2))
 
 -- ---- courses

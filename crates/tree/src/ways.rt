@@ -31,21 +31,14 @@ pub enum Goal {
     Owner(usize),
 }
 
-// What a transition's target says: to go to a goal, or to react in place.
-#[derive(Drop)]
-pub enum Aim {
-    Goes(Goal),
-    Stays,
-}
-
-// Where a transition leads: the one place that goes by the three forms of a target.
-pub fn aim_of(target: Target) -> Aim
+// Where a transition leads: the one place that goes by the three forms of a target. A reaction in place leads nowhere.
+pub fn aim_of(target: Target) -> Option<Goal>
     ensures { result ≡ aim_by target }
 {
     match target {
-        Target::To(t) => Aim::Goes(Goal::Target(t)),
-        Target::History(b) => Aim::Goes(Goal::Owner(b)),
-        Target::InPlace => Aim::Stays,
+        Target::To(t) => Some(Goal::Target(t)),
+        Target::History(b) => Some(Goal::Owner(b)),
+        Target::InPlace => None,
     }
 }
 

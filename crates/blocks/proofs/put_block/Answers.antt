@@ -32,7 +32,7 @@ pub put_move-requires : goal.put_move-requires
 put_move-requires c =
     let s = c.before in
     let a = s.before.before.before in
-    let given = c.in-Goes.is in
+    let given = c.in-Some.is in
     let x = goes_inside c.args.chart.now c.requires.0.ruled c.args.t c.requires.1 _ c.trans_row-row.ensures
     c.aim_of-aim.ensures given c.aimed.ensures c.scope-top.ensures in (
       c.requires.0,
@@ -52,4 +52,4 @@ returns c =
     let s = c.before.before.before in
     let a = s.before.before.before in
     put_as _ _ _ (block_goes (chart_of c.args.chart.now) c.args.t _ c.trans_row-row.ensures c.aim_of-aim.ensures
-    c.in-Goes.is c.aimed.ensures c.scope-top.ensures) c.put_move.ensures
+    c.in-Some.is c.aimed.ensures c.scope-top.ensures) c.put_move.ensures

@@ -12,11 +12,11 @@ pub end_below-end-requires : goal.end_below-end-requires
 end_below-end-requires c = (
   c.requires.0,
   top_inside _ c.requires.0 _ c.args.target c.requires.1 c.aim_of-aim.ensures
-      c.in-Goes.is
+      c.in-Some.is
       c.aimed.ensures c.scope-top.ensures,
 )
 
 pub returns : goal.returns
 returns c =
-    goes_spanned _ c.requires.0 _ _ c.requires.1 c.aim_of-aim.ensures c.in-Goes.is
+    goes_spanned _ c.requires.0 _ _ c.requires.1 c.aim_of-aim.ensures c.in-Some.is
     c.aimed.ensures c.scope-top.ensures _ refl refl c.end_below-end.ensures

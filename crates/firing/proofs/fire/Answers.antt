@@ -42,8 +42,8 @@ move_to-requires c =
     let m = aim.before.before.before.before.before in
     let p = c.requires in (
       p.0,
-      goes_bound _ p.0.ruled _ p.1 _ c.trans_row-row.ensures c.aim_of-aim.ensures c.in-Goes.is,
-      goes_inside _ p.0.ruled _ p.1 _ c.trans_row-row.ensures c.aim_of-aim.ensures c.in-Goes.is p.2,
+      goes_bound _ p.0.ruled _ p.1 _ c.trans_row-row.ensures c.aim_of-aim.ensures c.in-Some.is,
+      goes_inside _ p.0.ruled _ p.1 _ c.trans_row-row.ensures c.aim_of-aim.ensures c.in-Some.is p.2,
       p.2.ends,
       p.3,
       p.4,
@@ -58,4 +58,4 @@ returns c =
     let m = aim.before.before.before.before.before in
     fired_goes _ _ _ c.args.active.now c.args.slots.now c.args.vars.now c.args.queue.now
     c.mark_taken-taken.ensures c.if-taken-ne0.false _ c.trans_row-row.ensures c.aim_of-aim.ensures
-    c.in-Goes.is c.requires.2 (rw (to_z-of_z c.ranges.arg) at c.move_to.ensures)
+    c.in-Some.is c.requires.2 (rw (to_z-of_z c.ranges.arg) at c.move_to.ensures)
