@@ -20,7 +20,7 @@ pub const NOWHERE: usize = 2147483648;
 pub fn wide(x: i32) -> i64
     ensures { result ≡ x }
 {
-    x as i64
+    i64::from(x)
 }
 
 // The sum of two i32 is exact as an i64.
@@ -48,10 +48,7 @@ pub fn less(x: i32, y: i32) -> bool
 pub fn between(low: i32, x: i32, high: i32) -> bool
     ensures { result ≡ within low x high }
 {
-    if x < low {
-        return false;
-    }
-    x <= high
+    low <= x && x <= high
 }
 
 // 01, "Sizes": every constant, argument and range end lies within ±1,000,000,000.
@@ -92,10 +89,7 @@ pub fn place_of(x: i32) -> Option<usize>
 pub fn reference(named: i32) -> usize
     ensures { result ≡ ref named }
 {
-    if named < 0 {
-        return NOWHERE;
-    }
-    named as usize
+    place_of(named).unwrap_or(NOWHERE)
 }
 
 // A small number, signed.
