@@ -8,7 +8,5 @@ use Rattle.queue.proofs.Numbers.{free}
 use Rattle.queue.proofs.lent.held.Given as goal
 
 abbrev pub invariant-loop-i : goal.invariant-loop-i
-invariant-loop-i l = (l.i ≤ QUEUE) × (l.places ≡ copied free (says (drop 1 l.numbers)) l.i)
+invariant-loop-i l = l.items ≡ copied free (says (drop 1 l.numbers)) l.i
 
-abbrev pub decreases-loop-i : goal.decreases-loop-i
-decreases-loop-i l = QUEUE - l.i

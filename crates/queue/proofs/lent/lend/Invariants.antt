@@ -7,7 +7,5 @@ use Rattle.queue.proofs.Numbers.{zeros}
 use Rattle.queue.proofs.lent.lend.Given as goal
 
 abbrev pub invariant-loop-i : goal.invariant-loop-i
-invariant-loop-i l = (l.i ≤ QUEUE) × (l.numbers ≡ copied zeros (numbers_of l.queue) (2 * l.i + 1))
+invariant-loop-i l = l.numbers ≡ copied zeros (numbers_of l.queue) (2 * l.i + 1)
 
-abbrev pub decreases-loop-i : goal.decreases-loop-i
-decreases-loop-i l = QUEUE - l.i
