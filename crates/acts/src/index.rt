@@ -45,7 +45,7 @@ fn owner_at(chart: &[i32], i: usize) -> Owner
 
 // From the last row up: the row's next one is its owner's first so far, and it becomes the first.
 #[tactic(auto, using(chart_rows::proofs::Rows::actions_most))]
-pub fn index_of(chart: &[i32]) -> [u16; INDEX]
+fn index_of(chart: &[i32]) -> [u16; INDEX]
     requires { Ruled chart.now }
     ensures { Indexed (chart_of chart.now) result }
 {
@@ -59,28 +59,6 @@ pub fn index_of(chart: &[i32]) -> [u16; INDEX]
         index[at] = rows as u16;
     }
     index
-}
-
-// The owner's first row; one past the rows where there is none.
-pub fn first_row(chart: &[i32], index: &[u16; INDEX], owner: Owner) -> usize
-    requires { Prepared chart.now index.now × Fits owner }
-    ensures { result ≡ row_from (chart_of chart.now) owner 0 }
-{
-    let at = key_of(owner);
-    let n = action_count(chart);
-    let rows = index[at] as usize;
-    n - rows
-}
-
-// The next row of the same owner after row i.
-pub fn next_row(chart: &[i32], index: &[u16; INDEX], i: usize) -> usize
-    requires { Prepared chart.now index.now × (i < length (chart_of chart.now).actions) }
-    ensures { result ≡ row_from (chart_of chart.now)
-        (get_or (chart_of chart.now).actions i no_action).owner (suc i) }
-{
-    let n = action_count(chart);
-    let rows = index[OWNERS + i] as usize;
-    n - rows
 }
 
 // A chart that passes the rules, with the index of its actions: what the functions that run a chart's actions take.
