@@ -1,5 +1,5 @@
 -- Document 01, "One reaction", the queue: what append and remove give on every queue, and which events wait in it.
-use Rattle.std.specs.Prelude.{Option, None, Some, Result, Ok, Err, Bool, true, false, cond, List, [], ◌∷◌, ◌++◌, ℕ, ◌+◌, ◌-◌, ltb, eqb, ℤ, pos, length, get_or, set, take, drop, replicate}
+use Rattle.std.specs.Prelude.{Option, None, Some, Result, Ok, Err, Bool, true, false, cond, List, [], ◌∷◌, ◌++◌, ◌+◌, ◌-◌, ltb, eqb, ℤ, pos, length, get_or, set, take, drop, replicate}
 use Rattle.sizes.specs.Sizes.{QUEUE}
 use Rattle.queue.specs.declared.Item.{Item}
 use Rattle.queue.specs.declared.Queue.{Queue}

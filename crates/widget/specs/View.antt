@@ -2,7 +2,8 @@
 -- these say in the words of the definitions (01, "One reaction"); and the one form in which every step function of the code is promised:
 -- what it leaves behind is what the step gives. Assumes nothing.
 use Rattle.std.specs.Prelude.{◌≡◌, ℕ, ◌-◌, ◌≤◌, List, length, take, leb, ℤ, IfOk, Result, Ok, Err}
-use Rattle.meaning.specs.Answers.{Refusal, number_by, NO_ROOM}
+use Rattle.meaning.specs.Answers.{number_by, NO_ROOM}
+use Rattle.meaning.specs.declared.answers.Refusal.{Refusal}
 use Rattle.meaning.specs.declared.State.{State}
 use Rattle.meaning.specs.Steps.{Res, ok, refuse, Step, ◌then◌, require}
 use Rattle.meaning.specs.Widget.{Ctx, add_numbers, ENTRY}
@@ -24,7 +25,7 @@ went (Err e) u trace = refuse (number_by e)
 -- place stays within the lent slice, whose length never changes
 pub record Did (D : Step Ctx) (u : State) (trace : List ℤ) (at : ℕ) (r : Result ℕ Refusal) (u' : State) (trace' : List ℤ) : Type 0 where
   pub does : went r u' trace' ≡ D (ctx u trace at)
-  pub fits : (n : ℕ) → r ≡ Ok n → n ≤ length trace'
+  pub fits : IfOk r (λ n. n ≤ length trace')
   pub kept : length trace' ≡ length trace
 
 -- between two steps: what the step E gives from here is what the step D gives from the start
@@ -40,5 +41,5 @@ note ns k = (require NO_ROOM (leb ENTRY k.room) then add_numbers ns) k
 -- the promise of writing an entry, of whatever state
 pub record Noted (ns : List ℤ) (trace : List ℤ) (at : ℕ) (r : Result ℕ Refusal) (trace' : List ℤ) : Type 0 where
   pub does : (u : State) → went r u trace' ≡ note ns (ctx u trace at)
-  pub fits : (n : ℕ) → r ≡ Ok n → n ≤ length trace'
+  pub fits : IfOk r (λ n. n ≤ length trace')
   pub kept : length trace' ≡ length trace
