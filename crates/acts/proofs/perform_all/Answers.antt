@@ -1,17 +1,15 @@
 -- `perform_all` performs the acts of the owner's rows, in their order, going from row to row by the index. Assumes nothing.
-use Prim.Native.Nat.{◌<◌}
-use lib.ListN.{length}
+use Rattle.std.proofs.Common.{◌≡◌, Err, rules}
 use native.Mathlib.Omega.{arith}
 use mir.Facts.{to_z-of_z}
-use Rattle.meaning.specs.Value.{chart_of}
 use Rattle.acts.proofs.Acting.{acting_begin, acting_stop, acting_on, acting_later, acting_end, row_named}
 use Rattle.acts.proofs.perform_all.Goals as goal
 
 pub loop-i-init : goal.loop-i-init
 loop-i-init c = acting_begin _ c.first_row-i.ensures c.requires.0
 
-pub perform-next-requires : goal.perform-next-requires
-perform-next-requires c = (
+pub perform-requires : goal.perform-requires
+perform-requires c = (
   row_named _ c.args.c.now.prepared.ruled c.loop-i.i
       (omega (arith, c.loop-i-test.true, c.action_count-n.ensures)) _ c.action_row-row.ensures,
   c.loop-i.invariant.owes.fits,
@@ -19,10 +17,11 @@ perform-next-requires c = (
 
 pub returns-in_err-next : goal.returns-in_err-next
 returns-in_err-next c =
-    rw (to_z-of_z c.ranges.arg) at
+    let q : c.from_residual.result ≡ Err c.in_err-next.field-0.0 = search rules in
+    rw q (rw (to_z-of_z c.ranges.arg) at
     (acting_stop c.loop-i.invariant
     (omega (arith, c.loop-i-test.true, c.action_count-n.ensures)) c.action_row-row.ensures
-    c.act_var.ensures c.var_row-bounds.ensures c.in_err-next.ensures)
+    c.act_var.ensures c.var_row-bounds.ensures c.in_err-next.ensures))
 
 pub next_row-i-requires : goal.next_row-i-requires
 next_row-i-requires c = omega (arith, c.loop-i-test.true, c.action_count-n.ensures)
