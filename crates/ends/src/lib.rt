@@ -23,12 +23,7 @@ pub fn refuse(why: Refusal, state: State, trace: &mut [i32]) -> Called
 }
 
 // The end of a call whose steps went so, over the widget's state after them. No place is given with a step's refusal.
-pub fn finish(
-    state: State,
-    went: Result<usize, Refusal>,
-    after: State,
-    trace: &mut [i32],
-) -> Called
+pub fn finish(state: State, went: Result<usize, Refusal>, after: State, trace: &mut [i32]) -> Called
     requires { IfOk went (λ at. at ≤ length trace.old) }
     ensures { (result ≡ called (outcome state (gone went after trace.old)))
         × (trace.new ≡ lent (length trace.old) (outcome state (gone went after trace.old))) }

@@ -1,7 +1,5 @@
 -- `refuse` zeroes the lent trace. Assumes nothing.
-use mathlib.Core.Path.{ap, ◌∙◌}
 use Rattle.meaning.specs.Answers.{number_by, place_by}
-use Rattle.meaning.specs.Calls.{called, as_found}
 use Rattle.ends.proofs.Ending.{cleared}
 use Rattle.ends.proofs.refuse.Goals as goal
 
