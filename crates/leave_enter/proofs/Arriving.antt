@@ -84,32 +84,29 @@ module _ (c : Chart) (arg : ℤ) (x : Visit) where
     arrived (Towards (Target t)) b o d = owes_on _ o d
     arrived (Towards (Owner b)) l o d = go (eqb i b) refl
       where
-        abbrev sl : List ℤ
-        sl = u₁.slots
-
-        due : Owes D u₀ t₀ at₀ (when (eqb (state_of x) b) (restore c arg b) then (descent c arg sl (Towards (Owner b)) i then R)) u₁ t₁ at₁
+        due : Owes D u₀ t₀ at₀ (when (eqb (state_of x) b) (restore c arg b) then (descent c arg u₁.slots (Towards (Owner b)) i then R)) u₁ t₁ at₁
         due = owes_on _ (owes_regroup (visit c arg x) (when (eqb (state_of x) b) (restore c arg b))
-            (descent c arg sl (Towards (Owner b)) i then R) o) d
+            (descent c arg u₁.slots (Towards (Owner b)) i then R) o) d
 
         here : (eqb i b ≡ true) → i ≡ b
         here e = eqb-true i b e
 
-        restoring : eqb i b ≡ true → (descent c arg sl (restored (slot_of sl i)) i then R) (ctx u₁ t₁ at₁)
-            ≡ (restore c arg b then (descent c arg sl (Towards (Owner b)) i then R)) (ctx u₁ t₁ at₁)
+        restoring : eqb i b ≡ true → (descent c arg u₁.slots (restored (slot_of u₁.slots i)) i then R) (ctx u₁ t₁ at₁)
+            ≡ (restore c arg b then (descent c arg u₁.slots (Towards (Owner b)) i then R)) (ctx u₁ t₁ at₁)
         restoring e = subst
-            (λ j. bind (descent c arg sl (restored (slot_of sl j)) j (ctx u₁ t₁ at₁)) R
-            ≡ bind (restore c arg b (ctx u₁ t₁ at₁)) (λ k. bind (descent c arg sl (Towards (Owner b)) j k) R))
+            (λ j. bind (descent c arg u₁.slots (restored (slot_of u₁.slots j)) j (ctx u₁ t₁ at₁)) R
+            ≡ bind (restore c arg b (ctx u₁ t₁ at₁)) (λ k. bind (descent c arg u₁.slots (Towards (Owner b)) j k) R))
             (sym (here e))
             (ap (λ y. bind y R) (restores c arg b u₁ t₁ at₁)
             ∙ bind_cong (restore c arg b (ctx u₁ t₁ at₁))
             (λ k. sym (ap (λ ys. bind (each (visit_towards c arg b) ys k) R) (nothing_below c arg b l.1))))
 
         Then : Course → Type 0
-        Then y = Owes D u₀ t₀ at₀ (descent c arg sl y i then R) u₁ t₁ at₁
+        Then y = Owes D u₀ t₀ at₀ (descent c arg u₁.slots y i then R) u₁ t₁ at₁
 
-        go : (y : Bool) → eqb i b ≡ y → Then (cond (eqb i b) (restored (slot_of sl i)) (Towards (Owner b)))
-        go true e = subst (λ y. Then (cond y (restored (slot_of sl i)) (Towards (Owner b)))) (sym e)
-            (owes_as (descent c arg sl (restored (slot_of sl i)) i then R) (owes_when (restore c arg b) _ due (ap (λ j. eqb j b) n ∙ e))
+        go : (y : Bool) → eqb i b ≡ y → Then (cond (eqb i b) (restored (slot_of u₁.slots i)) (Towards (Owner b)))
+        go true e = subst (λ y. Then (cond y (restored (slot_of u₁.slots i)) (Towards (Owner b)))) (sym e)
+            (owes_as (descent c arg u₁.slots (restored (slot_of u₁.slots i)) i then R) (owes_when (restore c arg b) _ due (ap (λ j. eqb j b) n ∙ e))
             (restoring e))
-        go false e = subst (λ y. Then (cond y (restored (slot_of sl i)) (Towards (Owner b)))) (sym e)
+        go false e = subst (λ y. Then (cond y (restored (slot_of u₁.slots i)) (Towards (Owner b)))) (sym e)
             (owes_pass (restore c arg b) _ due (ap (λ j. eqb j b) n ∙ e))

@@ -98,7 +98,7 @@ module _ (c : Chart) (arg : ℤ) (course : Course) (next : Way) (s end : ℕ) {u
       unfolding rest
       going_skip n = record { same = h.same; owes = left (sym (range_skip _ (is_child c s) i end l n)) }
 
-      module _ (n : is_child c s i ≡ true) {u₂ : State} {t₂ : List ℤ} where
+      module _ (n : is_child c s i ≡ true) where
         -- what follows the visit, by these slots
         after : List ℤ → Step Ctx
         after sl = descent c arg sl course i then rest c arg u.slots course next s end (i + 1)
@@ -110,14 +110,14 @@ module _ (c : Chart) (arg : ℤ) (course : Course) (next : Way) (s end : ℕ) {u
             (all_below c (course_way c u.slots course) i) _ (ctx u₁ t₁ at₁)))
 
         -- the visit refuses
-        pub going_stop : {r : Refusal} → Did (arrival c arg course (visited c next s i)) u₁ t₁ at₁ (Err r) u₂ t₂
+        pub going_stop : {r : Refusal} {u₂ : State} {t₂ : List ℤ} → Did (arrival c arg course (visited c next s i)) u₁ t₁ at₁ (Err r) u₂ t₂
             → Did (descent c arg u.slots course s) u t at (Err r) u₂ t₂
         going_stop g = owes_stop (after u.slots) due (refused c arg (visited c next s i) course g)
 
-        module _ {at₂ : ℕ} (g : Did (arrival c arg course (visited c next s i)) u₁ t₁ at₁ (Ok at₂) u₂ t₂) (b : Bound c course)
-            {o : Course} (f : o ≡ onward_from u₂.slots course i) {u₃ : State} {t₃ : List ℤ} where
+        module _ {u₂ : State} {t₂ : List ℤ} {at₂ : ℕ} (g : Did (arrival c arg course (visited c next s i)) u₁ t₁ at₁ (Ok at₂) u₂ t₂) (b : Bound c course)
+            {o : Course} (f : o ≡ onward_from u₂.slots course i) where
           still : u₂.slots ≡ u.slots
-          still = arrival_same c arg course g ∙ h.same
+          still = arrival_same c arg course _ g ∙ h.same
 
           entered : Owes (descent c arg u.slots course s) u t at
               (descent c arg u₂.slots o i then rest c arg u.slots course next s end (i + 1)) u₂ t₂ at₂
@@ -129,10 +129,10 @@ module _ (c : Chart) (arg : ℤ) (course : Course) (next : Way) (s end : ℕ) {u
               u₁ t₁ at₁) (sym still) due) g)
 
           -- something below it refuses
-          pub going_stop_below : {r : Refusal} → Did (descent c arg u₂.slots o i) u₂ t₂ at₂ (Err r) u₃ t₃
+          pub going_stop_below : {r : Refusal} {u₃ : State} {t₃ : List ℤ} → Did (descent c arg u₂.slots o i) u₂ t₂ at₂ (Err r) u₃ t₃
               → Did (descent c arg u.slots course s) u t at (Err r) u₃ t₃
           going_stop_below d = owes_stop _ entered d
 
-          pub going_on : {at₃ : ℕ} → Did (descent c arg u₂.slots o i) u₂ t₂ at₂ (Ok at₃) u₃ t₃
+          pub going_on : {at₃ : ℕ} {u₃ : State} {t₃ : List ℤ} → Did (descent c arg u₂.slots o i) u₂ t₂ at₂ (Ok at₃) u₃ t₃
               → Going c arg course next s end u t at (i + 1) u₃ t₃ at₃
-          going_on d = record { same = descent_same c arg o d ∙ still; owes = owes_on _ entered d }
+          going_on d = record { same = descent_same c arg o _ d ∙ still; owes = owes_on _ entered d }

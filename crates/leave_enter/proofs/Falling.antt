@@ -1,6 +1,6 @@
 -- The laws by which `leave_below` meets its promise: the descendants of a state are left from the last number down. Assumes nothing.
 use Rattle.std.specs.Prelude.{Result, Ok, Err}
-use mathlib.Core.Path.{◌≡◌, refl, sym, ap, subst, ◌∙◌}
+use mathlib.Core.Path.{◌≡◌, sym, ap, subst, ◌∙◌}
 use Prim.Native.Nat.{ℕ, suc, ◌+◌, ◌-◌, ◌≤◌, ◌<◌}
 use mathlib.Core.Bool.{true, false}
 use mathlib.Core.List.{List, ◌∷◌, reverse, reverse-append}

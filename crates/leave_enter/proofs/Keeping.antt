@@ -8,8 +8,8 @@ use Rattle.laws.proofs.Stays.{Stays, then_stays, each_stays_all, look_stays, whe
 use Rattle.invariants.proofs.Keeps.{Outside, holds_of, visit_leads}
 use Rattle.meaning.specs.Chart.{Chart}
 use Rattle.meaning.specs.declared.State.{State}
-use Rattle.meaning.specs.Entry.{Visit, Way, all_below, by_defaults, by_slots, restore, restore_by, revisit, visit, visit_towards}
-use Rattle.meaning.specs.Steps.{Step, each}
+use Rattle.meaning.specs.Entry.{Visit, all_below, by_defaults, by_slots, restore, restore_by, revisit, visit, visit_towards}
+use Rattle.meaning.specs.Steps.{each}
 use Rattle.meaning.specs.Widget.{Ctx, set_active, set_queue, set_value, slot}
 use Rattle.widget.specs.View.{ctx, Did}
 use Rattle.tree.specs.Courses.{course_visit, arrival}
@@ -62,11 +62,15 @@ module _ (sl : List ℤ) where
     arrival_slots (Towards goal) = visit_slots
 
 module _ (c : Chart) (arg : ℤ) (course : Course) {u : State} {t : List ℤ} {at n : ℕ} {u₁ : State} {t₁ : List ℤ} where
-  pub arrival_same : {x : Visit} → Did (arrival c arg course x) u t at (Ok n) u₁ t₁ → u₁.slots ≡ u.slots
+  pub arrival_same : (x : Visit) → Did (arrival c arg course x) u t at (Ok n) u₁ t₁ → u₁.slots ≡ u.slots
   unfolding ctx
-  arrival_same {x} d = did_keeps (Slotted u.slots) (arrival_slots u.slots c arg course x) d refl
+  arrival_same x d = did_keeps (Slotted u.slots) (arrival_slots u.slots c arg course x) d refl
 
-  pub descent_same : {xs : List Visit} → Did (each (course_visit c arg course) xs) u t at (Ok n) u₁ t₁ → u₁.slots ≡ u.slots
+  pub visit_same : (x : Visit) → Did (visit c arg x) u t at (Ok n) u₁ t₁ → u₁.slots ≡ u.slots
   unfolding ctx
-  descent_same {xs} d = did_keeps (Slotted u.slots)
+  visit_same x d = did_keeps (Slotted u.slots) (visit_slots u.slots c arg x) d refl
+
+  pub descent_same : (xs : List Visit) → Did (each (course_visit c arg course) xs) u t at (Ok n) u₁ t₁ → u₁.slots ≡ u.slots
+  unfolding ctx
+  descent_same xs d = did_keeps (Slotted u.slots)
       (each_stays_all (Slotted u.slots) (course_visit c arg course) (course_slots u.slots c arg course) xs) d refl

@@ -55,7 +55,7 @@ fn arrive(
     trace: &mut [i32],
     at: usize,
 ) -> Result<usize, Refusal>
-    requires { (s < states) × (at ≤ length trace.old) × (p < states) }
+    requires { (s < states) × (length widget.old.slots ≡ states) × (at ≤ length trace.old) × (p < states) }
     ensures { Did (arrival (chart_of c.now.chart.now)
         arg course (visit_as (defaulting (kind_in (chart_of c.now.chart.now) p) (way_by next)) p s))
         widget.old trace.old at result widget.new trace.new }
