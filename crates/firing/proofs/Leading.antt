@@ -14,7 +14,6 @@ use Rattle.sizes.specs.Sizes.{STATES}
 use Rattle.numbers.specs.Place.{place_of}
 use Rattle.laws.proofs.Lists.{each_reversed, same_or}
 use Rattle.laws.proofs.Sound.{SoundChart, parent_child}
-use Rattle.laws.proofs.Steps.{Holds}
 use Rattle.invariants.proofs.GoodReaction.{descendants_inside}
 use Rattle.laws.proofs.Stays.{Stays, each_stays, look_stays, then_stays, when_stays}
 use Rattle.invariants.proofs.Keeps.{Outside, acts_keep, change_leads, emit_keeps, holds_of, then_leads}

@@ -3,7 +3,6 @@ use Rattle.std.specs.Prelude.{Option, None, Some, Result, Ok}
 use mathlib.Core.Path.{◌≡◌, refl, sym, ap, subst, ◌∙◌}
 use native.Mathlib.Omega.{arith}
 use Prim.Native.Nat.{ℕ, ◌<◌}
-use mathlib.Core.Bool.{Bool}
 use mathlib.Core.List.{List}
 use lib.ListN.{length}
 use lib.IntN.{ℤ}
@@ -15,9 +14,8 @@ use Rattle.meaning.specs.declared.chart.Owner.TheVariants.{TransitionOf as trans
 use Rattle.meaning.specs.declared.chart.Target.{Target}
 use Rattle.meaning.specs.declared.chart.TransRow.{TransRow}
 use Rattle.meaning.specs.Effects.{perform_all}
-use Rattle.meaning.specs.Entry.{all_below}
 use Rattle.meaning.specs.Reaction.{fire, fire_to, leave_all}
-use Rattle.meaning.specs.Steps.{Step, ◌then◌, each}
+use Rattle.meaning.specs.Steps.{Step}
 use Rattle.meaning.specs.Tree.{descendants, scope, trans_row}
 use Rattle.meaning.specs.Value.{chart_of}
 use Rattle.meaning.specs.Widget.{Ctx, emit}
@@ -29,7 +27,7 @@ use Rattle.meaning.specs.declared.answers.Refusal.{Refusal}
 use Rattle.widget.specs.View.{Did}
 use Rattle.widget.proofs.Going.{then_on}
 use Rattle.tree.specs.Aims.{aim_by, aimed_at, top_of, Found}
-use Rattle.tree.specs.Courses.{goal_way, goal_visit, Inside, Owned, Led}
+use Rattle.tree.specs.Courses.{Inside, Owned, Led}
 use Rattle.tree.specs.declared.ways.Goal.{Goal}
 use Rattle.tree.proofs.Aiming.{goes_by, stays_by, goal_facts, goal_bound}
 use Rattle.firing.specs.Moving.{moving}
