@@ -62,6 +62,7 @@ fn index_of(chart: &[i32]) -> [u16; INDEX]
 }
 
 // A chart that passes the rules, with the index of its actions: what the functions that run a chart's actions take.
+#[derive(Drop)]
 pub struct Runnable<'a> {
     pub chart: &'a [i32],
     pub index: [u16; INDEX],
