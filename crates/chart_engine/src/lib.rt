@@ -10,7 +10,7 @@ ghost use Rattle.promises.specs.Promises.{Checked, Read, Wrote, Unstarted, Start
 
 use checked::{discard_checked, post_checked, run_checked, start_checked};
 use ends::refuse;
-use meaning::answers::RULE_FAILS;
+use meaning::answers::{RULE_FAILS, Refusal};
 use meaning::{Answer, Called, State, Written};
 use queue::Queue;
 use queue_calls::answers::refused;
@@ -85,7 +85,7 @@ pub fn start(chart: &[i32], state: State, trace: &mut [i32]) -> Called
 {
     let verdict = check(chart);
     if verdict.number != 0 { // "chart 3 .. first"
-        return refuse(RULE_FAILS, verdict.place, state, trace); // before the first refusal met
+        return refuse(Refusal::RuleFails(verdict.place), state, trace); // before the first refusal met
     }
     start_checked(chart, state, trace)
 }
@@ -96,7 +96,7 @@ pub fn run(chart: &[i32], state: State, trace: &mut [i32]) -> Called
 {
     let verdict = check(chart);
     if verdict.number != 0 {
-        return refuse(RULE_FAILS, verdict.place, state, trace); // before 7, 6, 8
+        return refuse(Refusal::RuleFails(verdict.place), state, trace); // before 7, 6, 8
     }
     run_checked(chart, state, trace)
 }

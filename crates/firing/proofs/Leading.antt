@@ -1,6 +1,6 @@
 -- A firing keeps every slot empty or holding a child of its state: leaving stores a state in its own parent, and nothing else changes a
 -- slot. Assumes nothing.
-use Rattle.std.specs.Prelude.{None, Some}
+use Rattle.std.specs.Prelude.{None, Some, Ok}
 use mathlib.Core.Path.{◌≡◌, refl, sym, ap, subst, ◌∙◌}
 use mathlib.Core.Logic.{⊎_elim}
 use Prim.Native.Nat.{ℕ, zero, suc, ◌≤◌, ◌<◌}
@@ -14,7 +14,6 @@ use Rattle.sizes.specs.Sizes.{STATES}
 use Rattle.numbers.specs.Place.{place_of}
 use Rattle.laws.proofs.Lists.{each_reversed, same_or}
 use Rattle.laws.proofs.Sound.{SoundChart, parent_child}
-use Rattle.laws.proofs.Steps.{Holds}
 use Rattle.invariants.proofs.GoodReaction.{descendants_inside}
 use Rattle.laws.proofs.Stays.{Stays, each_stays, look_stays, then_stays, when_stays}
 use Rattle.invariants.proofs.Keeps.{Outside, acts_keep, change_leads, emit_keeps, holds_of, then_leads}
@@ -29,8 +28,8 @@ use Rattle.meaning.specs.Reaction.{leave_active, leave_all}
 use Rattle.meaning.specs.Steps.{Step}
 use Rattle.meaning.specs.Tree.{descendants, is_child, is_o, kind_of, parent_of}
 use Rattle.meaning.specs.Widget.{Ctx, is_active, set_active, set_queue, set_slot, set_value}
-use Rattle.widget.specs.declared.Went.{Went}
-use Rattle.widget.specs.View.{Lent, Whole, ctx, tracing, said, went, Did}
+use Rattle.widget.specs.View.{ctx, Did}
+use Rattle.acts.proofs.Marking.{did_keeps}
 use Rattle.tree.specs.Courses.{slot_of, Led}
 
 -- the slots of a state of the chart's own (answer 6) are such
@@ -68,7 +67,7 @@ module _ (c : Chart) (h : SoundChart c) (small : length c.states ≤ STATES) (a 
   unfolding set_value set_queue
   outside = record { values = λ u v x l. l; queue = λ u q l. l }
 
-  acts_led : (o : Owner) → Stays (LeadsOn c) (perform_all c a o)
+  pub acts_led : (o : Owner) → Stays (LeadsOn c) (perform_all c a o)
   acts_led o k l = holds_of (LeadsOn c) (perform_all c a o k) (acts_keep (LedState c) outside c a o k l)
 
   stored_led : (s : ℕ) → s < length c.states → (u : State) → LedState c u
@@ -101,9 +100,7 @@ module _ (c : Chart) (h : SoundChart c) (small : length c.states ≤ STATES) (a 
 
 -- ---- after a function that did such a step
 
-pub led_after : (c : Chart) {F : Step Ctx} → Stays (LeadsOn c) F → {k : Lent} {at : ℕ} {r : Went} {k₁ : Lent} → Did F k at r k₁
-    → Whole k → r.number ≡ 0
-    → Led c k.slots → Led c k₁.slots
-unfolding went said ctx tracing
-led_after c f {k} {at} {r} {k₁} d h z l = subst (λ x. Holds x (LeadsOn c)) (sym (d.does h)
-    ∙ ap (λ n. said n (ctx k₁ r.at)) z) (f (ctx k at) l)
+pub led_after : (c : Chart) {F : Step Ctx} → Stays (LeadsOn c) F → {u : State} {t : List ℤ} {at n : ℕ} {u₁ : State} {t₁ : List ℤ}
+    → Did F u t at (Ok n) u₁ t₁ → Led c u.slots → Led c u₁.slots
+unfolding ctx
+led_after c f d l = did_keeps (LeadsOn c) f d l

@@ -1,9 +1,8 @@
 -- The laws by which `move_to` and `fire` meet their promises. Assumes nothing.
-use Rattle.std.specs.Prelude.{Option, None, Some}
+use Rattle.std.specs.Prelude.{Option, None, Some, Result, Ok}
 use mathlib.Core.Path.{◌≡◌, refl, sym, ap, subst, ◌∙◌}
 use native.Mathlib.Omega.{arith}
 use Prim.Native.Nat.{ℕ, ◌<◌}
-use mathlib.Core.Bool.{Bool}
 use mathlib.Core.List.{List}
 use lib.ListN.{length}
 use lib.IntN.{ℤ}
@@ -15,55 +14,35 @@ use Rattle.meaning.specs.declared.chart.Owner.TheVariants.{TransitionOf as trans
 use Rattle.meaning.specs.declared.chart.Target.{Target}
 use Rattle.meaning.specs.declared.chart.TransRow.{TransRow}
 use Rattle.meaning.specs.Effects.{perform_all}
-use Rattle.meaning.specs.Entry.{all_below}
 use Rattle.meaning.specs.Reaction.{fire, fire_to, leave_all}
-use Rattle.meaning.specs.Steps.{Step, ◌then◌, each}
+use Rattle.meaning.specs.Steps.{Step}
 use Rattle.meaning.specs.Tree.{descendants, scope, trans_row}
 use Rattle.meaning.specs.Value.{chart_of}
 use Rattle.meaning.specs.Widget.{Ctx, emit}
 use Rattle.meaning.specs.declared.Entry.TheVariants.{Taken as taken}
 use Rattle.meaning.specs.Rules.{Ruled}
 use Rattle.tree.proofs.Passing.{sound}
-use Rattle.widget.specs.declared.Went.{Went}
-use Rattle.widget.specs.View.{Lent, all_lent, with_vars, with_queue, with_trace, Whole, Within, Did}
-use Rattle.widget.proofs.Going.{then_on, then_stop}
+use Rattle.meaning.specs.declared.State.{State}
+use Rattle.meaning.specs.declared.answers.Refusal.{Refusal}
+use Rattle.widget.specs.View.{Did}
+use Rattle.widget.proofs.Going.{then_on}
 use Rattle.tree.specs.Aims.{aim_by, aimed_at, top_of, Found}
-use Rattle.tree.specs.Courses.{goal_way, goal_visit, Inside, Owned, Led}
+use Rattle.tree.specs.Courses.{Inside, Owned, Led}
 use Rattle.tree.specs.declared.ways.Goal.{Goal}
 use Rattle.tree.proofs.Aiming.{goes_by, stays_by, goal_facts, goal_bound}
 use Rattle.firing.specs.Moving.{moving}
-use Rattle.firing.proofs.Leading.{leave_all_led, led_after}
+use Rattle.firing.proofs.Leading.{acts_led, leave_all_led, led_after}
 
--- ---- leaving, the actions, the way down
+-- ---- after leaving, and after the transition's actions, the slots still lead to children
 
-module _ (c : Chart) (arg : ℤ) (n : ℕ) (goal : Goal) (s : ℕ) {k : Lent} {at : ℕ} {r : Went} {a₁ : List Bool} {sl₁ v₁ q₁ t₁ : List ℤ}
-    (d : Did (leave_all c arg (descendants c s)) k at r (all_lent a₁ sl₁ v₁ q₁ t₁)) where
-  pub moved_stop : (r.number ≡ 0 → ⊥) → Did (moving c arg n goal s) k at r (all_lent a₁ sl₁ v₁ q₁ t₁)
-  unfolding moving
-  moved_stop z = then_stop _ d z
+module _ (w : List ℤ) (f : Ruled w) (arg : ℤ) {u : State} {t : List ℤ} {at m : ℕ} {u₁ : State} {t₁ : List ℤ} where
+  pub left_led : (s : ℕ) → Did (leave_all (chart_of w) arg (descendants (chart_of w) s)) u t at (Ok m) u₁ t₁
+      → Led (chart_of w) u.slots → Led (chart_of w) u₁.slots
+  left_led s d l = led_after (chart_of w) (leave_all_led (chart_of w) (sound w f) (states_most w) arg s) d l
 
-  module _ (z : r.number ≡ 0) {x : Went} {v₂ q₂ t₂ : List ℤ}
-      (g : Within t₁ x t₂ × ((k : Lent)
-      → Did (perform_all c arg (transition_of n)) (with_vars v₁ (with_queue q₁ (with_trace t₁ k))) r.at x (with_vars v₂
-      (with_queue q₂ (with_trace t₂ k))))) where
-    acted : Did (perform_all c arg (transition_of n)) (all_lent a₁ sl₁ v₁ q₁ t₁) r.at x (all_lent a₁ sl₁ v₂ q₂ t₂)
-    acted = g.1 (all_lent a₁ sl₁ v₁ q₁ t₁)
-
-    pub moved_stop_acts : (x.number ≡ 0 → ⊥) → Did (moving c arg n goal s) k at x (all_lent a₁ sl₁ v₂ q₂ t₂)
-    unfolding moving
-    moved_stop_acts y = then_on d z (then_stop _ acted y)
-
-    pub moved_on : x.number ≡ 0 → {y : Went} {k₃ : Lent}
-        → Did (each (goal_visit c arg goal) (all_below c (goal_way c goal) s)) (all_lent a₁ sl₁ v₂ q₂ t₂) x.at y k₃
-        → Did (moving c arg n goal s) k at y k₃
-    unfolding moving
-    moved_on u h = then_on d z (then_on acted u h)
-
--- after leaving, the slots still lead to children
-pub left_led : (w : List ℤ) → Ruled w → (arg : ℤ) (s : ℕ) {k : Lent} {at : ℕ} {r : Went} {k₁ : Lent}
-    → Did (leave_all (chart_of w) arg (descendants (chart_of w) s)) k at r k₁
-    → Whole k → r.number ≡ 0 → Led (chart_of w) k.slots → Led (chart_of w) k₁.slots
-left_led w f arg s d h z l = led_after (chart_of w) (leave_all_led (chart_of w) (sound w f) (states_most w) arg s) d h z l
+  pub acted_led : (n : ℕ) → Did (perform_all (chart_of w) arg (transition_of n)) u t at (Ok m) u₁ t₁
+      → Led (chart_of w) u.slots → Led (chart_of w) u₁.slots
+  acted_led n d l = led_after (chart_of w) (acts_led (chart_of w) (sound w f) (states_most w) arg (transition_of n)) d l
 
 -- ---- a transition that leads somewhere: what choosing found out of it is its scope
 
@@ -101,28 +80,19 @@ module _ (w : List ℤ) (f : Ruled w) (n : ℕ) (l : n < length (chart_of w).tra
 
 -- ---- firing
 
-module _ (c : Chart) (arg : ℤ) (n : ℕ) (a : List Bool) (sl v q : List ℤ) {t : List ℤ} {at : ℕ} {r : Went} {t₁ : List ℤ}
-    (w : Within t r t₁ × ((k : Lent) → Did (emit (taken n)) (with_trace t k) at r (with_trace t₁ k))) where
-  noted : Did (emit (taken n)) (all_lent a sl v q t) at r (all_lent a sl v q t₁)
-  noted = w.1 (all_lent a sl v q t)
-
-  pub fired_stop : (r.number ≡ 0 → ⊥) → Did (fire c arg n) (all_lent a sl v q t) at r (all_lent a sl v q t₁)
+module _ (c : Chart) (arg : ℤ) (n : ℕ) {u : State} {t : List ℤ} {at m : ℕ} {t₁ : List ℤ} (w : Did (emit (taken n)) u t at (Ok m) u t₁)
+    (row : TransRow) (e : row ≡ trans_row c n) {aim : Option Goal} (q : aim ≡ aim_by row.target) where
+  fired_as : {E : Step Ctx} {r : Result ℕ Refusal} {u₂ : State} {t₂ : List ℤ} → E ≡ fire_to c arg n row.source row.target
+      → Did E u t₁ m r u₂ t₂ → Did (fire c arg n) u t at r u₂ t₂
   unfolding fire
-  fired_stop z = then_stop _ noted z
+  fired_as {r = r} {u₂ = u₂} {t₂ = t₂} p d = then_on w
+      (subst (λ F. Did F u t₁ m r u₂ t₂) (p ∙ ap (λ x. fire_to c arg n x.source x.target) e) d)
 
-  module _ (z : r.number ≡ 0) (row : TransRow) (e : row ≡ trans_row c n) {aim : Option Goal}
-      (m : aim ≡ aim_by row.target) {y : Went} {k₂ : Lent} where
-    fired_as : {E : Step Ctx} → E ≡ fire_to c arg n row.source row.target → Did E (all_lent a sl v q t₁) r.at y k₂
-        → Did (fire c arg n) (all_lent a sl v q t) at y k₂
-    unfolding fire
-    fired_as p d = then_on noted z
-        (subst (λ F. Did F (all_lent a sl v q t₁) r.at y k₂) (p ∙ ap (λ x. fire_to c arg n x.source x.target) e) d)
+  pub fired_goes : {goal : Goal} {r : Result ℕ Refusal} {u₂ : State} {t₂ : List ℤ} → aim ≡ Some goal → {top end : ℕ} → Found c n top end
+      → Did (moving c arg n goal top) u t₁ m r u₂ t₂ → Did (fire c arg n) u t at r u₂ t₂
+  fired_goes {goal} o h d = fired_as (ap (moving c arg n goal) (is_scope c n row e q o h)
+      ∙ sym (fire_goes c arg n row.source row.target goal (sym q ∙ o))) d
 
-    pub fired_goes : {goal : Goal} → aim ≡ Some goal → {top end : ℕ} → Found c n top end
-        → Did (moving c arg n goal top) (all_lent a sl v q t₁) r.at y k₂ → Did (fire c arg n) (all_lent a sl v q t) at y k₂
-    fired_goes {goal} o h d = fired_as (ap (moving c arg n goal) (is_scope c n row e m o h)
-        ∙ sym (fire_goes c arg n row.source row.target goal (sym m ∙ o))) d
-
-    pub fired_stays : aim ≡ None → Did (perform_all c arg (transition_of n)) (all_lent a sl v q t₁) r.at y k₂
-        → Did (fire c arg n) (all_lent a sl v q t) at y k₂
-    fired_stays o d = fired_as (sym (fire_stays c arg n row.source row.target (sym m ∙ o))) d
+  pub fired_stays : {r : Result ℕ Refusal} {u₂ : State} {t₂ : List ℤ} → aim ≡ None
+      → Did (perform_all c arg (transition_of n)) u t₁ m r u₂ t₂ → Did (fire c arg n) u t at r u₂ t₂
+  fired_stays o d = fired_as (sym (fire_stays c arg n row.source row.target (sym q ∙ o))) d

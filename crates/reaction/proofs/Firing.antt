@@ -1,9 +1,10 @@
 -- The loop over the chosen: what is still owed after j of them, and that the widget stays ready. Assumes nothing.
-use mathlib.Core.Path.{◌≡◌, refl, sym, ap, ◌∙◌, subst}
+use Rattle.std.specs.Prelude.{Ok, Err}
+use mathlib.Core.Path.{◌≡◌, sym, ap, ◌∙◌, subst}
 use Prim.Native.Nat.{ℕ, ◌+◌, ◌≤◌, ◌<◌}
 use native.Mathlib.Omega.{arith}
 use mathlib.Core.List.{List}
-use lib.ListN.{length, get_or, drop, take}
+use lib.ListN.{length, get_or, drop}
 use lib.Seq.{length-take-le, get_or-take}
 use lib.IntN.{ℤ}
 use Rattle.meaning.specs.Steps.{◌then◌, each}
@@ -22,18 +23,20 @@ use Rattle.meaning.specs.Rules.{Ruled}
 use Rattle.tree.proofs.On.{end_within}
 use Rattle.tree.specs.Aims.{aim_by, top_of, Found}
 use Rattle.tree.proofs.Passing.{sound}
-use Rattle.widget.specs.View.{Lent, ctx, Did, Owes}
-use Rattle.widget.specs.declared.Went.{Went}
+use Rattle.meaning.specs.declared.State.{State}
+use Rattle.meaning.specs.declared.answers.Refusal.{Refusal}
+use Rattle.widget.specs.View.{ctx, Did, Owes}
 use Rattle.widget.proofs.Going as going
 use Rattle.invariants.proofs.GoodReaction.{fire_good}
-use Rattle.choice.specs.Choice.{picked}
+use Rattle.choice.specs.Choice.{picked, PICKS}
 use Rattle.reaction.specs.Ready.{Ready, Fires}
+use Rattle.laws.proofs.Value.{SizedChart}
 use Rattle.reaction.proofs.Going.{sized, ready_next}
 
 -- how many fire, and which is the j-th
-module _ (c : Chart) (count : ℕ) (picks : List ℕ) (f : Fires c count picks) where
+module _ (c : Chart) (count : ℕ) (picks : List ℕ) (f : Fires c count picks) (size : length picks ≡ PICKS) where
   pub fires_long : length (picked count picks) ≡ count
-  fires_long = length-take-le count picks (omega (arith, f.few, f.size))
+  fires_long = length-take-le count picks (omega (arith, f.few, size))
 
   pub fires_at : (j : ℕ) → j < count → get_or (picked count picks) j 0 ≡ get_or picks j 0
   fires_at j l = get_or-take count picks j 0 l
@@ -59,31 +62,33 @@ carried_inside v r t l {top} h =
     let m = (sized v r).states in
     (omega arith, omega (arith, h.ends, end_within (chart_of v) (sound v r).ordered top i))
 
-pub record Firing (v : List ℤ) (arg : ℤ) (ps : List ℕ) (k : Lent) (at : ℕ) (j : ℕ) (k₁ : Lent) (at₁ : ℕ) : Type 0 where
-  pub ready : Ready v k₁ at₁
-  pub kept : length k₁.trace ≡ length k.trace
-  pub owes : Owes (each (fire (chart_of v) arg) ps) k at (each (fire (chart_of v) arg) (drop j ps)) k₁ at₁
+pub record Firing (c : Chart) (arg : ℤ) (ps : List ℕ) (u : State) (t : List ℤ) (at j : ℕ) (u₁ : State) (t₁ : List ℤ) (at₁ : ℕ)
+    : Type 0 where
+  pub ready : Ready c u₁ t₁ at₁
+  pub owes : Owes (each (fire c arg) ps) u t at (each (fire c arg) (drop j ps)) u₁ t₁ at₁
 
-module _ {v : List ℤ} {arg : ℤ} {ps : List ℕ} {k : Lent} {at : ℕ} where
-  pub firing_begin : Ready v k at → Firing v arg ps k at 0 k at
-  firing_begin h = record { ready = h; kept = refl; owes = going.owes_all h.fits }
+module _ {c : Chart} {arg : ℤ} {ps : List ℕ} {u : State} {t : List ℤ} {at : ℕ} where
+  pub firing_begin : Ready c u t at → Firing c arg ps u t at 0 u t at
+  firing_begin h = record { ready = h; owes = going.owes_all h.fits }
 
-  module _ {j : ℕ} {k₁ : Lent} {at₁ : ℕ} (h : Firing v arg ps k at j k₁ at₁) where
-    pub firing_end : length ps ≤ j → Did (each (fire (chart_of v) arg) ps) k at (record { number = 0; at = at₁ }) k₁
-    firing_end l = going.owes_none h.owes (going.each_end (fire (chart_of v) arg) ps j _ l)
+  module _ {j : ℕ} {u₁ : State} {t₁ : List ℤ} {at₁ : ℕ} (h : Firing c arg ps u t at j u₁ t₁ at₁) where
+    pub firing_end : length ps ≤ j → Did (each (fire c arg) ps) u t at (Ok at₁) u₁ t₁
+    firing_end l = going.owes_none h.owes (going.each_end (fire c arg) ps j _ l)
 
-    module _ {r : Went} {k₂ : Lent} (x : ℕ) (l : j < length ps) (e : get_or ps j 0 ≡ x) (d : Did (fire (chart_of v) arg x) k₁ at₁ r k₂) where
-      due : Owes (each (fire (chart_of v) arg) ps) k at (fire (chart_of v) arg x then each (fire (chart_of v) arg) (drop (j + 1) ps)) k₁ at₁
-      due = going.owes_as (fire (chart_of v) arg x then each (fire (chart_of v) arg) (drop (j + 1) ps)) h.owes
-          (sym (going.each_at (fire (chart_of v) arg) ps j 0 _ l
-          ∙ ap (λ y. (fire (chart_of v) arg y then each (fire (chart_of v) arg) (drop (j + 1) ps)) (ctx k₁ at₁)) e))
+    module _ (x : ℕ) (l : j < length ps) (e : get_or ps j 0 ≡ x) where
+      due : Owes (each (fire c arg) ps) u t at (fire c arg x then each (fire c arg) (drop (j + 1) ps))
+          u₁ t₁ at₁
+      due = going.owes_as (fire c arg x then each (fire c arg) (drop (j + 1) ps)) h.owes
+          (sym (going.each_at (fire c arg) ps j 0 _ l
+          ∙ ap (λ y. (fire c arg y then each (fire c arg) (drop (j + 1) ps)) (ctx u₁ t₁ at₁)) e))
 
-      pub firing_stop : (r.number ≡ 0 → ⊥) → Did (each (fire (chart_of v) arg) ps) k at r k₂
-      firing_stop z = going.owes_stop (each (fire (chart_of v) arg) (drop (j + 1) ps)) due d z
+      pub firing_stop : {r : Refusal} {u₂ : State} {t₂ : List ℤ} → Did (fire c arg x) u₁ t₁ at₁ (Err r) u₂ t₂
+          → Did (each (fire c arg) ps) u t at (Err r) u₂ t₂
+      firing_stop d = going.owes_stop (each (fire c arg) (drop (j + 1) ps)) due d
 
-      pub firing_on : x < length (chart_of v).transitions → r.number ≡ 0 → Firing v arg ps k at (j + 1) k₂ r.at
-      firing_on n z = record {
-        ready = ready_next v (fire_good (chart_of v) (sound v h.ready.ruled) (sized v h.ready.ruled) arg x n) d z h.ready;
-        kept = d.kept ∙ h.kept;
-        owes = going.owes_on (each (fire (chart_of v) arg) (drop (j + 1) ps)) due d z;
+      pub firing_on : SoundChart c → SizedChart c → x < length c.transitions → {n : ℕ} {u₂ : State} {t₂ : List ℤ}
+          → Did (fire c arg x) u₁ t₁ at₁ (Ok n) u₂ t₂ → Firing c arg ps u t at (j + 1) u₂ t₂ n
+      firing_on h₁ z n d = record {
+        ready = ready_next c (fire_good c h₁ z arg x n) d h.ready;
+        owes = going.owes_on (each (fire c arg) (drop (j + 1) ps)) due d;
       }

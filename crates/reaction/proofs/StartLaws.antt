@@ -1,17 +1,14 @@
 -- A start: the fresh widget, and what is owed after the root and after its defaults; laws over plain variables. Assumes nothing.
-use mathlib.Core.Path.{◌≡◌, sym, ap, ◌∙◌, subst}
+use Rattle.std.specs.Prelude.{Result}
+use mathlib.Core.Path.{◌≡◌, refl, sym, ap, ◌∙◌, subst}
 use Prim.Native.Nat.{ℕ, zero, suc, ◌+◌, ◌-◌, ◌≤◌, ◌<◌}
 use native.Mathlib.Omega.{arith}
 use native.Mathlib.Nat.{sub-zero}
-use mathlib.Core.Bool.{true, false}
-use mathlib.Core.List.{List, [], ◌++◌, map}
+use mathlib.Core.List.{List, ◌++◌, map}
 use lib.ListN.{length, take, drop, replicate, set, length-map, length-replicate}
 use lib.Seq.{take_all}
-use lib.IntN.{ℤ, pos, negsuc}
-use Rattle.sizes.specs.Sizes.{STATES, VARIABLES, QUEUE}
-use Rattle.queue.specs.Queue.{no_item, empty_queue}
-use Rattle.queue.specs.Numbers.{QUEUE_NUMBERS, queue_by, numbers_of}
-use Rattle.queue.proofs.Numbers.{held_lent, numbers_long}
+use lib.IntN.{ℤ, pos}
+use Rattle.sizes.specs.Sizes.{VARIABLES}
 use Rattle.queue.proofs.Copy.{copied, copied_suc}
 use Rattle.meaning.specs.declared.State.{State}
 use Rattle.meaning.specs.declared.Called.{Called}
@@ -21,24 +18,24 @@ use Rattle.meaning.specs.Steps.{each}
 use Rattle.meaning.specs.Chart.{Chart, no_var}
 use Rattle.meaning.specs.Tree.{var_row}
 use Rattle.meaning.specs.Value.{chart_of}
-use Rattle.meaning.specs.Widget.{Ctx, begin}
 use Rattle.meaning.specs.Effects.{enter}
 use Rattle.meaning.specs.Entry.{state_of, all_below, by_defaults, visit}
-use Rattle.meaning.specs.Calls.{fresh, start_steps, start, outcome, called, lent}
+use Rattle.meaning.specs.Calls.{fresh, start_steps, start, outcome}
 use Rattle.laws.proofs.Stays.{Stays, each_stays}
 use Rattle.laws.proofs.Value.{get_d_map}
 use Rattle.laws.proofs.Ways.{defaults_sound}
 use Rattle.meaning.specs.Rules.{Ruled}
 use Rattle.tree.proofs.Passing.{sound}
-use Rattle.widget.specs.View.{Lent, all_lent, ctx, tracing, went, Did}
-use Rattle.widget.specs.declared.Went.{Went}
+use Rattle.meaning.specs.declared.answers.Refusal.{Refusal}
+use Rattle.widget.specs.View.{went, Did}
+use Rattle.widget.proofs.Ending.{begins}
 use Rattle.invariants.proofs.Good.{enter_good, visit_good}
 use Rattle.invariants.specs.Good.{Good}
 use Rattle.invariants.proofs.GoodReaction.{below_inside}
 use Rattle.invariants.proofs.Own.{fresh_good}
 use Rattle.reaction.specs.Ready.{Ready}
 use Rattle.reaction.proofs.Going.{sized}
-use Rattle.ends.proofs.Ending.{Ends}
+use Rattle.ends.proofs.Ending.{Ends, ends_steps}
 
 -- ---- the first values
 
@@ -86,49 +83,15 @@ module _ (v : List ℤ) (h : Ruled v) where
 
 -- ---- the fresh widget
 
-none_lent : queue_by (numbers_of empty_queue) ≡ empty_queue
-unfolding empty_queue
-none_lent = held_lent empty_queue (omega arith)
-
-none_whole : length (numbers_of empty_queue) ≡ QUEUE_NUMBERS
-unfolding empty_queue
-none_whole = numbers_long empty_queue (length-replicate QUEUE no_item)
-
--- a fresh widget as it is lent
-abbrev pub fresh_lent : List ℤ → List ℤ → Lent
-fresh_lent v t = all_lent (replicate STATES false) (replicate STATES (negsuc 0)) (fresh (chart_of v)).vars (numbers_of empty_queue) t
-
 module _ (v : List ℤ) (h : Ruled v) where
-  begins_fresh : (t : List ℤ) → begin (fresh (chart_of v)) (length t) ≡ ctx (fresh_lent v t) 0
-  unfolding begin fresh ctx tracing
-  begins_fresh t =
-      ap {B = Ctx} (λ n. record { state = fresh (chart_of v); out = []; room = n }) (sym (sub-zero (length t)))
-      ∙ ap {B = Ctx} (λ q. record {
-        state = record {
-          started = true;
-          active = (fresh (chart_of v)).active;
-          slots = (fresh
-              (chart_of v)).slots;
-          vars = (fresh (chart_of v)).vars;
-          queue = q;
-        };
-        out = [];
-        room = length t - 0;
-      }) (sym none_lent)
-
-  pub fresh_ready : (t : List ℤ) → Ready v (fresh_lent v t) 0
+  pub fresh_ready : (t : List ℤ) → Ready (chart_of v) (fresh (chart_of v)) t 0
   fresh_ready t = record {
-    ruled = h;
-    good = subst (Good (chart_of v)) (begins_fresh t) (fresh_good (chart_of v) (sound v h) (sized v h) (length t));
-    whole = none_whole;
+    good = subst (Good (chart_of v)) (sym (begins (fresh (chart_of v)) t)) (fresh_good (chart_of v) (sound v h) (sized v h) (length t));
     fits = omega arith;
   }
 
-  pub start_ends : (u : State) (t : List ℤ) (w : Went) (k₁ : Lent) (r : Called) (t₂ : List ℤ)
-      → Did (start_steps (chart_of v)) (fresh_lent v t) 0 w k₁
-      → Ends (outcome u (went w k₁)) k₁.trace r t₂ → Ends (start (chart_of v) u (length t)) t r t₂
+  pub start_ends : (u : State) (t : List ℤ) {w : Result ℕ Refusal} {u₁ : State} {t₁ : List ℤ} (r : Called) (t₂ : List ℤ)
+      → Did (start_steps (chart_of v)) (fresh (chart_of v)) t 0 w u₁ t₁
+      → Ends (outcome u (went w u₁ t₁)) t₁ r t₂ → Ends (start (chart_of v) u (length t)) t r t₂
   unfolding start
-  start_ends u t w k₁ r t₂ g f =
-      let y : outcome u (went w k₁) ≡ outcome u (start_steps (chart_of v) (begin (fresh (chart_of v)) (length t))) =
-      ap (outcome u) (g.does none_whole ∙ ap (start_steps (chart_of v)) (sym (begins_fresh t))) in
-      (f.0 ∙ ap called y, f.1 ∙ ap (λ n. lent n (outcome u (went w k₁))) g.kept ∙ ap (lent (length t)) y)
+  start_ends u t r t₂ g f = ends_steps u _ r t₂ g refl f

@@ -1,4 +1,3 @@
-use Prim.Native.Nat.{◌-◌}
 use lib.ListN.{length}
 use Rattle.meaning.specs.Tree.{descendants}
 use Rattle.meaning.specs.Value.{chart_of}
@@ -7,12 +6,9 @@ use Rattle.leave_enter.proofs.Descending.{Going}
 use Rattle.leave_enter.proofs.entering.+descend.Given as goal
 
 abbrev pub decreases-descend : goal.decreases-descend
-decreases-descend l = length (descendants (chart_of l.chart.now) l.s)
+decreases-descend l = length (descendants (chart_of l.c.now.chart.now) l.s)
 
 abbrev pub invariant-loop-d : goal.invariant-loop-d
 invariant-loop-d l =
-    Going (chart_of l.chart) l.arg l.slots l.course (way_by l.next) l.s l.d-end
-    l.initial.active l.initial.vars l.initial.queue l.initial.trace l.initial.went.at l.d l.active l.vars l.queue l.trace l.went
-
-abbrev pub decreases-loop-d : goal.decreases-loop-d
-decreases-loop-d l = l.d-end - l.d
+    Going (chart_of l.c.chart.now) l.arg l.course (way_by l.next) l.s l.d-end l.initial.widget l.initial.trace l.initial.then l.d
+    l.widget l.trace l.then

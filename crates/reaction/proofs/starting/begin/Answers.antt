@@ -1,46 +1,37 @@
 -- `begin` enters the root, goes down by defaults and settles. Assumes nothing.
-use borrow.Author.Rules.{rules}
+use Rattle.std.proofs.Common.{◌≡◌, Err, rules}
 use Rattle.meaning.specs.Calls.{start_steps}
-use Rattle.widget.specs.View.{Lent, all_lent}
 use Rattle.widget.proofs.Going.{then_on, then_stop}
 use Rattle.reaction.proofs.Going.{ready_next, ready_led}
 use Rattle.reaction.proofs.StartLaws.{root_inside, root_good, defaults_good}
 use Rattle.reaction.proofs.starting.begin.Goals as goal
 
-pub enter-root-requires : goal.enter-root-requires
-enter-root-requires c =
-    (record { ruled = c.requires.0.ruled; indexed = c.requires.1 }, search rules, search rules)
-
-pub returns-then-root-ne0 : goal.returns-then-root-ne0
+pub returns-in_err-root : goal.returns-in_err-root
 unfolding start_steps
-returns-then-root-ne0 c =
-    then_stop _ (then_stop _ (c.enter-root.ensures.1 (all_lent c.args.active.now c.args.slots.now c.args.vars.now c.args.queue.now c.args.trace.now)) c.if-root-ne0.true) c.if-root-ne0.true
+returns-in_err-root c =
+    let q : c.from_residual.result ≡ Err c.in_err-root.field-0.0 = search rules in
+    rw q (then_stop _ (then_stop _ c.in_err-root.ensures))
 
-pub descend-down-requires : goal.descend-down-requires
-descend-down-requires c =
-    let h = c.requires.0 in (
-      record { ruled = h.ruled; indexed = c.requires.1 },
+pub descend-requires : goal.descend-requires
+descend-requires c =
+    let r = c.args.c.now.prepared.ruled in (
       tt,
-      root_inside _ h.ruled,
-      ready_led (ready_next _ (root_good _ h.ruled) (c.enter-root.ensures.1 (all_lent c.args.active.now c.args.slots.now c.args.vars.now c.args.queue.now c.args.trace.now)) c.if-root-ne0.false h),
-      c.enter-root.ensures.0.fits,
+      root_inside _ r,
+      ready_led (ready_next _ (root_good _ r) c.in_ok-root.ensures c.requires),
+      c.in_ok-root.ensures.fits,
     )
 
-pub returns-then-down-ne0 : goal.returns-then-down-ne0
+pub returns-in_err-down : goal.returns-in_err-down
 unfolding start_steps
-returns-then-down-ne0 c =
-    then_stop _ (then_on (c.enter-root.ensures.1 (all_lent c.args.active.now c.args.slots.now c.args.vars.now c.args.queue.now c.args.trace.now)) c.if-root-ne0.false c.descend-down.ensures) c.if-down-ne0.true
+returns-in_err-down c =
+    let q : c.from_residual-in_err-down.result ≡ Err c.in_err-down.field-0.0 = search rules in
+    rw q (then_stop _ (then_on c.in_ok-root.ensures c.in_err-down.ensures))
 
 pub settle-requires : goal.settle-requires
 settle-requires c =
-    let h = c.requires.0 in (
-      ready_next _ (defaults_good _ h.ruled) c.descend-down.ensures c.if-down-ne0.false
-          (ready_next _ (root_good _ h.ruled) (c.enter-root.ensures.1 (all_lent c.args.active.now c.args.slots.now c.args.vars.now c.args.queue.now c.args.trace.now)) c.if-root-ne0.false h),
-      c.requires.1,
-    )
+    let r = c.args.c.now.prepared.ruled in
+    ready_next _ (defaults_good _ r) c.in_ok-down.ensures (ready_next _ (root_good _ r) c.in_ok-root.ensures c.requires)
 
 pub returns : goal.returns
 unfolding start_steps
-returns c =
-    then_on (then_on (c.enter-root.ensures.1 (all_lent c.args.active.now c.args.slots.now c.args.vars.now c.args.queue.now c.args.trace.now)) c.if-root-ne0.false c.descend-down.ensures) c.if-down-ne0.false
-    c.settle.ensures
+returns c = then_on (then_on c.in_ok-root.ensures c.in_ok-down.ensures) c.settle.ensures

@@ -1,5 +1,5 @@
 -- `step` fires the chosen of the event. Assumes nothing.
-use Prim.Native.Nat.{ℕ}
+use Rattle.std.proofs.Common.{ℕ}
 use lib.ListN.{length-replicate}
 use mir.Facts.{to_z-of_z}
 use Rattle.choice.specs.Choice.{PICKS}
@@ -7,17 +7,10 @@ use Rattle.reaction.proofs.Settling.{step_here, chose_fires}
 use Rattle.reaction.proofs.steps.step.Goals as goal
 
 pub choose-count-requires : goal.choose-count-requires
-choose-count-requires c = (c.requires.0.ruled, length-replicate {A = ℕ} PICKS 0)
+choose-count-requires c = (c.args.c.now.prepared.ruled, length-replicate {A = ℕ} PICKS 0)
 
 pub fire_all-requires : goal.fire_all-requires
-fire_all-requires c = (
-  c.requires.0,
-  chose_fires c.choose-count.ensures,
-  c.requires.1,
-)
+fire_all-requires c = (c.requires, chose_fires c.choose-count.ensures)
 
 pub returns : goal.returns
-returns c =
-    rw (to_z-of_z c.ranges.arg) at
-    (step_here _ c.choose-count.ensures _
-    c.fire_all.ensures)
+returns c = rw (to_z-of_z c.ranges.arg) at (step_here _ c.choose-count.ensures _ c.fire_all.ensures)
