@@ -1,17 +1,19 @@
 -- The kinds of record: the letter that names none; how many rows there are of each, and that they end within the value. Assumes nothing.
-use Prim.Native.Nat.{ℕ, ◌+◌, ◌*◌, ◌≤◌}
+use Prim.Native.Nat.{ℕ, zero, suc, ◌<◌, ◌+◌, ◌*◌, ◌≤◌}
 use mathlib.Core.Path.{◌≡◌, refl, ◌∙◌}
 use mathlib.Core.Bool.{false}
 use mathlib.Core.List.{List}
 use native.Mathlib.Omega.{arith}
 use lib.IntN.{ℤ}
+use lib.ListN.{length, get_or}
 use borrow.Author.Tests.{ne_eqb}
-use Rattle.meaning.specs.Grammar.{Record, s_record, v_record, e_record, t_record, a_record, no_record, most, row_size, same}
+use Rattle.meaning.specs.Grammar.{Record, s_record, v_record, e_record, t_record, a_record, no_record, most, row_size, same, ORDER}
 use Rattle.meaning.specs.Grammar.{record_by}
 use Rattle.meaning.specs.Value.{laid, place, VALUE, num, size_by, how_many}
 use Rattle.chart_rows.specs.declared.kinds.Area.{Area}
 use Rattle.chart_rows.specs.declared.kinds.Record.{Record as Kind}
 use Rattle.chart_rows.specs.declared.kinds.Record.TheVariants.{State, Variable, Events, Transition, Action}
+use Rattle.chart_rows.specs.declared.kinds.TheConstants.{RECORDS}
 use Rattle.chart_rows.specs.Kinds.{as_record}
 use Rattle.chart_rows.specs.Area.{AreaOf}
 use Rattle.chart_rows.proofs.Rows.{size_most}
@@ -21,6 +23,15 @@ use Rattle.chart_rows.proofs.Rows.{size_most}
 pub is_none : (k : ℕ) → (k ≡ 83 → ⊥) → (k ≡ 86 → ⊥) → (k ≡ 69 → ⊥) → (k ≡ 84 → ⊥) → (k ≡ 65 → ⊥) → record_by k ≡ no_record
 unfolding record_by
 is_none k s v e t a = rw (ne_eqb k 83 s, ne_eqb k 86 v, ne_eqb k 69 e, ne_eqb k 84 t, ne_eqb k 65 a)
+
+-- the kinds in their order
+pub kind_at : (i : ℕ) (k : Kind) → i < length ORDER → as_record (get_or RECORDS i k) ≡ get_or ORDER i no_record
+kind_at zero k h = refl
+kind_at (suc zero) k h = refl
+kind_at (suc (suc zero)) k h = refl
+kind_at (suc (suc (suc zero))) k h = refl
+kind_at (suc (suc (suc (suc zero)))) k h = refl
+kind_at (suc (suc (suc (suc (suc i))))) k h = absurd (omega arith)
 
 -- how many rows of a kind there are, but of E
 module _ (v : List ℤ) (a : Area) (n : ℕ) (e : n ≡ size_by a.most (num v a.count)) where

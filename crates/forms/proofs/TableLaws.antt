@@ -64,7 +64,7 @@ both true b e = (refl, e)
 both false b e = absurd (false≢true e)
 
 -- whether an entry is none, and so its form begins with one field
-abbrev plain : Entry → Bool
+abbrev pub plain : Entry → Bool
 plain (Last f) = true
 plain (More f) = true
 plain (Or k) = false
