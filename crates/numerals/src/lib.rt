@@ -44,7 +44,11 @@ fn digits_of(s: &[u8]) -> Result<u64, Fault>
     for b in s {
         n = with_digit(n, *b).ok_or(Fault::Wrong)?;
     }
-    if n < BEYOND { Ok(n) } else { Err(Fault::Beyond) }
+    if n < BEYOND {
+        Ok(n)
+    } else {
+        Err(Fault::Beyond)
+    }
 }
 
 // A number without a sign: 0 alone, or digits that do not start with 0.
@@ -57,14 +61,22 @@ pub fn natural(s: &[u8]) -> Result<u64, Fault>
     if *first != b'0' {
         return digits_of(s);
     }
-    if rest.is_empty() { Ok(0) } else { Err(Fault::Wrong) }
+    if rest.is_empty() {
+        Ok(0)
+    } else {
+        Err(Fault::Wrong)
+    }
 }
 
 // A value as a number with no sign.
 pub fn plain(n: u64) -> Result<i32, Fault>
     ensures { result ≡ with_no_sign (capped (Some n)) }
 {
-    if n < BEYOND { Ok(n as i32) } else { Err(Fault::Beyond) }
+    if n < BEYOND {
+        Ok(n as i32)
+    } else {
+        Err(Fault::Beyond)
+    }
 }
 
 // Behind a minus: there is no minus zero.
