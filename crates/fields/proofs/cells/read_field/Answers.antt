@@ -10,13 +10,13 @@ use Rattle.fields.proofs.cells.read_field.Goals as goal
 pub returns-in-110 : goal.returns-in-110
 returns-in-110 c =
     said_turn _ _ _ _ _ c.number.ensures _ c.in-110.is
-    c.is_turn.ensures c.absent_if.ensures
+    c.is_turn.ensures c.right_if.ensures
 
 pub returns-in-35 : goal.returns-in-35
 returns-in-35 c = said_number _ _ _ _ _ c.number-in-35.ensures c.in-35.is c.number_said.ensures
 
 pub returns-in-45 : goal.returns-in-45
-returns-in-45 c = said_dash _ _ _ _ _ c.whole.ensures c.in-45.is c.absent_if-in-45.ensures
+returns-in-45 c = said_dash _ _ _ _ _ c.whole.ensures c.in-45.is c.right_if-in-45.ensures
 
 pub returns-in-115 : goal.returns-in-115
 returns-in-115 c = said_state _ _ _ _ _ c.number-in-115.ensures c.in-115.is c.target_said.ensures
@@ -25,7 +25,7 @@ pub returns-in-104 : goal.returns-in-104
 returns-in-104 c = said_history _ _ _ _ c.in-104.is c.history_said.ensures
 
 pub returns-in-95 : goal.returns-in-95
-returns-in-95 c = said_in_place _ _ _ _ _ c.whole-in-95.ensures c.in-95.is c.absent_if-in-95.ensures
+returns-in-95 c = said_in_place _ _ _ _ _ c.whole-in-95.ensures c.in-95.is c.right_if-in-95.ensures
 
 pub returns-in-99 : goal.returns-in-99
 returns-in-99 c = said_count _ _ _ _ _ c.number-in-99.ensures c.in-99.is c.count_said.ensures
@@ -61,7 +61,6 @@ returns-in-107 c =
     c.in-107.is code_ko c.letter_said-in-107.ensures
 
 pub returns-in_default : goal.returns-in_default
-unfolding said
 returns-in_default c =
     let r = c.in_default.in_default-own.rest in
     said_none _ _ _ _
