@@ -1,5 +1,5 @@
 -- What the functions over parts of a text say: where a part ends, and what stands behind its first separator. Assumes nothing.
-use Rattle.std.specs.Prelude.{◌≡◌, List, [], ◌∷◌, ℕ, ◌+◌, ◌<◌, length, take, drop, Option, None, Some}
+use Rattle.std.specs.Prelude.{◌≡◌, List, [], ℕ, ◌+◌, ◌<◌, length, take, drop, Option, None, Some}
 use Rattle.std.specs.Borrow.{Bor}
 use Rattle.meaning.specs.Split.{Parts, parts, all, split}
 

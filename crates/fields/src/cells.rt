@@ -1,4 +1,4 @@
-// One field of a line read (01, "Chart text"), by its code in the table of forms: the numbers that it states, or what is wrong with it.
+// One field of a line read (01, "Chart text"): the numbers that it states, or what is wrong with it.
 ghost use Rattle.std.specs.Prelude.{◌≡◌, [], ◌∷◌, ◌≤◌, length, pos};
 ghost use Rattle.meaning.specs.Grammar.{target_history};
 ghost use Rattle.meaning.specs.Lists.{has};
@@ -8,9 +8,7 @@ ghost use Rattle.fields.specs.Said.{said, row_of};
 
 use crate::whole;
 use chart_rows::decode::ABSENT;
-use forms::{
-    AB, DASH, EVENT_COUNT, HISTORY, IN_PLACE, KO, NUMBER, O, OWNER, SAQ, SIGN, STATE, TURN,
-};
+use forms::Field;
 use meaning::Fault;
 use numerals::number;
 use sizes::EVENTS;
@@ -106,23 +104,17 @@ fn history_said(s: &[u8]) -> Result<Said, Fault>
 }
 
 // A field of record n.
-pub fn read_field(s: &[u8], field: u8, n: usize) -> Result<Said, Fault>
+pub fn read_field(s: &[u8], field: Field, n: usize) -> Result<Said, Fault>
     ensures { said result ≡ read_field (field_of field) n s.now }
 {
     match field {
-        TURN => right_if(is_turn(number(s), n), Said::Nothing),
-        NUMBER => number_said(number(s)),
-        DASH => right_if(whole(s) == b'-', Said::One(ABSENT)),
-        STATE => target_said(0, number(s)),
-        HISTORY => history_said(s),
-        IN_PLACE => right_if(whole(s) == b'-', Said::Two(ABSENT, ABSENT)),
-        EVENT_COUNT => count_said(number(s), 0, EVENTS),
-        O => letter_said(whole(s), b"o"),
-        AB => letter_said(whole(s), b"ab"),
-        SIGN => letter_said(whole(s), b"=<>"),
-        OWNER => letter_said(whole(s), b"exdt"),
-        SAQ => letter_said(whole(s), b"saq"),
-        KO => letter_said(whole(s), b"ko"),
-        _ => Err(Fault::Wrong),
+        Field::Turn => right_if(is_turn(number(s), n), Said::Nothing),
+        Field::Number => number_said(number(s)),
+        Field::EventCount => count_said(number(s), 0, EVENTS),
+        Field::Dash => right_if(whole(s) == b'-', Said::One(ABSENT)),
+        Field::Letter(letters) => letter_said(whole(s), letters.bytes()),
+        Field::TargetState => target_said(0, number(s)),
+        Field::TargetHistory => history_said(s),
+        Field::InPlace => right_if(whole(s) == b'-', Said::Two(ABSENT, ABSENT)),
     }
 }

@@ -14,8 +14,10 @@ use Rattle.meaning.specs.declared.Fault.TheVariants.{Wrong, Beyond}
 use Rattle.fields.specs.declared.cells.Said.{Said}
 use Rattle.fields.specs.Said.{said, row_of}
 use Rattle.fields.specs.Parts.{cut_of}
-use Rattle.forms.specs.Table.{ENTRIES, steps, fields as entry_fields, skips, field_of, no_form, form_at}
-use Rattle.forms.proofs.TableLaws.{form_or, form_tab, form_last, form_past}
+use Rattle.forms.specs.declared.Field.{Field as Cell}
+use Rattle.forms.specs.declared.Entry.TheVariants.{Last, More, Or}
+use Rattle.forms.specs.Table.{ENTRIES, field_of, entries_of, no_entry, no_form, form_at}
+use Rattle.forms.proofs.TableLaws.{form_or, form_more, form_last, form_past}
 use Rattle.lines.specs.Took.{Took, Taken}
 use Rattle.lines.proofs.MarkLaws.{worse_last, fault_behind, right_before, room_before, room_alone, sets_behind}
 
@@ -70,9 +72,9 @@ module _ (i n : ℕ) (fs : List (List ℕ)) (at : ℕ) (xs : List ℤ) where
       go (f ∷ g ∷ fs) = refl
 
   module _ (h : i < ENTRIES) (k : ℕ) (ys : List ℤ) where
-    module _ (z : k ≡ 124) (e : k ≡ get_or steps i 0) (m : ℕ) (t : Taken (read_by (form_at (i + 1)) n fs) at xs m ys) where
-      choice : form_at i ≡ form_at (i + 1) or form_at (i + 1 + (get_or skips i 0 - 48))
-      choice = form_or i h (sym e ∙ z)
+    module _ (e : Or k ≡ get_or entries_of i no_entry) (m : ℕ) (t : Taken (read_by (form_at (i + 1)) n fs) at xs m ys) where
+      choice : form_at i ≡ form_at (i + 1) or form_at (i + 1 + k)
+      choice = form_or i h k (sym e)
 
       pub first_taken : (m ≡ 1 → ⊥) → Taken (read_by (form_at i) n fs) at xs m ys
       unfolding read_by
@@ -80,22 +82,22 @@ module _ (i n : ℕ) (fs : List (List ℕ)) (at : ℕ) (xs : List ℤ) where
           let o = ne_eqb (read_by (form_at (i + 1)) n fs).mark 1 (λ x. d (t.took.mark ∙ x)) in
           rw (choice, o) t
 
-      pub second_taken : (j r : ℕ) (zs : List ℤ) → m ≡ 1 → j ≡ get_or skips i 0 - 48 → Taken (read_by (form_at (i + 1 + j)) n fs) at ys r zs
+      pub second_taken : (r : ℕ) (zs : List ℤ) → m ≡ 1 → Taken (read_by (form_at (i + 1 + k)) n fs) at ys r zs
           → Taken (read_by (form_at i) n fs) at xs r zs
       unfolding read_by
-      second_taken j r zs d f u =
+      second_taken r zs d u =
           let o = eq-eqb (read_by (form_at (i + 1)) n fs).mark 1 (sym t.took.mark ∙ d) in
-          rw (choice, o) (rw (f, t.kept d) at u)
+          rw (choice, o) (rw (t.kept d) at u)
 
 -- ---- a field, and what follows
 module _
-    (i n : ℕ) (h : i < ENTRIES) (k f : ℕ) (ek : k ≡ get_or steps i 0) (ef : f ≡ get_or entry_fields i 0) (s first : List ℕ)
+    (i n : ℕ) (h : i < ENTRIES) (f : Cell) (s first : List ℕ)
     (rest : Option (Bor (List ℕ))) (q : split 9 s ≡ cut_of 9 first rest) (at : ℕ) (xs : List ℤ) (v : Result Said Fault)
     (el : said v ≡ read_field (field_of f) n first)
   where
-    module _ (z : k ≡ 62) where
+    module _ (z : More f ≡ get_or entries_of i no_entry) where
       more_form : form_at i ≡ field_of f tab form_at (i + 1)
-      more_form = rw ef (form_tab i h (sym ek ∙ z))
+      more_form = form_more i h f (sym z)
 
       pub ends_early : rest ≡ None → Taken (read_by (form_at i) n (fields s)) at xs 1 xs
       unfolding read_by
@@ -160,9 +162,9 @@ module _
                   kept = λ x. absurd (omega arith);
                 })
 
-    module _ (z : k ≡ 124 → ⊥) (o : k ≡ 62 → ⊥) where
+    module _ (z : Last f ≡ get_or entries_of i no_entry) where
       last_form : form_at i ≡ last (field_of f)
-      last_form = rw ef (form_last i h (λ x. z (ek ∙ x)) (λ x. o (ek ∙ x)))
+      last_form = form_last i h f (sym z)
 
       pub goes_on : (rest ≡ None → ⊥) → Taken (read_by (form_at i) n (fields s)) at xs 1 xs
       unfolding read_by fields

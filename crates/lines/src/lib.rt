@@ -13,7 +13,7 @@ ghost use Rattle.lines.specs.Took.{Taken, Took};
 
 use fields::cells::{read_field, stated};
 use fields::{TAB, cut_at};
-use forms::{ENTRIES, MORE, OR, field, skip, step};
+use forms::{ENTRIES, Entry, entry_at};
 use marks::{put_said, room};
 use meaning::Fault;
 
@@ -25,40 +25,44 @@ pub fn line_by(s: &[u8], i: usize, n: usize, chart: &mut [i32], at: usize) -> Re
     if ENTRIES <= i {
         return Err(Fault::Wrong);
     }
-    let what = step(i);
-    if what == OR {
-        let first = line_by(s, i + 1, n, chart, at);
-        if first != Err(Fault::Wrong) {
-            return first;
+    match entry_at(i) {
+        Entry::Or(between) => {
+            let first = line_by(s, i + 1, n, chart, at);
+            if first != Err(Fault::Wrong) {
+                return first;
+            }
+            line_by(s, i + 1 + between, n, chart, at)
         }
-        return line_by(s, i + 1 + skip(i), n, chart, at);
-    }
-    let part = cut_at(s, TAB);
-    let said = read_field(part.first, field(i), n);
-    if what != MORE {
-        if part.rest.is_some() {
-            return Err(Fault::Wrong);
-        }
-        put_said(chart, at, said?);
-        return Ok(());
-    }
-    let Some(rest) = part.rest else {
-        return Err(Fault::Wrong);
-    };
-    match said {
-        Ok(r) => {
-            line_by(rest, i + 1, n, chart, at + stated(r))?;
-            put_said(chart, at, r);
+        Entry::Last(field) => {
+            let part = cut_at(s, TAB);
+            if part.rest.is_some() {
+                return Err(Fault::Wrong);
+            }
+            let said = read_field(part.first, field, n)?;
+            put_said(chart, at, said);
             Ok(())
         }
-        // "1 before 2 on one line"
-        Err(fault) => match fault {
-            Fault::Wrong => Err(fault),
-            Fault::Beyond => {
-                line_by(rest, i + 1, n, chart, at)?;
-                Err(fault)
+        Entry::More(field) => {
+            let part = cut_at(s, TAB);
+            let Some(rest) = part.rest else {
+                return Err(Fault::Wrong);
+            };
+            match read_field(part.first, field, n) {
+                Ok(said) => {
+                    line_by(rest, i + 1, n, chart, at + stated(said))?;
+                    put_said(chart, at, said);
+                    Ok(())
+                }
+                // "1 before 2 on one line"
+                Err(fault) => match fault {
+                    Fault::Wrong => Err(fault),
+                    Fault::Beyond => {
+                        line_by(rest, i + 1, n, chart, at)?;
+                        Err(fault)
+                    }
+                },
             }
-        },
+        }
     }
 }
 

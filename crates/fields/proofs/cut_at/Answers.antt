@@ -1,5 +1,4 @@
 -- `fields::cut_at` meets its contract: each way out is a law of the files beside. Assumes nothing.
-use Rattle.std.proofs.Common.{sym, ◌∙◌}
 use Rattle.fields.proofs.SplitLaws.{cut_some, cut_none}
 use Rattle.fields.proofs.cut_at.Goals as goal
 
