@@ -92,8 +92,7 @@ module _ (i n : ℕ) (fs : List (List ℕ)) (at : ℕ) (xs : List ℤ) where
 -- ---- a field, and what follows
 module _
     (i n : ℕ) (h : i < ENTRIES) (f : Cell) (s first : List ℕ)
-    (rest : Option (Bor (List ℕ))) (q : split 9 s ≡ cut_of 9 first rest) (at : ℕ) (xs : List ℤ) (v : Result Said Fault)
-    (el : said v ≡ read_field (field_of f) n first)
+    (rest : Option (Bor (List ℕ))) (q : split 9 s ≡ cut_of 9 first rest) (at : ℕ) (xs : List ℤ)
   where
     module _ (z : More f ≡ get_or entries_of i no_entry) where
       more_form : form_at i ≡ field_of f tab form_at (i + 1)
@@ -108,7 +107,7 @@ module _
               rw (more_form, fields_last s first rest q d) (worse_last (read_field (field_of f) n first).mark
               (read_by (form_at (i + 1)) n []).mark (no_fields (form_at (i + 1)) n))
 
-      module _ (r : Bor (List ℕ)) (d : rest ≡ Some r) where
+      module _ (v : Result Said Fault) (el : said v ≡ read_field (field_of f) n first) (r : Bor (List ℕ)) (d : rest ≡ Some r) where
         abbrev more : Line
         more = read_by (form_at (i + 1)) n (fields r.now)
 
@@ -180,7 +179,7 @@ module _
           go None e = absurd (d e)
           go (Some r) e = wrong_taken (read_by (form_at i) n (fields s)) at xs (late r e)
 
-      module _ (d : rest ≡ None) where
+      module _ (v : Result Said Fault) (el : said v ≡ read_field (field_of f) n first) (d : rest ≡ None) where
         last_is : read_by (form_at i) n (fields s) ≡ said v
         unfolding read_by
         last_is = rw (last_form, fields_last s first rest q d, el)
