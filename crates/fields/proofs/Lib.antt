@@ -1,3 +1,2 @@
 pub mod SplitLaws
-pub mod FieldLaws
 pub mod CellLaws

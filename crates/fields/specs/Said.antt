@@ -1,13 +1,16 @@
 -- What the code says of one field, as the definitions have it. Assumes nothing.
-use Rattle.std.specs.Prelude.{ℕ, zero, suc, List, [], ◌∷◌, ℤ}
-use Rattle.meaning.specs.Line.{Line, line}
+use Rattle.std.specs.Prelude.{List, [], ◌∷◌, ℤ, Result, Ok, Err}
+use Rattle.meaning.specs.Line.{Line, line, faulty}
+use Rattle.meaning.specs.declared.Fault.{Fault}
 use Rattle.fields.specs.declared.cells.Said.{Said}
+use Rattle.fields.specs.declared.cells.Said.TheVariants.{Nothing, One, Two}
 
--- so many numbers
-abbrev pub numbers_of : ℕ → ℤ → ℤ → List ℤ
-numbers_of zero lead value = []
-numbers_of (suc zero) lead value = value ∷ []
-numbers_of (suc (suc n)) lead value = lead ∷ value ∷ []
+-- the numbers that are stated
+abbrev pub row_of : Said → List ℤ
+row_of Nothing = []
+row_of (One value) = value ∷ []
+row_of (Two lead value) = lead ∷ value ∷ []
 
-unfoldable pub said : Said → Line
-said r = line r.mark (numbers_of r.width r.lead r.value)
+abbrev pub said : Result Said Fault → Line
+said (Ok r) = line 0 (row_of r)
+said (Err f) = faulty f

@@ -1,70 +1,73 @@
-// Lines and fields of the text (01, "Chart text"): where a part ends, where a field stands, how many fields a line has. A line is
-// the part of the text from `from` up to `to`; each function walks it at most once for each field before the one it asks for.
+// Lines and fields of the text (01, "Chart text"): where a part ends, where a field stands, how many fields a line has. Each function
+// takes a part of the text by itself, and walks it at most once for each field before the one it asks for.
 #![tactic(auto)]
 
 pub mod cells;
 
-ghost use Rattle.std.specs.Prelude.{◌≡◌, List, [], ◌∷◌, ◌+◌, ◌-◌, ◌<◌, ◌≤◌, length, get_or};
-ghost use Rattle.std.proofs.Math.Seq.{slice};
-ghost use Rattle.meaning.specs.Split.{fields};
+ghost use Rattle.std.specs.Prelude.{◌≡◌, ◌==◌, position};
+ghost use Rattle.meaning.specs.Split.{split, fields};
 ghost use Rattle.meaning.specs.Line.{letter_of, field as field_of};
-ghost use Rattle.fields.specs.Parts.{Stop, Field};
+ghost use Rattle.fields.specs.Parts.{cut_of};
 
 pub use meaning::bytes::{LF, TAB};
 
-// The first separator from `from` on, or the end.
-pub fn stop(s: &[u8], from: usize, to: usize, sep: u8) -> usize
-    requires { (from ≤ to) × (to ≤ length s.now) }
-    ensures { Stop sep s.now from to result }
+// The place of the first separator, if there is one.
+pub fn stop(s: &[u8], sep: u8) -> Option<usize>
+    ensures { result ≡ position (λ b. b == sep) s.now }
 {
-    let mut i = from;
-    while i < to {
-        if s[i] == sep {
-            return i;
-        }
-        i += 1;
-    }
-    i
+    s.iter().position(|b| *b == sep)
 }
 
-// Where a field stands.
-#[derive(Drop)]
-pub struct Extent {
-    pub from: usize,
-    pub to: usize,
+// What stands before the first separator, and what stands behind it, if there is one.
+#[derive(Clone, Copy)]
+pub struct Cut<'a> {
+    pub first: &'a [u8],
+    pub rest: Option<&'a [u8]>,
+}
+
+// A part cut at its first separator.
+pub fn cut_at(s: &[u8], sep: u8) -> Cut<'_>
+    ensures { split sep s.now ≡ cut_of sep result.first.now result.rest }
+{
+    match stop(s, sep) {
+        Some(e) => Cut {
+            first: &s[..e],
+            rest: Some(&s[e + 1..]),
+        },
+        None => Cut {
+            first: s,
+            rest: None,
+        },
+    }
 }
 
 // Field k of a line; an empty part where there is none.
-pub fn field(s: &[u8], from: usize, to: usize, k: usize) -> Extent
-    requires { (from ≤ to) × (to ≤ length s.now) }
-    ensures { Field s.now from to k result.from result.to }
+pub fn field(s: &[u8], k: usize) -> &[u8]
+    ensures { result.now ≡ field_of (fields s.now) k }
 {
-    let e = stop(s, from, to, TAB);
+    let Cut { first, rest } = cut_at(s, TAB);
     if k == 0 {
-        return Extent { from: from, to: e };
+        return first;
     }
-    if e == to {
-        return Extent { from: to, to: to };
-    }
-    field(s, e + 1, to, k - 1)
+    let Some(rest) = rest else {
+        return &[];
+    };
+    field(rest, k - 1)
 }
 
 // The letter that is the whole of a part, else 0.
-pub fn whole(s: &[u8], from: usize, to: usize) -> u8
-    requires { (from ≤ to) × (to ≤ length s.now) }
-    ensures { result ≡ letter_of (slice from to s.now) }
+pub fn whole(s: &[u8]) -> u8
+    ensures { result ≡ letter_of s.now }
 {
-    if to - from == 1 {
-        return s[from];
-    }
-    0
+    let [only] = s else {
+        return 0;
+    };
+    *only
 }
 
 // The letter that is the whole of field k, else 0.
-pub fn letter_at(s: &[u8], from: usize, to: usize, k: usize) -> u8
-    requires { (from ≤ to) × (to ≤ length s.now) }
-    ensures { result ≡ letter_of (field_of (fields (slice from to s.now)) k) }
+pub fn letter_at(s: &[u8], k: usize) -> u8
+    ensures { result ≡ letter_of (field_of (fields s.now) k) }
 {
-    let p = field(s, from, to, k);
-    whole(s, p.from, p.to)
+    whole(field(s, k))
 }

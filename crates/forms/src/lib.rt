@@ -1,118 +1,167 @@
-// The grammar of chart text (meaning, specs/Grammar.antt) as one table, which the reader walks. An entry is a field that ends its form (.),
-// a field with more behind it (>), or a choice (|): of the form at the next entry, or of the one so many entries behind that.
+// The grammar of chart text (meaning, specs/Grammar.antt) as one table, which the reader and the writer walk.
 #![tactic(auto)]
 
-ghost use Rattle.std.specs.Prelude.{◌≡◌, ◌-◌, ◌<◌, ◌≤◌, length, get_or};
-ghost use Rattle.meaning.specs.Grammar.{width, form, record_by};
-ghost use Rattle.forms.specs.Table.{ENTRIES as entries, steps, fields, skips, field_of, form_at};
+ghost use Rattle.std.specs.Prelude.{◌≡◌, ◌<◌, ◌≤◌, get_or};
+ghost use Rattle.meaning.specs.Grammar.{width, form};
+ghost use Rattle.chart_rows.specs.Kinds.{as_record};
+ghost use Rattle.forms.specs.Table.{ENTRIES as entries, letters_of, field_of, entries_of, no_entry, form_at};
 
-// What an entry is.
-pub const OR: u8 = b'|';
+use Entry::{Last, More, Or};
+use Field::{Dash, EventCount, InPlace, Letter, Number, TargetHistory, TargetState, Turn};
+use Letters::{AOrB, Ko, O, Owner, Saq, Sign};
+use chart_rows::kinds::Record;
 
-pub const MORE: u8 = b'>';
+// The letters that a field of one letter may have.
+#[derive(Clone, Copy)]
+pub enum Letters {
+    O,
+    AOrB,
+    Sign,
+    Owner,
+    Saq,
+    Ko,
+}
 
-// Its field.
-pub const TURN: u8 = b'n';
+impl Letters {
+    pub fn bytes(self) -> &'static [u8]
+        ensures { result.now ≡ letters_of self }
+    {
+        match self {
+            O => b"o",
+            AOrB => b"ab",
+            Sign => b"=<>",
+            Owner => b"exdt",
+            Saq => b"saq",
+            Ko => b"ko",
+        }
+    }
+}
 
-pub const NUMBER: u8 = b'#';
+// A field of a line: the record's number, a number, the count of events, "-", a letter, or one of the three targets.
+#[derive(Clone, Copy)]
+pub enum Field {
+    Turn,
+    Number,
+    EventCount,
+    Dash,
+    Letter(Letters),
+    TargetState,
+    TargetHistory,
+    InPlace,
+}
 
-pub const DASH: u8 = b'-';
+impl Field {
+    // How many numbers of its row it takes.
+    pub fn width(self) -> usize
+        ensures { (result ≡ width (field_of self)) × (result ≤ 2) }
+    {
+        match self {
+            Turn => 0,
+            TargetState | TargetHistory | InPlace => 2,
+            _ => 1,
+        }
+    }
+}
 
-pub const STATE: u8 = b's';
-
-pub const HISTORY: u8 = b'h';
-
-pub const IN_PLACE: u8 = b'_';
-
-pub const EVENT_COUNT: u8 = b'c';
-
-pub const O: u8 = b'o';
-
-pub const AB: u8 = b'b';
-
-pub const SIGN: u8 = b'=';
-
-pub const OWNER: u8 = b'w';
-
-pub const SAQ: u8 = b'q';
-
-pub const KO: u8 = b'k';
-
-// Where the form of each record begins: of state 0 and of the others, V, E, T and A.
-pub const ROOT: usize = 0;
-
-pub const OTHER_STATE: usize = 7;
-
-pub const VARIABLE: usize = 14;
-
-pub const EVENTS: usize = 18;
-
-pub const TRANSITION: usize = 19;
-
-pub const ACTION: usize = 39;
+// A field that ends its form; one with more behind it, from the next entry on; or a choice: of the form at the next entry, or of the one
+// so many entries behind that.
+#[derive(Clone, Copy)]
+pub enum Entry {
+    Last(Field),
+    More(Field),
+    Or(usize),
+}
 
 // How many entries there are.
 pub const ENTRIES: usize = 48;
 
-fn at(table: &[u8], i: usize) -> u8
-    requires { i < length table.now }
-    ensures { result ≡ get_or table.now i 0 }
-{
-    table[i]
-}
+// Where the form of each record begins: of state 0 and of the others, V, E, T and A.
+const ROOT: usize = 0;
 
-// What entry i is.
-pub fn step(i: usize) -> u8
+const OTHER_STATE: usize = 7;
+
+const VARIABLE: usize = 14;
+
+const EVENTS: usize = 18;
+
+const TRANSITION: usize = 19;
+
+const ACTION: usize = 39;
+
+static TABLE: [Entry; ENTRIES] = [
+    // S of state 0
+    More(Turn),
+    More(Dash),
+    Or(2),
+    More(Letter(O)),
+    Last(Number),
+    More(Letter(AOrB)),
+    Last(Dash),
+    // S of another state
+    More(Turn),
+    More(Number),
+    Or(2),
+    More(Letter(O)),
+    Last(Number),
+    More(Letter(AOrB)),
+    Last(Dash),
+    // V
+    More(Turn),
+    More(Number),
+    More(Number),
+    Last(Number),
+    // E
+    Last(EventCount),
+    // T
+    More(Turn),
+    More(Number),
+    More(Number),
+    Or(8),
+    More(Dash),
+    More(Dash),
+    More(Dash),
+    Or(1),
+    Last(InPlace),
+    Or(1),
+    Last(TargetHistory),
+    Last(TargetState),
+    More(Number),
+    More(Letter(Sign)),
+    More(Number),
+    Or(1),
+    Last(InPlace),
+    Or(1),
+    Last(TargetHistory), // behind a guard
+    Last(TargetState),
+    // A
+    More(Letter(Owner)),
+    More(Number),
+    Or(3),
+    More(Letter(Saq)),
+    More(Number),
+    Last(Number),
+    More(Letter(Ko)),
+    More(Number),
+    Last(Dash),
+];
+
+// Entry i of the table.
+pub fn entry_at(i: usize) -> Entry
     requires { i < entries }
-    ensures { result ≡ get_or steps i 0 }
+    ensures { result ≡ get_or entries_of i no_entry }
 {
-    at(b">>|>.>.>>|>.>.>>>..>>>|>>>|.|..>>>|.|..>>|>>.>>.", i)
+    TABLE[i]
 }
 
-// Its field.
-pub fn field(i: usize) -> u8
-    requires { i < entries }
-    ensures { result ≡ get_or fields i 0 }
-{
-    at(b"n-|o#b-n#|o#b-n###cn##|---|_|hs#=#|_|hsw#|q##k#-", i)
-}
-
-// How many entries lie between the two forms of a choice: a digit.
-pub fn skip(i: usize) -> usize
-    requires { i < entries }
-    ensures { (result ≡ get_or skips i 0 - 48) × (result ≤ entries) }
-{
-    (at(b"002000000200000000000080001010000010100003000000", i) - 48) as usize
-}
-
-// How many numbers of its row a field takes.
-pub fn width(field: u8) -> usize
-    ensures { (result ≡ width (field_of field)) × (result ≤ 2) }
-{
-    match field {
-        TURN => 0,
-        STATE => 2,
-        HISTORY => 2,
-        IN_PLACE => 2,
-        _ => 1,
-    }
-}
-
-// Where the form of record n stands, of the kind that a letter names.
-pub fn entry(kind: u8, n: usize) -> usize
-    ensures { (form_at result ≡ form (record_by kind) n) × (result ≤ entries) }
+// Where the form of record n of a kind begins.
+pub fn begins(kind: Record, n: usize) -> usize
+    ensures { (form_at result ≡ form (as_record kind) n) × (result ≤ entries) }
 {
     match kind {
-        b'S' => {
-            if n == 0 {
-                return ROOT;
-            }
-            OTHER_STATE
-        }
-        b'V' => VARIABLE,
-        b'E' => EVENTS,
-        b'T' => TRANSITION,
-        b'A' => ACTION,
-        _ => ENTRIES,
+        Record::State => { if n == 0 { ROOT } else { OTHER_STATE } }
+        Record::Variable => VARIABLE,
+        Record::Events => EVENTS,
+        Record::Transition => TRANSITION,
+        Record::Action => ACTION,
     }
 }

@@ -1,63 +1,51 @@
 -- Laws of marks and of numbers put into numbers, one for each way out of the code. Assumes nothing.
-use mathlib.Core.Path.{◌≡◌, refl, sym, ap, ◌∙◌}
-use mathlib.Core.Bool.{Bool, true, false, cond}
-use mathlib.Core.List.{List, [], ◌∷◌, ◌++◌}
-use Prim.Native.Nat.{ℕ, zero, suc, ◌+◌, ◌≤◌, ◌<◌}
-use native.Mathlib.Omega.{arith}
-use native.Mathlib.Numerals.{add-one}
-use lib.Dec.{eqb, ltb}
+use Rattle.std.proofs.Common.{◌≡◌, refl, sym, ap, ◌∙◌, Bool, true, false, cond, List, [], ◌∷◌, ◌++◌, ℕ, zero, suc, ◌+◌, ◌≤◌, ◌<◌}
+use Rattle.std.proofs.Common.{Result, Ok, Err, arith, eqb, ltb, length, set}
 use lib.IntN.{ℤ}
-use lib.ListN.{length, set}
-use lib.Seq.{sets, set_comm, set_out}
-use borrow.Author.Tests.{eq-eqb, ne_eqb, lt-ltb, le-ltb, eqb-true, eqb-false}
-use Rattle.meaning.specs.Line.{worse, room}
-use Rattle.fields.specs.Said.{numbers_of}
+use lib.Seq.{sets, set_comm}
+use borrow.Author.Tests.{lt-ltb, le-ltb, eqb-true}
+use Rattle.meaning.specs.Line.{worse, room, faulty}
+use Rattle.meaning.specs.declared.Fault.{Fault}
+use Rattle.meaning.specs.declared.Fault.TheVariants.{Wrong, Beyond}
 
-module _ (a b : ℕ) where
-  pub worse_1 : a ≡ 1 → 1 ≡ worse a b
-  unfolding worse
-  worse_1 h = rw h
+-- a wrong form behind anything is 1
+pub worse_last : (a b : ℕ) → b ≡ 1 → worse a b ≡ 1
+unfolding worse
+worse_last a b e = rw e (go (eqb a 1))
+  where
+    go : (t : Bool) → ◌≡◌ {A = ℕ} (cond t 1 1) 1
+    go true = refl
+    go false = refl
 
-  pub worse_2 : (a ≡ 1 → ⊥) → b ≡ 1 → 1 ≡ worse a b
-  unfolding worse
-  worse_2 h k = rw (ne_eqb a 1 h, k)
+-- what is wrong with a part is told before what is beyond its size, and 0 only for both
+pub fault_behind : (g : Fault) (m : ℕ) → (faulty g).mark ≡ m → (faulty g).mark ≡ worse 2 m
+unfolding worse
+fault_behind Wrong m e = rw (← e)
+fault_behind Beyond m e = rw (← e)
 
-  pub worse_3 : (a ≡ 1 → ⊥) → (b ≡ 1 → ⊥) → a ≡ 2 → 2 ≡ worse a b
-  unfolding worse
-  worse_3 h k g = rw (ne_eqb b 1 k, g)
+pub right_before : (m : ℕ) → worse 0 m ≡ m
+unfolding worse
+right_before m = go (eqb m 1) refl
+  where
+    go : (t : Bool) → eqb m 1 ≡ t → cond t 1 m ≡ m
+    go true e = sym (eqb-true m 1 e)
+    go false e = refl
 
-  pub worse_4 : (a ≡ 1 → ⊥) → (b ≡ 1 → ⊥) → (a ≡ 2 → ⊥) → b ≡ worse a b
-  unfolding worse
-  worse_4 h k g = rw (ne_eqb a 1 h, ne_eqb b 1 k, ne_eqb a 2 g)
+pub room_before : (n most : ℕ) (g : Fault) (m : ℕ) → (faulty g).mark ≡ m → (faulty g).mark ≡ worse (room n most) m
+unfolding room
+room_before n most g m e = go (ltb n most)
+  where
+    go : (t : Bool) → (faulty g).mark ≡ worse (cond t 0 2) m
+    go true = e ∙ sym (right_before m)
+    go false = fault_behind g m e
 
-  -- 0 only for both; and 1 is one of the two
-  pub worse_zero : worse a b ≡ 0 → b ≡ 0
-  unfolding worse
-  worse_zero e = go (eqb a 1) (eqb b 1) (eqb a 2) e
-    where
-      go : (p q r : Bool) → ◌≡◌ {A = ℕ} (cond p 1 (cond q 1 (cond r 2 b))) 0 → b ≡ 0
-      go true q r e = absurd (omega arith)
-      go false true r e = absurd (omega arith)
-      go false false true e = absurd (omega arith)
-      go false false false e = e
-
-  pub worse_one : (a ≡ 1 → ⊥) → worse a b ≡ 1 → b ≡ 1
-  unfolding worse
-  worse_one h e = go (eqb a 1) (eqb b 1) (eqb a 2) refl refl e
-    where
-      go : (p q r : Bool) → eqb a 1 ≡ p → eqb b 1 ≡ q → ◌≡◌ {A = ℕ} (cond p 1 (cond q 1 (cond r 2 b))) 1 → b ≡ 1
-      go true q r f g e = absurd (h (eqb-true a 1 f))
-      go false true r f g e = eqb-true b 1 g
-      go false false true f g e = absurd (omega arith)
-      go false false false f g e = e
-
-  pub worse_last : b ≡ 1 → worse a b ≡ 1
-  unfolding worse
-  worse_last e = rw e (go (eqb a 1))
-    where
-      go : (t : Bool) → ◌≡◌ {A = ℕ} (cond t 1 1) 1
-      go true = refl
-      go false = refl
+pub room_alone : (n most : ℕ) → worse (room n most) 0 ≡ room n most
+unfolding worse room
+room_alone n most = go (ltb n most)
+  where
+    go : (t : Bool) → worse (cond t 0 2) 0 ≡ cond t 0 2
+    go true = refl
+    go false = refl
 
 pub room_in : (n most : ℕ) → n < most → 0 ≡ room n most
 unfolding room
@@ -66,27 +54,6 @@ room_in n most h = rw (lt-ltb n most h)
 pub room_out : (n most : ℕ) → most ≤ n → 2 ≡ room n most
 unfolding room
 room_out n most h = rw (le-ltb n most h)
-
--- past the numbers that are lent nothing is put
-pub put_past : (xs : List ℤ) (at : ℕ) (z : ℤ) → length xs ≤ at → xs ≡ set xs at z
-put_past xs at z h = sym (set_out xs at z h)
-
--- ---- the numbers that a field states
-module _ (xs : List ℤ) (at w : ℕ) (a b : ℤ) where
-  pub put_none : w ≡ 0 → xs ≡ sets xs at (numbers_of w a b)
-  put_none e = rw e
-
-  pub put_one : (ys : List ℤ) → w ≡ 1 → ys ≡ set xs at b → ys ≡ sets xs at (numbers_of w a b)
-  put_one ys e f = rw (e, f)
-
-  pub put_two : (ys zs : List ℤ) → (w ≡ 0 → ⊥) → (w ≡ 1 → ⊥) → ys ≡ set xs at a → zs ≡ set ys (at + 1) b
-      → zs ≡ sets xs at (numbers_of w a b)
-  put_two ys zs n m f g = go w n m
-    where
-      go : (w : ℕ) → (w ≡ 0 → ⊥) → (w ≡ 1 → ⊥) → zs ≡ sets xs at (numbers_of w a b)
-      go zero n m = absurd (n refl)
-      go (suc zero) n m = absurd (m refl)
-      go (suc (suc w)) n m = rw (g, f, add-one)
 
 -- ---- numbers put behind others, and those put afterwards
 set_sets : (xs rest : List ℤ) (i j : ℕ) (a : ℤ) → i < j → set (sets xs j rest) i a ≡ sets (set xs i a) j rest

@@ -1,6 +1,6 @@
 -- One line of the text, read and written by its record's form (01, "Chart text"). In the order: marks; fields read; a line read; its
 -- place in the order of records; a line written. Assumes nothing.
-use Rattle.std.specs.Prelude.{ℕ, ◌+◌, Bool, true, false, cond, ◌&&◌, List, [], ◌∷◌, ◌++◌, get_or, ℤ, pos, negsuc, eqb, ltb}
+use Rattle.std.specs.Prelude.{ℕ, ◌+◌, Bool, true, false, cond, ◌&&◌, List, [], ◌∷◌, ◌++◌, get_or, ℤ, pos, negsuc, eqb, ltb, Result, Ok, Err}
 use Prim.Native.Char.{code}
 use Rattle.numbers.specs.Reference.{ref}
 use Rattle.meaning.specs.Grammar.{Field, turn, number, count, letter, dash, target_state, target_history, target_none, width, Form}
@@ -10,8 +10,8 @@ use Rattle.meaning.specs.Lists.{has, every, exists}
 use Rattle.meaning.specs.Value.{ABSENT, num, count_fits, fits}
 use Rattle.meaning.specs.Number.{number_of, numeral}
 use Rattle.meaning.specs.Split.{joined}
-use Rattle.meaning.specs.declared.Num.{Num}
-use Rattle.meaning.specs.declared.Num.TheVariants.{Is, Beyond, Not}
+use Rattle.meaning.specs.declared.Fault.{Fault}
+use Rattle.meaning.specs.declared.Fault.TheVariants.{Wrong, Beyond}
 
 -- ---- marks: 0, or the answer number 1 or 2 that a field or a line gives
 
@@ -36,6 +36,16 @@ wrong = line 1 []
 
 abbrev pub beyond : Line
 beyond = line 2 []
+
+-- of a wrong form 1, beyond its size 2
+abbrev pub faulty : Fault → Line
+faulty Wrong = wrong
+faulty Beyond = beyond
+
+-- the mark that a code's answer stands for
+abbrev pub mark_of : {A : Type 0} → Result A Fault → ℕ
+mark_of (Ok x) = 0
+mark_of (Err f) = (faulty f).mark
 
 -- one behind another
 abbrev pub beside : Line → Line → Line
@@ -68,22 +78,19 @@ behind l [] = []
 behind l (b ∷ bs) = cond (eqb b l) bs []
 
 -- "S, V and T are numbered 0, 1, 2 in turn"
-abbrev pub is_turn : Num → ℕ → Bool
-is_turn (Is (pos n)) t = eqb n t
-is_turn (Is (negsuc n)) t = false
-is_turn Beyond t = false
-is_turn Not t = false
+abbrev pub is_turn : Result ℤ Fault → ℕ → Bool
+is_turn (Ok (pos n)) t = eqb n t
+is_turn (Ok (negsuc n)) t = false
+is_turn (Err f) t = false
 
 -- a number, behind the numbers that its field gives besides
-abbrev pub number_line : List ℤ → Num → Line
-number_line zs (Is z) = line 0 (zs ++ (z ∷ []))
-number_line zs Beyond = beyond
-number_line zs Not = wrong
+abbrev pub number_line : List ℤ → Result ℤ Fault → Line
+number_line zs (Ok z) = line 0 (zs ++ (z ∷ []))
+number_line zs (Err f) = faulty f
 
-abbrev pub count_line : ℕ → ℕ → Num → Line
-count_line low high (Is z) = cond (count_fits low high z) (line 0 (z ∷ [])) beyond
-count_line low high Beyond = beyond
-count_line low high Not = wrong
+abbrev pub count_line : ℕ → ℕ → Result ℤ Fault → Line
+count_line low high (Ok z) = cond (count_fits low high z) (line 0 (z ∷ [])) beyond
+count_line low high (Err f) = faulty f
 
 abbrev pub right_if : Bool → List ℤ → Line
 right_if true zs = line 0 zs

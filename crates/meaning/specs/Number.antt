@@ -1,12 +1,9 @@
 -- Numbers of the text (01, "Chart text"): "decimal, of any length, with no leading zero, plus or minus zero; one beyond
 -- ±1,000,000,000 is answer 2". In the order: read; written. A byte is its code: 48 to 57 the digits, 45 minus. Assumes nothing.
-use Rattle.std.specs.Prelude.{ℕ, zero, suc, ◌+◌, ◌-◌, ◌*◌, ◌/◌, ◌%◌, min, Bool, true, false, cond, List, [], ◌∷◌, ◌++◌, ℤ, pos, negsuc, ltb, eqb}
-use Rattle.std.proofs.Math.Option.{Option, none, some}
+use Rattle.std.specs.Prelude.{ℕ, zero, suc, ◌+◌, ◌-◌, ◌*◌, ◌/◌, ◌%◌, min, Bool, true, false, cond, List, [], ◌∷◌, ◌++◌, ℤ, pos, negsuc, ltb, eqb, Option, None, Some, Result, Ok, Err}
 use Rattle.sizes.specs.Sizes.{MOST}
-use Rattle.meaning.specs.declared.Num.{Num}
-use Rattle.meaning.specs.declared.Num.TheVariants as num
-use Rattle.meaning.specs.declared.Nat.{Nat}
-use Rattle.meaning.specs.declared.Nat.TheVariants as nat
+use Rattle.meaning.specs.declared.Fault.{Fault}
+use Rattle.meaning.specs.declared.Fault.TheVariants.{Wrong, Beyond}
 
 -- ---- read
 
@@ -16,49 +13,47 @@ BEYOND = MOST + 1
 
 -- the value of digits that follow those of value a
 unfoldable pub value : ℕ → List ℕ → Option ℕ
-value a [] = some a
-value a (b ∷ bs) = cond (ltb b 48) none (cond (ltb 57 b) none (value (min BEYOND (a * 10 + (b - 48))) bs))
+value a [] = Some a
+value a (b ∷ bs) = cond (ltb b 48) None (cond (ltb 57 b) None (value (min BEYOND (a * 10 + (b - 48))) bs))
 
 -- "no leading zero": 0 alone, or digits of which the first is not 0
 abbrev pub alone : List ℕ → Option ℕ
-alone [] = some 0
-alone (b ∷ bs) = none
+alone [] = Some 0
+alone (b ∷ bs) = None
 
 abbrev pub unless_zero : Bool → List ℕ → List ℕ → Option ℕ
 unless_zero true bs all = alone bs
 unless_zero false bs all = value 0 all
 
 unfoldable pub natural : List ℕ → Option ℕ
-natural [] = none
+natural [] = None
 natural (b ∷ bs) = unless_zero (eqb b 48) bs (b ∷ bs)
 
 -- a number beyond the range is told from no number
-unfoldable pub capped : Option ℕ → Nat
-capped none = nat.Not
-capped (some n) = cond (ltb MOST n) nat.Beyond (nat.Is n)
+unfoldable pub capped : Option ℕ → Result ℕ Fault
+capped None = Err Wrong
+capped (Some n) = cond (ltb MOST n) (Err Beyond) (Ok n)
 
-unfoldable pub natural_of : List ℕ → Nat
+unfoldable pub natural_of : List ℕ → Result ℕ Fault
 natural_of bs = capped (natural bs)
 
-abbrev pub with_no_sign : Nat → Num
-with_no_sign (nat.Is n) = num.Is (pos n)
-with_no_sign nat.Beyond = num.Beyond
-with_no_sign nat.Not = num.Not
+abbrev pub with_no_sign : Result ℕ Fault → Result ℤ Fault
+with_no_sign (Ok n) = Ok (pos n)
+with_no_sign (Err f) = Err f
 
 -- behind a minus: there is no minus zero
-abbrev pub minus : Nat → Num
-minus (nat.Is zero) = num.Not
-minus (nat.Is (suc n)) = num.Is (negsuc n)
-minus nat.Beyond = num.Beyond
-minus nat.Not = num.Not
+abbrev pub minus : Result ℕ Fault → Result ℤ Fault
+minus (Ok zero) = Err Wrong
+minus (Ok (suc n)) = Ok (negsuc n)
+minus (Err f) = Err f
 
-abbrev pub signed : Bool → List ℕ → List ℕ → Num
+abbrev pub signed : Bool → List ℕ → List ℕ → Result ℤ Fault
 signed true bs all = minus (natural_of bs)
 signed false bs all = with_no_sign (natural_of all)
 
 -- a field as a number
-unfoldable pub number_of : List ℕ → Num
-number_of [] = num.Not
+unfoldable pub number_of : List ℕ → Result ℤ Fault
+number_of [] = Err Wrong
 number_of (b ∷ bs) = signed (eqb b 45) bs (b ∷ bs)
 
 -- ---- written

@@ -1,9 +1,10 @@
 -- What the trace program prints for a chart text and an input (01, the end of "Checked by example"). In the order: what is printed of a
 -- call; the form of an input line; what a line does; the whole output. Bytes are their codes. Assumes nothing.
-use Rattle.std.specs.Prelude.{ℕ, zero, suc, ◌+◌, ◌*◌, ◌/◌, Bool, true, false, List, [], ◌∷◌, ◌++◌, length, ℤ, pos, eqb}
+use Rattle.std.specs.Prelude.{ℕ, zero, suc, ◌+◌, ◌*◌, ◌/◌, Bool, true, false, List, [], ◌∷◌, ◌++◌, length, ℤ, pos, eqb, Option, None, Some, Result, Ok, Err}
 use Rattle.meaning.specs.declared.State.{State}
-use Rattle.meaning.specs.declared.Num.{Num}
-use Rattle.meaning.specs.declared.Num.TheVariants.{Is, Beyond, Not}
+use Rattle.queue.specs.declared.Item.{Item}
+use Rattle.meaning.specs.declared.Fault.{Fault}
+use Rattle.meaning.specs.declared.Fault.TheVariants.{Wrong, Beyond}
 use Rattle.meaning.specs.Chart.{Chart}
 use Rattle.meaning.specs.Value.{VALUE, chart_of}
 use Rattle.meaning.specs.Widget.{ENTRY}
@@ -13,9 +14,6 @@ use Rattle.meaning.specs.Number.{BEYOND, number_of, digits, numeral}
 use Rattle.meaning.specs.Split.{LF, fields, lines}
 use Rattle.meaning.specs.Text.{read}
 use Rattle.meaning.specs.Text as text
--- a line of the input: an event and its argument to post, or a line of another form
-pub use Rattle.meaning.specs.declared.Input.{Input}
-pub use Rattle.meaning.specs.declared.Input.TheVariants.{Posts as posts, Wrong as another_form}
 
 -- "With room for 1,000 entries"
 abbrev pub ENTRIES : ℕ
@@ -42,17 +40,25 @@ report n trace = 82 ∷ SPACE ∷ digits n ++ SPACE ∷ digits (length trace / E
 
 -- ---- the form of an input line
 
+-- a line of the input: an event and its argument to post, or a line of another form
+abbrev pub Input : Type 0
+Input = Option Item
+
+abbrev pub posts : ℤ → ℤ → Input
+posts e a = Some (record { event = e; arg = a })
+
+abbrev pub another_form : Input
+another_form = None
+
 -- "a number past ±1,000,000,000 is posted as 1,000,000,001"
-unfoldable pub input_by : Num → Num → Input
-input_by (Is e) (Is a) = posts e a
-input_by (Is e) Beyond = posts e (pos BEYOND)
-input_by (Is e) Not = another_form
-input_by Beyond (Is a) = posts (pos BEYOND) a
-input_by Beyond Beyond = posts (pos BEYOND) (pos BEYOND)
-input_by Beyond Not = another_form
-input_by Not (Is a) = another_form
-input_by Not Beyond = another_form
-input_by Not Not = another_form
+unfoldable pub input_by : Result ℤ Fault → Result ℤ Fault → Input
+input_by (Ok e) (Ok a) = posts e a
+input_by (Ok e) (Err Beyond) = posts e (pos BEYOND)
+input_by (Ok e) (Err Wrong) = another_form
+input_by (Err Beyond) (Ok a) = posts (pos BEYOND) a
+input_by (Err Beyond) (Err Beyond) = posts (pos BEYOND) (pos BEYOND)
+input_by (Err Beyond) (Err Wrong) = another_form
+input_by (Err Wrong) a = another_form
 
 -- "lines of event, tab, argument"
 unfoldable pub input_of : List (List ℕ) → Input
@@ -87,8 +93,8 @@ after_post c o = elim (eqb o.number 0) [
 
 -- "A line of another form prints `R 1 0`"
 unfoldable pub do_line : Chart → State → Input → Turn
-do_line c u (posts e a) = after_post c (post c u e a)
-do_line c u another_form = record { state = u; printed = report 1 [] }
+do_line c u (Some i) = after_post c (post c u i.event i.arg)
+do_line c u None = record { state = u; printed = report 1 [] }
 
 -- ---- the whole output
 

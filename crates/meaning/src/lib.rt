@@ -6,7 +6,7 @@ pub mod bytes;
 pub mod chart;
 pub mod plan;
 
-use queue::Queue;
+use queue::{Item, Queue};
 use sizes::{STATES, VARIABLES};
 
 // A widget's state (01, "One reaction"): an empty slot is -1; places not in use hold false, -1, 0, and 0 with 0.
@@ -46,20 +46,11 @@ pub struct Called {
     pub entries: usize,
 }
 
-// A number field of a text (01, "Chart text"): a number of the range, one beyond it, or no number.
-#[derive(Drop)]
-pub enum Num {
-    Is(i32),
+// What is wrong with a number, a field or a line of a text (01, "Chart text"): its form, answer 1, or that it is beyond its size, answer 2.
+#[derive(Clone, Copy, PartialEq, Eq)]
+pub enum Fault {
+    Wrong,
     Beyond,
-    Not,
-}
-
-// The same without a sign.
-#[derive(Drop)]
-pub enum Nat {
-    Is(u64),
-    Beyond,
-    Not,
 }
 
 // What writing a chart's text gives: the answer, and how many bytes were written.
@@ -69,9 +60,5 @@ pub struct Written {
     pub length: usize,
 }
 
-// A line of the trace program's input (01, "Checked by example"): an event and its argument to post, or a line of another form.
-#[derive(Drop)]
-pub enum Input {
-    Posts(i32, i32),
-    Wrong,
-}
+// A line of the trace program's input (01, "Checked by example"): an event and its argument to post; of another form there is none.
+pub type Input = Option<Item>;

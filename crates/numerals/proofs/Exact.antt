@@ -2,19 +2,18 @@
 use mathlib.Core.Path.{◌≡◌, refl, sym, ap, ◌∙◌}
 use mathlib.Core.Bool.{Bool, true, false, cond}
 use mathlib.Core.List.{List, [], ◌∷◌}
-use mathlib.Core.Option.{Option, none, some}
+use Rattle.std.proofs.Common.{Option, None, Some}
 use Prim.Native.Nat.{ℕ, ◌+◌, ◌-◌, ◌*◌, ◌≤◌, ◌<◌, min}
 use native.Mathlib.Omega.{arith}
 use lib.Dec.{ltb}
 use borrow.Author.Tests.{ltb-true, ltb-false, lt-ltb, le-ltb}
 use Rattle.sizes.specs.Sizes.{MOST}
 use Rattle.meaning.specs.Number.{BEYOND, value, capped}
-use Rattle.numerals.proofs.ReadLaws.{value_digit, value_low, value_high}
 
 -- the exact value of digits that follow those of value a
 unfoldable pub exact : ℕ → List ℕ → Option ℕ
-exact a [] = some a
-exact a (b ∷ bs) = cond (ltb b 48) none (cond (ltb 57 b) none (exact (a * 10 + (b - 48)) bs))
+exact a [] = Some a
+exact a (b ∷ bs) = cond (ltb b 48) None (cond (ltb 57 b) None (exact (a * 10 + (b - 48)) bs))
 
 -- a byte is a digit or none
 pub data Byte (b : ℕ) : Type 0 where
@@ -30,11 +29,11 @@ byte b = go (ltb b 48) (ltb 57 b) refl refl
     go false true p q = above (ltb-true 57 b q)
     go false false p q = digit (ltb-false b 48 p) (ltb-false 57 b q)
 
-capped_at : (a : ℕ) → capped (some (min BEYOND a)) ≡ capped (some a)
+capped_at : (a : ℕ) → capped (Some (min BEYOND a)) ≡ capped (Some a)
 unfolding capped
 capped_at a = go (ltb MOST a) refl
   where
-    go : (t : Bool) → ltb MOST a ≡ t → capped (some (min BEYOND a)) ≡ capped (some a)
+    go : (t : Bool) → ltb MOST a ≡ t → capped (Some (min BEYOND a)) ≡ capped (Some a)
     go true e = let h = ltb-true MOST a e in let k : min BEYOND a ≡ BEYOND = omega arith in rw (k, e)
     go false e = let h = ltb-false MOST a e in let k : min BEYOND a ≡ a = omega arith in rw k
 

@@ -1,14 +1,12 @@
-// Numbers of the text (01, "Chart text"), read from a part of a slice: decimal, of any length. The value is held at one past the
+// Numbers of the text (01, "Chart text"), read from a field's bytes: decimal, of any length. The value is held at one past the
 // range, so that no number of digits overflows, and each byte is looked at once.
 #![tactic(auto)]
 
-ghost use Rattle.std.specs.Prelude.{◌≡◌, ◌+◌, ◌*◌, ◌-◌, ◌<◌, ◌≤◌, length};
-ghost use Rattle.std.proofs.Math.Seq.{slice};
-ghost use Rattle.sizes.specs.Sizes.{MOST as Most};
+ghost use Rattle.std.specs.Prelude.{◌≡◌, ◌≤◌};
 ghost use Rattle.meaning.specs.Number.{value, capped, natural_of, with_no_sign, minus, number_of};
-ghost use Rattle.numerals.specs.Small.{Small, grown as grown_by};
+ghost use Rattle.numerals.specs.Small.{grown as grown_by, with_digit};
 
-use meaning::{Nat, Num};
+use meaning::Fault;
 use sizes::MOST;
 
 // One past the range: it stands for every number beyond.
@@ -24,87 +22,83 @@ pub fn grown(n: u64, b: u8) -> u64
     if TENTH < n {
         return BEYOND;
     }
-    let m = n * 10 + ((b - 48) as u64);
+    let m = n * 10 + u64::from(b - b'0');
     if m < BEYOND { m } else { BEYOND }
 }
 
-// Digits alone.
-fn digits_of(s: &[u8], from: usize, to: usize) -> Nat
-    requires { (from ≤ to) × (to ≤ length s.now) }
-    ensures { result ≡ capped (value 0 (slice from to s.now)) }
+// The value with one byte more, where that is a digit.
+pub fn with_digit(n: u64, b: u8) -> Option<u64>
+    ensures { result ≡ with_digit n b }
 {
-    let mut n: u64 = 0;
-    let mut i = from;
-    while i < to {
-        let b = s[i];
-        if b < 48 {
-            return Nat::Not;
-        }
-        if 57 < b {
-            return Nat::Not;
-        }
-        n = grown(n, b);
-        i += 1;
+    match b {
+        b'0'..=b'9' => Some(grown(n, b)),
+        _ => None,
     }
-    if n < BEYOND { Nat::Is(n) } else { Nat::Beyond }
+}
+
+// Digits alone.
+fn digits_of(s: &[u8]) -> Result<u64, Fault>
+    ensures { result ≡ capped (value 0 s.now) }
+{
+    let mut n = 0;
+    for b in s {
+        n = with_digit(n, *b).ok_or(Fault::Wrong)?;
+    }
+    if n < BEYOND {
+        Ok(n)
+    } else {
+        Err(Fault::Beyond)
+    }
 }
 
 // A number without a sign: 0 alone, or digits that do not start with 0.
-pub fn natural(s: &[u8], from: usize, to: usize) -> Nat
-    requires { (from ≤ to) × (to ≤ length s.now) }
-    ensures { result ≡ natural_of (slice from to s.now) }
+pub fn natural(s: &[u8]) -> Result<u64, Fault>
+    ensures { result ≡ natural_of s.now }
 {
-    if from == to {
-        return Nat::Not;
+    let [first, rest @ ..] = s else {
+        return Err(Fault::Wrong);
+    };
+    if *first != b'0' {
+        return digits_of(s);
     }
-    if s[from] == 48 {
-        if from + 1 == to {
-            return Nat::Is(0);
-        }
-        return Nat::Not;
+    if rest.is_empty() {
+        Ok(0)
+    } else {
+        Err(Fault::Wrong)
     }
-    digits_of(s, from, to)
 }
 
-// With no sign.
-fn plain_of(v: Nat) -> Num
-    requires { Small v }
-    ensures { result ≡ with_no_sign v }
+// A value as a number with no sign.
+pub fn plain(n: u64) -> Result<i32, Fault>
+    ensures { result ≡ with_no_sign (capped (Some n)) }
 {
-    match v {
-        Nat::Is(n) => Num::Is(n as i32),
-        Nat::Beyond => Num::Beyond,
-        Nat::Not => Num::Not,
+    if n < BEYOND {
+        Ok(n as i32)
+    } else {
+        Err(Fault::Beyond)
     }
 }
 
 // Behind a minus: there is no minus zero.
-fn minus_of(v: Nat) -> Num
-    requires { Small v }
-    ensures { result ≡ minus v }
+pub fn negative(n: u64) -> Result<i32, Fault>
+    ensures { result ≡ minus (capped (Some n)) }
 {
-    match v {
-        Nat::Is(n) => {
-            if n == 0 {
-                return Num::Not;
-            }
-            Num::Is(0 - (n as i32))
-        }
-        Nat::Beyond => Num::Beyond,
-        Nat::Not => Num::Not,
+    if n == 0 {
+        return Err(Fault::Wrong);
     }
+    Ok(-plain(n)?)
 }
 
 // A field as a number.
-pub fn number(s: &[u8], from: usize, to: usize) -> Num
-    requires { (from ≤ to) × (to ≤ length s.now) }
-    ensures { result ≡ number_of (slice from to s.now) }
+pub fn number(s: &[u8]) -> Result<i32, Fault>
+    ensures { result ≡ number_of s.now }
 {
-    if from == to {
-        return Num::Not;
+    let [first, rest @ ..] = s else {
+        return Err(Fault::Wrong);
+    };
+    if *first == b'-' {
+        negative(natural(rest)?)
+    } else {
+        plain(natural(s)?)
     }
-    if s[from] == 45 {
-        return minus_of(natural(s, from + 1, to));
-    }
-    plain_of(natural(s, from, to))
 }

@@ -23,30 +23,19 @@ pub fn put_digits(out: &mut [u8], at: usize, n: usize) -> usize
     ensures { pen out.new result ≡ put_all (digits n) (pen out.old at) }
 {
     if n < 10 {
-        return put(out, at, 48 + (n as u8));
+        return put(out, at, b'0' + n as u8);
     }
     let p = put_digits(out, at, n / 10);
-    put(out, p, 48 + ((n % 10) as u8))
-}
-
-// A number without its sign.
-fn size(v: i32) -> usize
-    ensures { result ≡ nat_abs v }
-{
-    let w = numbers::wide(v);
-    if w < 0 {
-        return (0 - w) as usize;
-    }
-    w as usize
+    put(out, p, b'0' + (n % 10) as u8)
 }
 
 // A number.
 pub fn put_numeral(out: &mut [u8], at: usize, v: i32) -> usize
     ensures { pen out.new result ≡ put_all (numeral v) (pen out.old at) }
 {
-    let n = size(v);
+    let n = v.unsigned_abs() as usize;
     if v < 0 {
-        let p = put(out, at, 45);
+        let p = put(out, at, b'-');
         return put_digits(out, p, n);
     }
     put_digits(out, at, n)

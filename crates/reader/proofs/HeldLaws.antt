@@ -1,9 +1,9 @@
 -- Laws of what is held while a text is read: the rows so far and their counts belong together, and one line more keeps them so. Assumes
 -- nothing.
-use mathlib.Core.Path.{◌≡◌, refl, sym, ap, fun_ext}
+use mathlib.Core.Path.{◌≡◌, refl, fun_ext}
 use mathlib.Core.Bool.{Bool, true, false}
 use mathlib.Core.List.{List, [], ◌∷◌, ◌++◌}
-use Prim.Native.Nat.{ℕ, ◌+◌, ◌≤◌, ◌<◌}
+use Prim.Native.Nat.{◌+◌, ◌≤◌, ◌<◌}
 use native.Mathlib.Omega.{arith}
 use lib.IntN.{ℤ}
 use lib.ListN.{length, length-append}

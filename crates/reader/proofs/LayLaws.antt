@@ -7,7 +7,7 @@ use Prim.Native.Nat.{ℕ, zero, suc, ◌+◌, ◌-◌, ◌*◌, ◌≤◌, ◌<�
 use native.Mathlib.Omega.{arith}
 use native.Mathlib.Nat.{suc-mul, mul-le-mul_right, zero-add, add-zero}
 use lib.IntN.{ℤ, pos}
-use lib.ListN.{length, replicate, take, drop, set, length-append, length-replicate, replicate-append-replicate}
+use lib.ListN.{length, drop, set, length-append, length-replicate, replicate-append-replicate}
 use lib.Seq.{sets, sets-eq, take-append_seam, drop-append-add, drop-append-le}
 use Rattle.laws.proofs.Lists.{or_off_left, or_off_right, not_true}
 use Rattle.laws.proofs.Parts.{same_self, same_part_true, every_record}

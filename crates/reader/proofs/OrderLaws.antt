@@ -1,9 +1,9 @@
--- Laws of the order of records: what a letter names, its kind, its turn and its place in the order; a line in its place is read as its kind
+-- Laws of the order of records: its turn and its place in the order; a line in its place is read as its kind
 -- says, any other is wrong; what is counted after it. Assumes nothing.
-use mathlib.Core.Path.{◌≡◌, refl, sym, ap, ◌∙◌}
+use mathlib.Core.Path.{◌≡◌, refl, sym, ◌∙◌}
 use mathlib.Core.Bool.{Bool, true, false, true≢false, ◌&&◌}
-use mathlib.Core.List.{List, [], ◌∷◌}
-use Prim.Native.Nat.{ℕ, zero, suc, ◌+◌, ◌*◌, ◌≤◌, ◌<◌}
+use mathlib.Core.List.{List, []}
+use Prim.Native.Nat.{ℕ, ◌+◌, ◌*◌, ◌≤◌, ◌<◌}
 use native.Mathlib.Omega.{arith}
 use native.Mathlib.Nat.{mul-le-mul_right}
 use lib.Dec.{eqb}
@@ -17,56 +17,18 @@ use Rattle.numerals.proofs.Signed.{back32}
 use borrow.Author.Tests.{eqb-true, eq-eqb, ne_eqb}
 use Rattle.laws.proofs.Lists.{and_left, and_right, and_both}
 use Rattle.meaning.specs.Lists.{every, exists}
-use Rattle.meaning.specs.Value.{counted, laid, place, VALUE}
-use Rattle.meaning.specs.Grammar.{Record, s_record, v_record, e_record, t_record, a_record, no_record, form, most, row_size, record_by}
+use Rattle.meaning.specs.Value.{counted, place, VALUE}
+use Rattle.meaning.specs.Grammar.{Record, s_record, v_record, e_record, t_record, a_record, no_record, form, most, row_size}
 use Rattle.meaning.specs.Line.{line, beside, room, rest_of, read_by, in_order, line_by, line_of}
 use Rattle.forms.specs.Table.{form_at}
 use Rattle.lines.specs.Took.{Took}
-use Rattle.reader.specs.Order.{turn_of, place_of, turns_after, Within, with_counts, KindOf}
+use Rattle.reader.specs.Order.{turn_of, place_of, Within, with_counts}
 use Rattle.reader.specs.declared.order.Turns.{Turns}
-use Rattle.reader.specs.declared.order.Kind.{Kind}
-
--- ---- the letters
-pub is_s : {k : ℕ} → k ≡ 83 → record_by k ≡ s_record
-unfolding record_by
-is_s e = rw e
-
-pub is_v : {k : ℕ} → k ≡ 86 → record_by k ≡ v_record
-unfolding record_by
-is_v e = rw e
-
-pub is_e : {k : ℕ} → k ≡ 69 → record_by k ≡ e_record
-unfolding record_by
-is_e e = rw e
-
-pub is_t : {k : ℕ} → k ≡ 84 → record_by k ≡ t_record
-unfolding record_by
-is_t e = rw e
-
-pub is_a : {k : ℕ} → k ≡ 65 → record_by k ≡ a_record
-unfolding record_by
-is_a e = rw e
-
-pub is_none : {k : ℕ} → (k ≡ 83 → ⊥) → (k ≡ 86 → ⊥) → (k ≡ 69 → ⊥) → (k ≡ 84 → ⊥) → (k ≡ 65 → ⊥) → record_by k ≡ no_record
-unfolding record_by
-is_none {k} s v e t a = rw (ne_eqb k 83 s, ne_eqb k 86 v, ne_eqb k 69 e, ne_eqb k 84 t, ne_eqb k 65 a)
+use Rattle.chart_rows.specs.declared.kinds.Area.{Area}
+use Rattle.chart_rows.specs.Area.{AreaOf}
+use Rattle.chart_rows.proofs.Named.{within_value}
 
 -- ---- of a kind
-
-pub kind_is : (q r : Record) (k : Kind) → q ≡ r → k.most ≡ most r → k.place ≡ place (laid r) → k.size ≡ row_size r → KindOf q k
-kind_is q r k e m p s = rw e (record { most = m; place = p; size = s })
-
-pub turn_is : (q r : Record) (t : Turns) → q ≡ r → turn_of t r ≡ turn_of t q
-turn_is q r t e = rw e
-
--- the rows of a kind end within the value
-within_value : (r : Record) → place (laid r) + most r * row_size r ≤ VALUE
-within_value s_record = omega arith
-within_value v_record = omega arith
-within_value e_record = omega arith
-within_value t_record = omega arith
-within_value a_record = omega arith
-within_value no_record = omega arith
 
 within_at : (t : Turns) → Within t → (r : Record) → turn_of t r ≤ most r
 within_at t w s_record = w.states
@@ -76,7 +38,7 @@ within_at t w t_record = w.transitions
 within_at t w a_record = w.actions
 within_at t w no_record = omega arith
 
-pub place_within : (r : Record) (t : Turns) (n : ℕ) (k : Kind) → Within t → n ≡ turn_of t r → KindOf r k
+pub place_within : (r : Record) (t : Turns) (n : ℕ) (k : Area) → Within t → n ≡ turn_of t r → AreaOf r k
     → (k.place ≤ VALUE) × (n * k.size ≤ VALUE) × (k.place + n * k.size ≤ VALUE)
 place_within r t n k w e i =
     let m : turn_of t r * row_size r ≤ most r * row_size r = mul-le-mul_right (row_size r) (within_at t w r) in
@@ -143,10 +105,6 @@ module _ (t : Turns) (q : Record) where
   unfolding in_order every exists
   in_order_a e = rw e
 
-  pub in_order_none : q ≡ no_record → eqb t.events 0 ≡ in_order (turn_of t) q
-  unfolding in_order every exists
-  in_order_none e = rw e
-
 -- ---- a line in its place, and one out of it
 
 module _ (q : Record) (t : Turns) (fs : List (List ℕ)) (xs : List ℤ) where
@@ -154,7 +112,7 @@ module _ (q : Record) (t : Turns) (fs : List (List ℕ)) (xs : List ℤ) where
   unfolding line_of
   misplaced h = record { mark = rw h; row = λ z. absurd (omega arith); size = refl }
 
-  pub read_in_place : (i n m : ℕ) (k : Kind) (ys : List ℤ) → in_order (turn_of t) q ≡ true → n ≡ turn_of t q → KindOf q k
+  pub read_in_place : (i n m : ℕ) (k : Area) (ys : List ℤ) → in_order (turn_of t) q ≡ true → n ≡ turn_of t q → AreaOf q k
       → form_at i ≡ form q n
       → Took (beside (line (room n k.most) []) (read_by (form_at i) n (rest_of fs))) (k.place + n * k.size) xs m ys
       → Took (line_of q (turn_of t) fs) (place_of q t) xs m ys
@@ -162,9 +120,6 @@ module _ (q : Record) (t : Turns) (fs : List (List ℕ)) (xs : List ℤ) where
   read_in_place i n m k ys h e d f w = rw (h, ← e) (rw (f, d.most, d.place, d.size) at w)
 
 -- ---- counted
-
-pub counts : (q r : Record) (t u : Turns) → q ≡ r → u ≡ turns_after r t → u ≡ turns_after q t
-counts q r t u e h = rw e h
 
 pub count_set : (l : List ℤ) (at n : ℕ) (z : ℤ) → z ≡ pos n → n < NOWHERE → set l at (to_z w32 (of_z w32 z)) ≡ set l at (pos n)
 count_set l at n z e h = rw (e, back32 (pos n) h)

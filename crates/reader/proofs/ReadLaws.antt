@@ -1,15 +1,12 @@
 -- Laws of reading a text's rows: one for each way out of the code. Assumes nothing.
 use mathlib.Core.Path.{◌≡◌, refl, sym, ap, ◌∙◌, subst}
 use mathlib.Core.Bool.{Bool, true, false, cond}
-use mathlib.Core.List.{List, [], ◌∷◌, ◌++◌, append-nil}
-use Prim.Native.Nat.{ℕ, zero, suc, ◌+◌, ◌-◌, ◌≤◌, ◌<◌}
-use native.Mathlib.Nat.{not-suc-le-zero, le_of_suc-le-suc}
-use native.Mathlib.Numerals.{add-one}
+use mathlib.Core.List.{List, [], ◌∷◌}
+use Prim.Native.Nat.{ℕ, zero, suc, ◌+◌, ◌≤◌, ◌<◌}
 use native.Mathlib.Omega.{arith}
 use lib.Dec.{leb, ltb}
 use lib.IntN.{ℤ, pos}
-use lib.ListN.{length, set, drop, replicate, length-replicate}
-use lib.Seq.{drop-length}
+use lib.ListN.{length, replicate, length-replicate}
 use borrow.Author.Tests.{lt-ltb, le-ltb, le-leb, lt-leb}
 use Rattle.sizes.specs.Sizes.{TEXT}
 use Rattle.meaning.specs.Value.{Rows, VALUE}
@@ -17,26 +14,16 @@ use Rattle.meaning.specs.Split.{fields, lines}
 use Rattle.meaning.specs.Line.{line_of}
 use Rattle.meaning.specs.Grammar.{e_record}
 use Rattle.meaning.specs.Text.{Result, done, refused, answer, answer_of, no_rows, turns_of, with_row, further}
-use Rattle.meaning.specs.Text.{record_of, ending, walk}
-use Rattle.meaning.specs.Text.{read_unless, read_text, value_of}
+use Rattle.meaning.specs.Text.{record_of, walk}
+use Rattle.meaning.specs.Text.{read_unless, read_text}
 use Rattle.meaning.specs.declared.Answer.{Answer}
 use Rattle.reader.specs.Scanned.{zeros, Scanned}
-use Rattle.reader.specs.RowsRead.{roomy_if, roomy, Left, RowsRead}
+use Rattle.reader.specs.RowsRead.{RowsRead}
 
--- ---- a list filled from the front: after n stores it is `replicate n v ++ drop n d`
-module _ {A : Type 0} (v : A) where
-  fill_suc : (n : ℕ) (d : List A) → n < length d → set (replicate n v ++ drop n d) n v ≡ replicate (suc n) v ++ drop (suc n) d
-  fill_suc n [] l = absurd (not-suc-le-zero l)
-  fill_suc zero (x ∷ d) l = refl
-  fill_suc (suc n) (x ∷ d) l = ap (λ (t : List A). v ∷ t) (fill_suc n d (le_of_suc-le-suc l))
-
-  pub fill_step : (l d : List A) (n : ℕ) → l ≡ replicate n v ++ drop n d → n < length d → set l n v ≡ replicate (n + 1) v ++ drop (n + 1) d
-  fill_step l d n e h = rw (e, add-one n) (fill_suc n d h)
-
-  pub fill_all : (l d : List A) (n : ℕ) → l ≡ replicate n v ++ drop n d → n ≤ length d → length d ≤ n → l ≡ replicate (length d) v
-  fill_all l d n e h g =
-      let q : n ≡ length d = omega arith in
-      e ∙ (rw (q, drop-length d, append-nil))
+-- ---- a list filled with 0
+pub zeros_are : (l : List ℤ) (n : ℕ) → l ≡ replicate n (pos 0) → l ≡ zeros n
+unfolding zeros
+zeros_are l n e = e
 
 -- ---- the walk refuses with 1 or 2, never with 0
 pub never_zero : (n : ℕ) (w : Rows) (ls : List (List ℕ)) (p : ℕ) → walk n w ls ≡ refused 0 p → ⊥

@@ -1,16 +1,16 @@
 -- Laws of reading a text with its rules: one for each way out of the code. Assumes nothing.
 use mathlib.Core.Path.{◌≡◌, refl, sym, ap, ◌∙◌}
 use mathlib.Core.Bool.{Bool, true, false}
-use mathlib.Core.List.{List, [], ◌∷◌, ◌++◌}
+use mathlib.Core.List.{List, ◌++◌}
 use mathlib.Core.Option.{Option, none, some}
-use Prim.Native.Nat.{ℕ, ◌+◌, ◌-◌, ◌≤◌}
+use Prim.Native.Nat.{ℕ, ◌-◌, ◌≤◌}
 use native.Mathlib.Omega.{arith}
 use lib.Dec.{leb}
 use lib.IntN.{ℤ, pos}
 use lib.ListN.{length, replicate, length-append}
 use borrow.Author.Tests.{leb-true}
 use Rattle.meaning.specs.Lists.{padded}
-use Rattle.meaning.specs.Value.{Rows, VALUE, chart_by, chart_of, rows_of}
+use Rattle.meaning.specs.Value.{Rows, VALUE, chart_by, chart_of}
 use Rattle.meaning.specs.Rules.{failing_rule, verdict}
 use Rattle.meaning.specs.Text.{Result, done, refused, answer, answer_of, lent_result, lent_numbers, read_text, value_of, by_rule}
 use Rattle.meaning.specs.Text.{checked_if}

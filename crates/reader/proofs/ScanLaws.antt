@@ -4,22 +4,30 @@ use mathlib.Core.Bool.{Bool, true, false, cond}
 use mathlib.Core.List.{List, [], ◌∷◌, ◌++◌}
 use Prim.Native.Nat.{ℕ, zero, suc, ◌+◌, ◌-◌, ◌*◌, ◌≤◌, ◌<◌}
 use native.Mathlib.Omega.{arith}
-use lib.Dec.{leb}
-use lib.IntN.{ℤ, pos}
-use lib.ListN.{length, length-append, length-set}
-use lib.Seq.{slice, slice_empty, slice-cons, take-length, sets, length-sets}
+use lib.Dec.{eqb, leb}
+use lib.IntN.{ℤ}
+use lib.ListN.{length, take, drop, length-set, length-drop, drop_of_length-le}
+use lib.Seq.{drop-cons, drop-drop, sets}
 use borrow.Author.Tests.{le-leb, lt-leb}
 use Rattle.meaning.specs.Value.{Rows, laid, place, VALUE}
-use Rattle.meaning.specs.Split.{all, split, fields, lines}
-use Rattle.meaning.specs.Grammar.{Record, e_record, record_by, row_size}
-use Rattle.meaning.specs.Line.{Line, letter_of, field, line_of}
+use Rattle.meaning.specs.Split.{fields, lines}
+use Rattle.meaning.specs.Grammar.{Record, e_record, no_record, row_size, last, letter}
+use Rattle.meaning.specs.Line.{Line, line_of, line_by, line_in_order, in_order, read_by, read_field, rest_of, room, faulty}
 use Rattle.meaning.specs.Text.{Result, done, refused, answer, answer_of, turns_of, no_rows, with_row, further, line_taken}
 use Rattle.meaning.specs.Text.{record_of, walk, value_of}
 use Rattle.meaning.specs.declared.Answer.{Answer}
 use Rattle.fields.specs.Parts.{Stop}
+use Rattle.fields.proofs.SplitLaws.{stop_is}
+use Rattle.lines.proofs.MarkLaws.{worse_last}
+use Rattle.std.proofs.Common.{Option, None, Some}
+use Rattle.std.specs.Prelude.{position}
+use Rattle.std.proofs.lemmas.List.{take_all}
+use Rattle.meaning.specs.Lists.{has}
+use Rattle.meaning.specs.declared.Fault.{Fault}
+use Rattle.meaning.specs.declared.Fault.TheVariants.{Wrong, Beyond}
 use Rattle.lines.specs.Took.{Took}
-use Rattle.round_trip.specs.Rows.{Fit, Whole}
-use Rattle.reader.specs.Order.{turn_of, turns_in, place_of, turns_after, Within, with_counts}
+use Rattle.round_trip.specs.Rows.{Whole}
+use Rattle.reader.specs.Order.{turn_of, place_of, turns_after, Within, with_counts}
 use Rattle.reader.specs.Scanned.{zeros, Scanned}
 use Rattle.reader.specs.Onward.{laid_out, Walking, Onward, begun, over, no_turns}
 use Rattle.reader.specs.declared.order.Turns.{Turns}
@@ -29,33 +37,56 @@ use Rattle.reader.proofs.RowLaws.{row_fits}
 use Rattle.reader.proofs.HeldLaws.{counts_are, next_turns, next_fit, fit_start, within_fit}
 
 -- ---- the lines from a place on
-module _ (s : List ℕ) (at e : ℕ) (q : Stop 10 s at (length s) e) where
-  lines_last : e ≡ length s → lines (slice at (length s) s) ≡ slice at (length s) s ∷ []
-  unfolding lines
-  lines_last h = rw (q.head, q.last h, h)
+module _ (s : List ℕ) (at : ℕ) where
+  module _ (q : Stop 10 (drop at s) None) (w : Rows) (n : ℕ) where
+    lines_last : lines (drop at s) ≡ drop at s ∷ []
+    unfolding lines
+    lines_last = rw q.is
 
-  lines_next : (e ≡ length s → ⊥) → lines (slice at (length s) s) ≡ slice at e s ∷ lines (slice (e + 1) (length s) s)
-  unfolding lines
-  lines_next h = rw (q.head, q.more h)
-
-  module _ (w : Rows) (n : ℕ) where
-    walk_cut : e ≡ length s → at < length s → walk n w (lines (slice at (length s) s)) ≡ refused 1 n
+    walk_cut : at < length s → walk n w (lines (drop at s)) ≡ refused 1 n
     unfolding walk
-    walk_cut h k = rw (lines_last h, slice-cons at (length s) s 0 k (omega arith))
+    walk_cut k = rw (lines_last, drop-cons s at 0 k)
 
-    walk_last : e ≡ length s → length s ≤ at → walk n w (lines (slice at (length s) s)) ≡ cond (leb 1 (length (w e_record))) (done w)
-        (refused 1 n)
+    walk_last : length s ≤ at → walk n w (lines (drop at s)) ≡ cond (leb 1 (length (w e_record))) (done w) (refused 1 n)
     unfolding walk
-    walk_last h k =
-        let l = q.low in
-        let z : at ≡ length s = omega arith in
-        let y : slice at (length s) s ≡ [] = rw z (slice_empty (length s) s) in
-        rw (lines_last h, y)
+    walk_last k = rw (lines_last, drop_of_length-le s k)
 
-    walk_next : (e ≡ length s → ⊥) → walk n w (lines (slice at (length s) s)) ≡ line_taken (fields (slice at e s)) n w (λ v. walk
-        (n + 1) v (lines (slice (e + 1) (length s) s)))
+  module _ (k : ℕ) (q : Stop 10 (drop at s) (Some k)) (w : Rows) (n : ℕ) where
+    lines_next : lines (drop at s) ≡ take k (drop at s) ∷ lines (drop (at + k + 1) s)
+    unfolding lines
+    lines_next = let z : at + (k + 1) ≡ at + k + 1 = omega arith in rw (q.is, drop-drop (k + 1) at s, z)
+
+    walk_next : walk n w (lines (drop at s)) ≡ line_taken (fields (take k (drop at s))) n w (λ v. walk
+        (n + 1) v (lines (drop (at + k + 1) s)))
     unfolding walk lines
-    walk_next h = rw (lines_next h)
+    walk_next = rw lines_next
+
+-- the place of the first LF, in what is left of the text
+pub stop_left : (s : List ℕ) (at : ℕ) (r : Option ℕ) → r ≡ position (λ b. eqb b 10) (take (length s - at) (drop at s)) → Stop 10 (drop at s) r
+stop_left s at r e =
+    let k : length (drop at s) ≤ length s - at = omega (arith, length-drop at s) in
+    stop_is 10 (drop at s) r (rw (take_all (length s - at) (drop at s) k) at e)
+
+pub line_inside : (s : List ℕ) (at k : ℕ) → Stop 10 (drop at s) (Some k) → at + k < length s
+line_inside s at k q = omega (arith, q.inside, length-drop at s)
+
+-- ---- a line that names no kind, or is wrong
+never : {A : Type 0} (g : Fault) → (faulty g).mark ≡ 0 → A
+never Wrong e = absurd (omega arith)
+never Beyond e = absurd (omega arith)
+
+no_line : (turns : Record → ℕ) (fs : List (List ℕ)) → (line_of no_record turns fs).mark ≡ 1
+unfolding line_of line_by read_by read_field has
+no_line turns fs = go (in_order turns no_record) (turns no_record) (rest_of fs)
+  where
+    form_none : (n : ℕ) (gs : List (List ℕ)) → (read_by (last (letter [])) n gs).mark ≡ 1
+    form_none n [] = refl
+    form_none n (f ∷ []) = refl
+    form_none n (f ∷ g ∷ gs) = refl
+
+    go : (b : Bool) (n : ℕ) (gs : List (List ℕ)) → (line_in_order b no_record n fs).mark ≡ 1
+    go true n gs = worse_last (room n 0) (read_by (last (letter [])) n (rest_of fs)).mark (form_none n (rest_of fs))
+    go false n gs = refl
 
 -- ---- what the loop keeps
 pub walking_start : (s : List ℕ) (n0 : ℕ) (l : List ℤ) → l ≡ zeros n0 → Walking s n0 l 0 1 no_turns
@@ -67,7 +98,7 @@ walking_start s n0 l e = record {
   size = ap length e ∙ length_zeros n0;
   inside = omega arith;
   line = omega arith;
-  same = rw (take-length s);
+  same = refl;
 }
 
 module _ (s : List ℕ) (n0 : ℕ) (l : List ℤ) (at n : ℕ) (t : Turns) (w : Walking s n0 l at n t) where
@@ -77,7 +108,7 @@ module _ (s : List ℕ) (n0 : ℕ) (l : List ℤ) (at n : ℕ) (t : Turns) (w : 
   same_events : t.events ≡ length (w.read e_record)
   same_events = ap (λ (t : Turns). t.events) w.turns
 
-  gives : (o : Result Rows) → walk n w.read (lines (slice at (length s) s)) ≡ o → walk 1 no_rows (lines s) ≡ o
+  gives : (o : Result Rows) → walk n w.read (lines (drop at s)) ≡ o → walk 1 no_rows (lines s) ≡ o
   gives o e = sym w.same ∙ e
 
   refusal : (a p : ℕ) (l' : List ℤ) → length l' ≡ n0 → walk 1 no_rows (lines s) ≡ refused a p
@@ -87,25 +118,25 @@ module _ (s : List ℕ) (n0 : ℕ) (l : List ℤ) (at n : ℕ) (t : Turns) (w : 
       impossible : (r : Rows) → refused a p ≡ done r → (l' ≡ value_of r ++ zeros (n0 - VALUE)) × Whole r
       impossible r f = let z : ◌≡◌ {A = ℕ} 0 1 = cc in absurd (omega arith)
 
-  module _ (e : ℕ) (q : Stop 10 s at (length s) e) where
-    pub scan_cut : e ≡ length s → at < length s → Scanned (walk 1 no_rows (lines s)) (answer 1 n) n0 l
-    scan_cut h k = refusal 1 n l w.size (gives (refused 1 n) (walk_cut s at e q w.read n h k))
+  module _ (q : Stop 10 (drop at s) None) where
+    pub scan_cut : at < length s → Scanned (walk 1 no_rows (lines s)) (answer 1 n) n0 l
+    scan_cut k = refusal 1 n l w.size (gives (refused 1 n) (walk_cut s at q w.read n k))
 
-    pub scan_missing : e ≡ length s → length s ≤ at → t.events < 1 → Scanned (walk 1 no_rows (lines s)) (answer 1 n) n0 l
-    scan_missing h k d =
+    pub scan_missing : length s ≤ at → t.events < 1 → Scanned (walk 1 no_rows (lines s)) (answer 1 n) n0 l
+    scan_missing k d =
         let g = same_events in
         let z : leb 1 (length (w.read e_record)) ≡ false = lt-leb 1 (length (w.read e_record)) (omega arith) in
         refusal 1 n l w.size
-        (gives (refused 1 n) (walk_last s at e q w.read n h k ∙ ap (λ (b : Bool). cond b (done w.read) (refused 1 n)) z))
+        (gives (refused 1 n) (walk_last s at q w.read n k ∙ ap (λ (b : Bool). cond b (done w.read) (refused 1 n)) z))
 
-    pub scan_done : (l' : List ℤ) → l' ≡ with_counts t l → e ≡ length s → length s ≤ at → 1 ≤ t.events
+    pub scan_done : (l' : List ℤ) → l' ≡ with_counts t l → length s ≤ at → 1 ≤ t.events
         → Scanned (walk 1 no_rows (lines s)) (answer 0 0) n0 l'
     unfolding with_counts
-    scan_done l' f h k d =
+    scan_done l' f k d =
         let g = same_events in
         let z : leb 1 (length (w.read e_record)) ≡ true = le-leb 1 (length (w.read e_record)) (omega arith) in
         let r : walk 1 no_rows (lines s) ≡ done w.read =
-        gives (done w.read) (walk_last s at e q w.read n h k ∙ ap (λ (b : Bool). cond b (done w.read) (refused 1 n)) z) in
+        gives (done w.read) (walk_last s at q w.read n k ∙ ap (λ (b : Bool). cond b (done w.read) (refused 1 n)) z) in
         record {
           answer = sym (ap answer_of r);
           numbers = λ rows i v. rest rows v (sym r ∙ i);
@@ -124,33 +155,30 @@ module _ (s : List ℕ) (n0 : ℕ) (l : List ℤ) (at n : ℕ) (t : Turns) (w : 
             f ∙ rw (w.turns, w.numbers v) (counted_numbers w.read (zeros (n0 - VALUE)) w.fit) in
             (rw j at m, subst Whole j (record { fit = w.fit; one = omega arith }))
 
-    module _ (h : e ≡ length s → ⊥) (k m : ℕ) (l' : List ℤ) (g : k ≡ letter_of (field (fields (slice at e s)) 0))
-        (o : Took (line_of (record_by k) (turn_of t) (fields (slice at e s))) (place_of (record_by k) t) l m l') where
-      abbrev fs : List (List ℕ)
-      fs = fields (slice at e s)
+  module _ (k : ℕ) (q : Stop 10 (drop at s) (Some k)) where
+    abbrev fs : List (List ℕ)
+    fs = fields (take k (drop at s))
 
-      abbrev r : Record
-      r = record_of fs
-
+    module _ (r : Record) (e : r ≡ record_of fs) (m : ℕ) (l' : List ℤ) (o : Took (line_of r (turn_of t) fs) (place_of r t) l m l') where
       -- the row as the walk has it
       abbrev y : List ℤ
       y = (line_of r (turns_of w.read) fs).row
 
       abbrev onward : Rows → Result Rows
-      onward v = walk (n + 1) v (lines (slice (e + 1) (length s) s))
+      onward v = walk (n + 1) v (lines (drop (at + k + 1) s))
 
       turns_are : turn_of t ≡ turns_of w.read
       turns_are = ap turn_of w.turns ∙ counts_are w.read w.fit
 
-      as_read : line_of (record_by k) (turn_of t) fs ≡ line_of r (turns_of w.read) fs
-      as_read = rw (g, turns_are)
+      as_read : line_of r (turn_of t) fs ≡ line_of r (turns_of w.read) fs
+      as_read = rw turns_are
 
       mark_is : m ≡ (line_of r (turns_of w.read) fs).mark
       mark_is = o.mark ∙ ap (λ (l : Line). l.mark) as_read
 
       next_is : walk 1 no_rows (lines s) ≡ further m n (with_row r y w.read) onward
       next_is =
-          sym w.same ∙ walk_next s at e q w.read n h ∙ ap (λ (a : ℕ). further a n (with_row r y w.read) onward) (sym mark_is)
+          sym w.same ∙ walk_next s at k q w.read n ∙ rw (← e) (ap (λ (a : ℕ). further a n (with_row r y w.read) onward) (sym mark_is))
 
       pub scan_fault : (m ≡ 0 → ⊥) → Scanned (walk 1 no_rows (lines s)) (answer m n) n0 l'
       scan_fault z = refusal m n l' (o.size ∙ w.size) (next_is ∙ stops m (with_row r y w.read) onward z)
@@ -159,21 +187,19 @@ module _ (s : List ℕ) (n0 : ℕ) (l : List ℤ) (at n : ℕ) (t : Turns) (w : 
           stops zero v more z = absurd (z refl)
           stops (suc m) v more z = refl
 
-      pub scan_next : (u : Turns) → u ≡ turns_after (record_by k) t → m ≡ 0 → Walking s n0 l' (e + 1) (n + 1) u
+      pub scan_next : (u : Turns) → u ≡ turns_after r t → m ≡ 0 → Walking s n0 l' (at + k + 1) (n + 1) u
       unfolding place_of
       scan_next u i z =
           let p = w.line in
-          let lo = q.low in
-          let hi = q.high in
+          let hi = line_inside s at k q in
           let fits = row_fits r (turns_of w.read) fs (sym mark_is ∙ z) in
           let stored : VALUE ≤ n0 → l' ≡ sets (laid_out w.read (zeros (n0 - VALUE))) (place_of r t) y =
-          λ v. o.row z ∙ ap (λ (x : Line). sets l (place_of (record_by k) t) x.row) as_read
-          ∙ ap (λ (c : ℕ). sets l (place_of (record_by c) t) y) g ∙ ap (λ (x : List ℤ). sets x (place_of r t) y) (w.numbers v) in
+          λ v. o.row z ∙ ap (λ (x : Line). sets l (place_of r t) x.row) as_read ∙ ap (λ (x : List ℤ). sets x (place_of r t) y) (w.numbers v) in
           let at_row : place_of r t ≡ place (laid r) + length (w.read r) * row_size r =
           ap (λ (n : ℕ). place (laid r) + n * row_size r) (ap (λ (f : Record → ℕ). f r) turns_are) in
           record {
             read = with_row r y w.read;
-            turns = i ∙ ap (λ (c : ℕ). turns_after (record_by c) t) g ∙ ap (turns_after r) w.turns ∙ next_turns w.read r y;
+            turns = i ∙ ap (turns_after r) w.turns ∙ next_turns w.read r y;
             numbers = λ v. stored v ∙ rw at_row (next_numbers w.read (zeros (n0 - VALUE)) y w.fit r fits.0 fits.1);
             fit = next_fit w.read w.fit r y fits.0 fits.1;
             size = o.size ∙ w.size;
@@ -181,6 +207,18 @@ module _ (s : List ℕ) (n0 : ℕ) (l : List ℤ) (at n : ℕ) (t : Turns) (w : 
             line = omega arith;
             same = sym (next_is ∙ rw z);
           }
+
+    pub scan_unnamed : no_record ≡ record_of fs → Scanned (walk 1 no_rows (lines s)) (answer 1 n) n0 l
+    scan_unnamed e = scan_fault no_record e 1 l (record {
+      mark = sym (no_line (turn_of t) fs);
+      row = λ z. absurd (omega arith);
+      size = refl;
+    }) (λ z. absurd (omega arith))
+
+    pub scan_faulty : (r : Record) → r ≡ record_of fs → (g : Fault) (l' : List ℤ)
+        → Took (line_of r (turn_of t) fs) (place_of r t) l (faulty g).mark l'
+        → Scanned (walk 1 no_rows (lines s)) (answer (faulty g).mark n) n0 l'
+    scan_faulty r e g l' o = scan_fault r e (faulty g).mark l' o (λ z. never g z)
 
 -- ---- how far the reading has come
 

@@ -1,6 +1,5 @@
 -- What is held while a text is read line by line: how far the reading has come, and what the lent numbers hold then. Assumes nothing.
-use Rattle.std.specs.Prelude.{◌≡◌, true, false, List, [], ◌∷◌, ◌++◌, ℕ, ◌+◌, ◌-◌, ◌≤◌, ℤ, pos, length}
-use Rattle.std.proofs.Math.Seq.{slice}
+use Rattle.std.specs.Prelude.{◌≡◌, true, false, List, [], ◌∷◌, ◌++◌, ℕ, ◌+◌, ◌-◌, ◌≤◌, ℤ, pos, length, drop}
 use Rattle.meaning.specs.Lists.{concat_map}
 use Rattle.meaning.specs.Value.{Rows, Part, counted, laid, PARTS, VALUE}
 use Rattle.meaning.specs.Split.{lines}
@@ -29,7 +28,7 @@ pub record Walking (s : List ℕ) (n0 : ℕ) (l : List ℤ) (at n : ℕ) (t : Tu
   pub size : length l ≡ n0
   pub inside : at ≤ length s
   pub line : n ≤ at + 1
-  pub same : walk n read (lines (slice at (length s) s)) ≡ walk 1 no_rows (lines s)
+  pub same : walk n read (lines (drop at s)) ≡ walk 1 no_rows (lines s)
 
 -- nothing is counted
 abbrev pub no_turns : Turns

@@ -1,11 +1,10 @@
 -- The order of records in a text: what is counted, where the next row of each kind stands in the chart's numbers, and what is counted
 -- after a line. Assumes nothing.
-use Rattle.std.specs.Prelude.{◌≡◌, List, ℕ, ◌+◌, ◌*◌, ◌≤◌, ℤ, pos, length, set}
+use Rattle.std.specs.Prelude.{List, ℕ, ◌+◌, ◌*◌, ◌≤◌, ℤ, pos, length, set}
 use Rattle.sizes.specs.Sizes.{STATES, VARIABLES, TRANSITIONS, ACTIONS}
 use Rattle.meaning.specs.Value.{Rows, counted, laid, place}
-use Rattle.meaning.specs.Grammar.{Record, s_record, v_record, e_record, t_record, a_record, no_record, most, row_size}
+use Rattle.meaning.specs.Grammar.{Record, s_record, v_record, e_record, t_record, a_record, no_record, row_size}
 use Rattle.reader.specs.declared.order.Turns.{Turns}
-use Rattle.reader.specs.declared.order.Kind.{Kind}
 
 -- how many of a kind were read
 abbrev pub turn_of : Turns → Record → ℕ
@@ -29,11 +28,6 @@ turns_in r = record {
 -- the place of the next row of a kind
 unfoldable pub place_of : Record → Turns → ℕ
 place_of r t = place (laid r) + turn_of t r * row_size r
-
-pub record KindOf (r : Record) (k : Kind) : Type 0 where
-  pub most : k.most ≡ most r
-  pub place : k.place ≡ place (laid r)
-  pub size : k.size ≡ row_size r
 
 -- what is counted after a line
 unfoldable pub turns_after : Record → Turns → Turns

@@ -1,6 +1,6 @@
 -- What reading a text's lines into lent numbers leaves: the value of the rows and 0 past it; all 0 where it is refused, also for
 -- numbers too few for a value. The rules R1 to R7 are still to be tried. Assumes nothing.
-use Rattle.std.specs.Prelude.{◌≡◌, Bool, true, false, List, ◌++◌, ℕ, ◌-◌, ◌≤◌, leb, ℤ}
+use Rattle.std.specs.Prelude.{◌≡◌, Bool, true, false, List, ◌++◌, ℕ, ◌-◌, leb, ℤ}
 use Rattle.meaning.specs.Value.{Rows, VALUE}
 use Rattle.meaning.specs.Text.{Result, done, refused, answer_of, value_of}
 use Rattle.meaning.specs.declared.Answer.{Answer}

@@ -2,7 +2,7 @@
 -- Assumes nothing.
 use Rattle.std.specs.Prelude.{◌≡◌, List, ◌++◌, ℕ, ◌-◌, ◌≤◌, ℤ, pos, length, replicate}
 use Rattle.meaning.specs.Value.{Rows, VALUE}
-use Rattle.meaning.specs.Text.{Result, done, refused, answer_of, value_of}
+use Rattle.meaning.specs.Text.{Result, done, answer_of, value_of}
 use Rattle.meaning.specs.declared.Answer.{Answer}
 use Rattle.round_trip.specs.Rows.{Whole}
 

@@ -9,10 +9,8 @@ pub mod scan;
 ghost use Rattle.std.specs.Prelude.{◌≡◌, length};
 ghost use Rattle.meaning.specs.Split.{lines};
 ghost use Rattle.meaning.specs.Text.{walk as walk_of, no_rows};
-ghost use Rattle.reader.specs.Heard.{Heard};
 ghost use Rattle.reader.specs.Scanned.{zeros, Scanned};
 
-use fields::{LF, stop};
 use meaning::Answer;
 use scan::{begin, line_at};
 
@@ -20,28 +18,6 @@ use scan::{begin, line_at};
 pub struct Reader<'a> {
     pub text: &'a [u8],
     pub at: usize,
-}
-
-// A line and its LF, at that place; or what is left has no LF.
-#[derive(Drop)]
-pub enum Step {
-    Line(usize),
-    Last,
-}
-
-// Where the line ends that starts at a position.
-pub fn next_line(s: &[u8], at: usize) -> Step
-    ensures { Heard s.now at result }
-{
-    let len = s.len();
-    if len < at {
-        return Step::Last;
-    }
-    let e = stop(s, at, len, LF);
-    if e == len {
-        return Step::Last;
-    }
-    Step::Line(e)
 }
 
 // At the start of the text.

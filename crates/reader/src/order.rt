@@ -1,21 +1,18 @@
 // The order S, V, one E, T, A (01, "Chart text"): a line is read as the record that its first letter names, if that stands in its
 // place, and counted after it.
-ghost use Rattle.std.specs.Prelude.{◌≡◌, ◌+◌, ◌<◌, ◌≤◌, length, set, pos};
-ghost use Rattle.std.proofs.Math.Seq.{slice};
+ghost use Rattle.std.specs.Prelude.{◌≡◌, ◌<◌, set, pos};
 ghost use Rattle.numbers.specs.Reference.{NOWHERE};
 ghost use Rattle.meaning.specs.Split.{fields};
-ghost use Rattle.meaning.specs.Grammar.{record_by};
-ghost use Rattle.meaning.specs.Line.{line_of, in_order};
+ghost use Rattle.meaning.specs.Line.{line_of, in_order, mark_of};
+ghost use Rattle.chart_rows.specs.Kinds.{as_record};
 ghost use Rattle.lines.specs.Took.{Took};
-ghost use Rattle.reader.specs.Order.{turn_of, place_of, turns_after, Within, with_counts, KindOf};
+ghost use Rattle.reader.specs.Order.{turn_of, place_of, turns_after, Within, with_counts};
 
-use chart_rows::layout::{
-    ACT_ROW, ACTION_COUNT, ACTIONS_AT, EVENT_COUNT, STATE_COUNT, STATE_ROW, STATES_AT, TRANS_ROW,
-    TRANSITION_COUNT, TRANSITIONS_AT, VALUE, VAR_COUNT, VAR_ROW, VARS_AT,
-};
-use forms::entry;
+use chart_rows::kinds::Record;
+use chart_rows::layout::{ACTION_COUNT, STATE_COUNT, TRANSITION_COUNT, VAR_COUNT};
+use forms::begins;
+use meaning::Fault;
 use numbers::number;
-use sizes::{ACTIONS, STATES, TRANSITIONS, VARIABLES};
 
 // How many records of each kind were read.
 #[derive(Clone, Copy)]
@@ -27,106 +24,64 @@ pub struct Turns {
     pub actions: usize,
 }
 
-// Of a kind: how many there may be, where its rows begin, and how many numbers a row has.
-#[derive(Drop)]
-pub struct Kind {
-    pub most: usize,
-    pub place: usize,
-    pub size: usize,
-}
-
-fn of(most: usize, place: usize, size: usize) -> Kind
-    ensures { (result.most ≡ most) × (result.place ≡ place) × (result.size ≡ size) }
-{
-    Kind { most, place, size }
-}
-
-// The kind that a letter names; of none there may be none.
-fn kind_of(k: u8) -> Kind
-    ensures { KindOf (record_by k) result }
-{
-    match k {
-        b'S' => of(STATES, STATES_AT, STATE_ROW),
-        b'V' => of(VARIABLES, VARS_AT, VAR_ROW),
-        b'E' => of(1, EVENT_COUNT, 1),
-        b'T' => of(TRANSITIONS, TRANSITIONS_AT, TRANS_ROW),
-        b'A' => of(ACTIONS, ACTIONS_AT, ACT_ROW),
-        _ => of(0, VALUE, 1),
+impl Turns {
+    // How many of a kind were read.
+    fn of(self, kind: Record) -> usize
+        ensures { result ≡ turn_of self (as_record kind) }
+    {
+        match kind {
+            Record::State => self.states,
+            Record::Variable => self.vars,
+            Record::Events => self.events,
+            Record::Transition => self.transitions,
+            Record::Action => self.actions,
+        }
     }
-}
 
-// How many of it were read.
-fn turn(k: u8, t: Turns) -> usize
-    ensures { result ≡ turn_of t (record_by k) }
-{
-    match k {
-        b'S' => t.states,
-        b'V' => t.vars,
-        b'E' => t.events,
-        b'T' => t.transitions,
-        b'A' => t.actions,
-        _ => 0,
+    // One more of it.
+    pub fn more(self, kind: Record) -> Turns
+        requires { Within self }
+        ensures { result ≡ turns_after (as_record kind) self }
+    {
+        let mut next = self;
+        match kind {
+            Record::State => next.states += 1,
+            Record::Variable => next.vars += 1,
+            Record::Events => next.events += 1,
+            Record::Transition => next.transitions += 1,
+            Record::Action => next.actions += 1,
+        }
+        next
     }
 }
 
 // None of a later kind was read; one E was, where E stands before the kind, else none.
-fn placed(k: u8, t: Turns) -> bool
+fn placed(kind: Record, t: Turns) -> bool
     requires { Within t }
-    ensures { result ≡ in_order (turn_of t) (record_by k) }
+    ensures { result ≡ in_order (turn_of t) (as_record kind) }
 {
-    match k {
-        b'S' => t.vars + t.events + t.transitions + t.actions == 0,
-        b'V' => t.events + t.transitions + t.actions == 0,
-        b'E' => t.events + t.transitions + t.actions == 0,
-        b'T' => t.actions + 1 == t.events,
-        b'A' => t.events == 1,
-        _ => t.events == 0,
+    match kind {
+        Record::State => t.vars + t.events + t.transitions + t.actions == 0,
+        Record::Variable => t.events + t.transitions + t.actions == 0,
+        Record::Events => t.events + t.transitions + t.actions == 0,
+        Record::Transition => t.actions + 1 == t.events,
+        Record::Action => t.events == 1,
     }
 }
 
-// A line whose first field is the letter k.
-pub fn line(s: &[u8], from: usize, to: usize, k: u8, t: Turns, chart: &mut [i32]) -> usize
-    requires { (from ≤ to) × (to ≤ length s.now) × Within t }
-    ensures { Took (line_of (record_by k) (turn_of t) (fields (slice from to s.now))) (place_of (record_by k) t)
-        chart.old result chart.new }
-{
-    if placed(k, t) {
-        let n = turn(k, t);
-        let q = kind_of(k);
-        let i = entry(k, n);
-        let at = q.place + n * q.size;
-        return lines::line(s, from, to, i, n, q.most, chart, at);
-    }
-    1
-}
-
-// What was read with a line of the letter k.
-pub fn counted(k: u8, t: Turns) -> Turns
+// A line whose first field names a kind.
+pub fn line(s: &[u8], kind: Record, t: Turns, chart: &mut [i32]) -> Result<(), Fault>
     requires { Within t }
-    ensures { result ≡ turns_after (record_by k) t }
+    ensures { Took (line_of (as_record kind) (turn_of t) (fields s.now)) (place_of (as_record kind) t)
+        chart.old (mark_of result) chart.new }
 {
-    let mut n = t;
-    if k == b'S' {
-        n.states = t.states + 1;
-        return n;
+    if !placed(kind, t) {
+        return Err(Fault::Wrong);
     }
-    if k == b'V' {
-        n.vars = t.vars + 1;
-        return n;
-    }
-    if k == b'E' {
-        n.events = t.events + 1;
-        return n;
-    }
-    if k == b'T' {
-        n.transitions = t.transitions + 1;
-        return n;
-    }
-    if k == b'A' {
-        n.actions = t.actions + 1;
-        return n;
-    }
-    n
+    let n = t.of(kind);
+    let area = kind.area();
+    let at = area.place + n * area.size;
+    lines::line(s, begins(kind, n), n, area.most, chart, at)
 }
 
 // One count, at its place.

@@ -2,7 +2,6 @@
 // leaves all of them 0.
 ghost use Rattle.std.specs.Prelude.{◌≡◌, length};
 ghost use Rattle.meaning.specs.Text.{read_text};
-ghost use Rattle.reader.specs.Scanned.{zeros};
 ghost use Rattle.reader.specs.RowsRead.{RowsRead};
 
 use crate::walk;
@@ -11,22 +10,11 @@ use meaning::Answer;
 use meaning::answers::{OUTSIDE_SIZE, RULE_FAILS};
 use sizes::TEXT;
 
-// Sets all of the numbers to 0.
-pub fn clear(chart: &mut [i32])
-    ensures { chart.new ≡ zeros (length chart.old) }
-{
-    let mut i = 0;
-    while i < chart.len() {
-        chart[i] = 0;
-        i += 1;
-    }
-}
-
 // The answers 1 and 2 with their line, and 3 with place 0 for numbers too few; the rules are tried by the caller.
 pub fn read_rows(text: &[u8], chart: &mut [i32]) -> Answer
     ensures { RowsRead (read_text text.now) (length chart.old) result chart.new }
 {
-    clear(chart);
+    chart.fill(0);
     if TEXT < text.len() {
         return Answer {
             number: OUTSIDE_SIZE,
@@ -35,11 +23,11 @@ pub fn read_rows(text: &[u8], chart: &mut [i32]) -> Answer
     }
     let r = walk(text, chart);
     if r.number != 0 {
-        clear(chart);
+        chart.fill(0);
         return r;
     }
     if chart.len() < VALUE {
-        clear(chart);
+        chart.fill(0);
         return Answer {
             number: RULE_FAILS,
             place: 0,

@@ -1,12 +1,14 @@
 // One line of a text (01, "Chart text"): it is read into the chart's numbers, and the first faulty one is told. Here are plain slices and
 // numbers; the reader's struct, which walks over the lines, is in lib.rt.
 ghost use Rattle.std.specs.Prelude.{◌≡◌, true, ◌<◌, length};
+ghost use Rattle.meaning.specs.Line.{faulty as fault_of};
 ghost use Rattle.reader.specs.Onward.{Walking, Onward, begun, over as ended};
 
-use crate::order::{Turns, counted, line, put_counts};
-use crate::{Step, next_line};
-use fields::letter_at;
-use meaning::Answer;
+use crate::order::{Turns, line, put_counts};
+use chart_rows::kinds::Record;
+use fields::{LF, letter_at, stop};
+use meaning::answers::{OUTSIDE_SIZE, WRONG_LINE};
+use meaning::{Answer, Fault};
 
 // How far the reading has come: whether it goes on, where the next line starts, its number, and what was counted; else the answer.
 #[derive(Drop)]
@@ -55,6 +57,16 @@ fn over(number: usize, place: usize) -> Progress
     }
 }
 
+// What is wrong with a line, at its number.
+fn faulty(fault: Fault, line: usize) -> Progress
+    ensures { result ≡ ended (record { number = (fault_of fault).mark; place = line }) }
+{
+    match fault {
+        Fault::Wrong => over(WRONG_LINE, line),
+        Fault::Beyond => over(OUTSIDE_SIZE, line),
+    }
+}
+
 // The line that starts at a place is read; behind the last LF the reading is over.
 pub fn line_at(text: &[u8], at: usize, p: Progress, chart: &mut [i32]) -> Progress
     requires { Walking text.now (length chart.old) chart.old at p.line p.turns }
@@ -62,31 +74,31 @@ pub fn line_at(text: &[u8], at: usize, p: Progress, chart: &mut [i32]) -> Progre
 {
     let n = p.line;
     let turns = p.turns;
-    let step = next_line(text, at);
-    let Step::Line(e) = step else {
+    let Some(k) = stop(&text[at..], LF) else {
         if at < text.len() {
-            return over(1, n);
+            return over(WRONG_LINE, n);
         }
         if turns.events < 1 {
-            return over(1, n);
+            return over(WRONG_LINE, n);
         }
         put_counts(chart, turns);
         return over(0, 0);
     };
-    let k = letter_at(text, at, e, 0);
-    let m = line(text, at, e, k, turns, chart);
-    if m != 0 {
-        return over(m, n);
-    }
-    let next = counted(k, turns);
-    Progress {
-        going: true,
-        at: e + 1,
-        line: n + 1,
-        turns: next,
-        answer: Answer {
-            number: 0,
-            place: 0,
+    let s = &text[at..at + k];
+    let Some(kind) = Record::of(letter_at(s, 0)) else {
+        return over(WRONG_LINE, n);
+    };
+    match line(s, kind, turns, chart) {
+        Err(fault) => faulty(fault, n),
+        Ok(()) => Progress {
+            going: true,
+            at: at + k + 1,
+            line: n + 1,
+            turns: turns.more(kind),
+            answer: Answer {
+                number: 0,
+                place: 0,
+            },
         },
     }
 }

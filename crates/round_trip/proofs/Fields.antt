@@ -21,8 +21,9 @@ use Rattle.meaning.specs.Value.{ABSENT, num, is_letter, is_absent, one_of_letter
 use Rattle.meaning.specs.Number.{number_of, numeral}
 use Rattle.meaning.specs.Line.{Line, worse, room, line, beyond, letter_of, is_dash, is_turn, number_line, count_line}
 use Rattle.meaning.specs.Line.{right_if, read_field, write_field}
-use Rattle.meaning.specs.declared.Num.{Num}
-use Rattle.meaning.specs.declared.Num.TheVariants.{Is, Beyond, Not}
+use Rattle.std.proofs.Common.{Result, Ok, Err}
+use Rattle.meaning.specs.declared.Fault.{Fault}
+use Rattle.meaning.specs.declared.Fault.TheVariants.{Wrong, Beyond}
 use Rattle.round_trip.proofs.Numbers.{no, number_writes, number_back, number_numeral, in_range_size, size_in_range}
 use Rattle.round_trip.proofs.Numbers.{numeral_length}
 use Rattle.round_trip.proofs.Splits.{Free, free_byte, free_append, free_numeral}
@@ -179,19 +180,18 @@ number_kept : (P : Line → Type 0) (zs : List ℤ) (f : List ℕ) → ((z : ℤ
     → Good (number_line zs (number_of f)).mark → P (number_line zs (number_of f))
 number_kept P zs f h g = go (number_of f) refl g
   where
-    go : (v : Num) → number_of f ≡ v → Good (number_line zs v).mark → P (number_line zs v)
-    go (Is z) e g = let w = number_writes f z e in h z w.0 (size_in_range z w.1)
-    go Beyond e g = absurd (g.small refl)
-    go Not e g = absurd (g.right refl)
+    go : (v : Result ℤ Fault) → number_of f ≡ v → Good (number_line zs v).mark → P (number_line zs v)
+    go (Ok z) e g = let w = number_writes f z e in h z w.0 (size_in_range z w.1)
+    go (Err Beyond) e g = absurd (g.small refl)
+    go (Err Wrong) e g = absurd (g.right refl)
 
 turn_inv : (n : ℕ) (f : List ℕ) → is_turn (number_of f) n ≡ true → numeral (pos n) ≡ f
 turn_inv n f e = (number_writes f (pos n) (go (number_of f) e)).0
   where
-    go : (v : Num) → is_turn v n ≡ true → v ≡ Is (pos n)
-    go (Is (pos m)) e = ap (λ (k : ℕ). Is (pos k)) (eqb-true m n e)
-    go (Is (negsuc m)) e = no cc
-    go Beyond e = no cc
-    go Not e = no cc
+    go : (v : Result ℤ Fault) → is_turn v n ≡ true → v ≡ Ok (pos n)
+    go (Ok (pos m)) e = ap (λ (k : ℕ). Ok (pos k)) (eqb-true m n e)
+    go (Ok (negsuc m)) e = no cc
+    go (Err f) e = no cc
 
 -- a count is a number of the range
 count_is : (low high : ℕ) (z : ℤ) → count_fits low high z ≡ true → leb high MOST ≡ true → nat_abs z ≤ MOST
@@ -209,17 +209,17 @@ field_kept number n f p g = number_kept (λ l. Kept number n f l.row) [] f
     (λ z e r. record { long = refl; ok = λ i row a. rw a.0 r; text = λ i row a. rw a.0 e }) g
 field_kept (count low high) n f p g = go (number_of f) refl g
   where
-    within : (z : ℤ) (t : Bool) → number_of f ≡ Is z → count_fits low high z ≡ t → Good (cond t (line 0 (z ∷ [])) beyond).mark
+    within : (z : ℤ) (t : Bool) → number_of f ≡ Ok z → count_fits low high z ≡ t → Good (cond t (line 0 (z ∷ [])) beyond).mark
         → Kept (count low high) n f (cond t (line 0 (z ∷ [])) beyond).row
     within z true e c g =
         let w = number_writes f z e in
         record { long = refl; ok = λ i row a. rw a.0 c; text = λ i row a. rw a.0 w.0 }
     within z false e c g = absurd (g.small refl)
 
-    go : (v : Num) → number_of f ≡ v → Good (count_line low high v).mark → Kept (count low high) n f (count_line low high v).row
-    go (Is z) e g = within z (count_fits low high z) e refl g
-    go Beyond e g = absurd (g.small refl)
-    go Not e g = absurd (g.right refl)
+    go : (v : Result ℤ Fault) → number_of f ≡ v → Good (count_line low high v).mark → Kept (count low high) n f (count_line low high v).row
+    go (Ok z) e g = within z (count_fits low high z) e refl g
+    go (Err Beyond) e g = absurd (g.small refl)
+    go (Err Wrong) e g = absurd (g.right refl)
 field_kept (letter ls) n f p g = right_kept (λ l. Kept (letter ls) n f l.row) (has (letter_of f) ls) (pos (letter_of f) ∷ [])
     (λ e. let h = above_has (letter_of f) ls p e in
     record {

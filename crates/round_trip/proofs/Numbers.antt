@@ -3,7 +3,7 @@
 use mathlib.Core.Path.{◌≡◌, refl, ap, ◌∙◌}
 use mathlib.Core.Bool.{Bool, true, false, cond}
 use mathlib.Core.List.{List, [], ◌∷◌, ◌++◌, append_assoc, append-nil}
-use mathlib.Core.Option.{Option, none, some}
+use Rattle.std.proofs.Common.{Option, None, Some, Result, Ok, Err}
 use Prim.Native.Nat.{ℕ, zero, suc, ◌+◌, ◌-◌, ◌*◌, ◌/◌, ◌%◌, ◌≤◌, ◌<◌, min}
 use native.Mathlib.Omega.{arith}
 use lib.Dec.{ltb, eqb}
@@ -16,9 +16,8 @@ use Rattle.numbers.specs.Reference.{ref, NOWHERE}
 use Rattle.numbers.proofs.Ranges.{within_low, within_high, within_both}
 use Rattle.meaning.specs.Number.{BEYOND, value, alone, unless_zero, natural, capped, natural_of, with_no_sign, minus, signed, number_of}
 use Rattle.meaning.specs.Number.{by_size, digits_in, digits, numeral}
-use Rattle.meaning.specs.declared.Num.TheVariants as num
-use Rattle.meaning.specs.declared.Nat.{Nat}
-use Rattle.meaning.specs.declared.Nat.TheVariants as nat
+use Rattle.meaning.specs.declared.Fault.{Fault}
+use Rattle.meaning.specs.declared.Fault.TheVariants.{Wrong, Beyond}
 
 -- two numbers that differ are not equal: what `cc` shows of two constructors
 pub no : {A : Type 0} → ◌≡◌ {A = ℕ} 0 1 → A
@@ -86,13 +85,13 @@ value_in a b bs p q = rw (le-ltb b 48 p, le-ltb 57 b q)
 pub record Digit (a b m : ℕ) (bs : List ℕ) : Type 0 where
   pub least : 48 ≤ b
   pub greatest : b ≤ 57
-  pub rest : value (min BEYOND (a * 10 + (b - 48))) bs ≡ some m
+  pub rest : value (min BEYOND (a * 10 + (b - 48))) bs ≡ Some m
 
-digit_is : (a b m : ℕ) (bs : List ℕ) → value a (b ∷ bs) ≡ some m → Digit a b m bs
+digit_is : (a b m : ℕ) (bs : List ℕ) → value a (b ∷ bs) ≡ Some m → Digit a b m bs
 unfolding value
 digit_is a b m bs e = go (ltb b 48) (ltb 57 b) refl refl e
   where
-    go : (s t : Bool) → ltb b 48 ≡ s → ltb 57 b ≡ t → cond s none (cond t none (value (min BEYOND (a * 10 + (b - 48))) bs)) ≡ some m
+    go : (s t : Bool) → ltb b 48 ≡ s → ltb 57 b ≡ t → cond s None (cond t None (value (min BEYOND (a * 10 + (b - 48))) bs)) ≡ Some m
         → Digit a b m bs
     go true t p q e = no cc
     go false true p q e = no cc
@@ -101,12 +100,12 @@ digit_is a b m bs e = go (ltb b 48) (ltb 57 b) refl refl e
 -- ---- reading what is written
 
 -- the last digit
-value_last : (a m d : ℕ) (xs : List ℕ) → d < 10 → value a xs ≡ some m → value a (xs ++ ((48 + d) ∷ [])) ≡ some (min BEYOND (m * 10 + d))
+value_last : (a m d : ℕ) (xs : List ℕ) → d < 10 → value a xs ≡ Some m → value a (xs ++ ((48 + d) ∷ [])) ≡ Some (min BEYOND (m * 10 + d))
 unfolding value
 value_last a m d [] h e =
     let k : a ≡ m = cc in
     let n : min BEYOND (a * 10 + (48 + d - 48)) ≡ min BEYOND (m * 10 + d) = omega arith in
-    value_in a (48 + d) [] (omega arith) (omega arith) ∙ ap some n
+    value_in a (48 + d) [] (omega arith) (omega arith) ∙ ap Some n
 value_last a m d (b ∷ bs) h e =
     let w = digit_is a b m bs e in
     value_in a b (bs ++ ((48 + d) ∷ [])) w.least w.greatest ∙ value_last (min BEYOND (a * 10 + (b - 48))) m d bs h w.rest
@@ -141,18 +140,18 @@ lead = by_digits (λ n. Lead n (digits n))
       zero_is = λ e. let z = r.zero_is e in absurd (omega arith);
     })
 
-value_none : (a : ℕ) → value a [] ≡ some a
+value_none : (a : ℕ) → value a [] ≡ Some a
 unfolding value
 value_none a = refl
 
-value_digits : (n : ℕ) → n ≤ MOST → value 0 (digits n) ≡ some n
-value_digits = by_digits (λ n. n ≤ MOST → value 0 (digits n) ≡ some n)
+value_digits : (n : ℕ) → n ≤ MOST → value 0 (digits n) ≡ Some n
+value_digits = by_digits (λ n. n ≤ MOST → value 0 (digits n) ≡ Some n)
     (λ n h k. let e : min BEYOND (0 * 10 + (48 + n - 48)) ≡ n = omega arith in
-    rw (digits_one n h) (value_in 0 (48 + n) [] (omega arith) (omega arith) ∙ value_none (min BEYOND (0 * 10 + (48 + n - 48))) ∙ ap some e))
+    rw (digits_one n h) (value_in 0 (48 + n) [] (omega arith) (omega arith) ∙ value_none (min BEYOND (0 * 10 + (48 + n - 48))) ∙ ap Some e))
     (λ n h r k. let e : min BEYOND (n / 10 * 10 + n % 10) ≡ n = omega arith in
-    rw (digits_more n h) (value_last 0 (n / 10) (n % 10) (digits (n / 10)) (omega arith) (r (omega arith)) ∙ ap some e))
+    rw (digits_more n h) (value_last 0 (n / 10) (n % 10) (digits (n / 10)) (omega arith) (r (omega arith)) ∙ ap Some e))
 
-natural_zero : natural (digits 0) ≡ some 0
+natural_zero : natural (digits 0) ≡ Some 0
 unfolding natural digits digits_in
 natural_zero = refl
 
@@ -160,41 +159,41 @@ natural_more : (b : ℕ) (bs : List ℕ) → (b ≡ 48 → ⊥) → natural (b �
 unfolding natural
 natural_more b bs h = rw (ne_eqb b 48 h)
 
-natural_digits : (n : ℕ) → n ≤ MOST → natural (digits n) ≡ some n
+natural_digits : (n : ℕ) → n ≤ MOST → natural (digits n) ≡ Some n
 natural_digits n k = go n (lead n) (value_digits n k)
   where
-    go : (n : ℕ) → Lead n (digits n) → value 0 (digits n) ≡ some n → natural (digits n) ≡ some n
+    go : (n : ℕ) → Lead n (digits n) → value 0 (digits n) ≡ Some n → natural (digits n) ≡ Some n
     go zero l v = natural_zero
     go (suc n) l v =
         let h : l.head ≡ 48 → ⊥ = λ e. let z = l.zero_is e in omega arith in
         rw l.is (natural_more l.head l.tail h ∙ (rw l.is at v))
 
-natural_of_digits : (n : ℕ) → n ≤ MOST → natural_of (digits n) ≡ nat.Is n
+natural_of_digits : (n : ℕ) → n ≤ MOST → natural_of (digits n) ≡ Ok n
 unfolding natural_of capped
 natural_of_digits n h = rw (natural_digits n h, le-ltb MOST n h)
 
 -- a number of the range, written, reads as itself
-pub number_numeral : (z : ℤ) → nat_abs z ≤ MOST → number_of (numeral z) ≡ num.Is z
+pub number_numeral : (z : ℤ) → nat_abs z ≤ MOST → number_of (numeral z) ≡ Ok z
 unfolding number_of numeral
 number_numeral (pos n) h =
     let l = lead n in
     let k : l.head ≡ 45 → ⊥ = λ e. let z = l.least in omega arith in
-    let v : natural_of (l.head ∷ l.tail) ≡ nat.Is n = rw (← l.is, natural_of_digits n h) in
+    let v : natural_of (l.head ∷ l.tail) ≡ Ok n = rw (← l.is, natural_of_digits n h) in
     rw l.is (rw (ne_eqb l.head 45 k, v))
 number_numeral (negsuc n) h = rw (natural_of_digits (suc n) h)
 
-pub number_back : (z : ℤ) → in_range z ≡ true → number_of (numeral z) ≡ num.Is z
+pub number_back : (z : ℤ) → in_range z ≡ true → number_of (numeral z) ≡ Ok z
 number_back z e = number_numeral z (in_range_size z e)
 
 -- ---- writing what was read
 
 -- digits that follow a number beyond the range stay beyond it
-value_beyond : (a m : ℕ) (bs : List ℕ) → MOST < a → value a bs ≡ some m → MOST < m
+value_beyond : (a m : ℕ) (bs : List ℕ) → MOST < a → value a bs ≡ Some m → MOST < m
 unfolding value
 value_beyond a m [] h e = let k : a ≡ m = cc in omega arith
 value_beyond a m (b ∷ bs) h e = value_beyond (min BEYOND (a * 10 + (b - 48))) m bs (omega arith) (digit_is a b m bs e).rest
 
-digits_after : (a m : ℕ) (bs : List ℕ) → 0 < a → m ≤ MOST → value a bs ≡ some m → digits m ≡ digits a ++ bs
+digits_after : (a m : ℕ) (bs : List ℕ) → 0 < a → m ≤ MOST → value a bs ≡ Some m → digits m ≡ digits a ++ bs
 unfolding value
 digits_after a m [] h k e = let q : m ≡ a = cc in rw (q, append-nil)
 digits_after a m (b ∷ bs) h k e = go (ltb MOST (a * 10 + (b - 48))) refl (λ n p. digits_after n m bs p k)
@@ -202,7 +201,7 @@ digits_after a m (b ∷ bs) h k e = go (ltb MOST (a * 10 + (b - 48))) refl (λ n
     w : Digit a b m bs
     w = digit_is a b m bs e
 
-    go : (t : Bool) → ltb MOST (a * 10 + (b - 48)) ≡ t → ((n : ℕ) → 0 < n → value n bs ≡ some m → digits m ≡ digits n ++ bs)
+    go : (t : Bool) → ltb MOST (a * 10 + (b - 48)) ≡ t → ((n : ℕ) → 0 < n → value n bs ≡ Some m → digits m ≡ digits n ++ bs)
         → digits m ≡ digits a ++ (b ∷ bs)
     go true p ih =
         let h = ltb-true MOST (a * 10 + (b - 48)) p in
@@ -216,16 +215,16 @@ digits_after a m (b ∷ bs) h k e = go (ltb MOST (a * 10 + (b - 48))) refl (λ n
         let s : min BEYOND (a * 10 + (b - 48)) ≡ a * 10 + (b - 48) = omega arith in
         ih (a * 10 + (b - 48)) (omega arith) (rw s at w.rest) ∙ rw (digits_next a (b - 48) h (omega arith), c, append_assoc)
 
-natural_writes : (m : ℕ) (bs : List ℕ) → m ≤ MOST → natural bs ≡ some m → digits m ≡ bs
+natural_writes : (m : ℕ) (bs : List ℕ) → m ≤ MOST → natural bs ≡ Some m → digits m ≡ bs
 unfolding natural
 natural_writes m [] k e = no cc
 natural_writes m (b ∷ bs) k e = go (eqb b 48) refl e
   where
-    zero_alone : (bs : List ℕ) → alone bs ≡ some m → digits m ≡ 48 ∷ bs
+    zero_alone : (bs : List ℕ) → alone bs ≡ Some m → digits m ≡ 48 ∷ bs
     zero_alone [] e = let q : m ≡ 0 = cc in rw q (digits_one 0 (omega arith))
     zero_alone (x ∷ xs) e = no cc
 
-    go : (t : Bool) → eqb b 48 ≡ t → unless_zero t bs (b ∷ bs) ≡ some m → digits m ≡ b ∷ bs
+    go : (t : Bool) → eqb b 48 ≡ t → unless_zero t bs (b ∷ bs) ≡ Some m → digits m ≡ b ∷ bs
     go true p e = rw (eqb-true b 48 p) (zero_alone bs e)
     go false p e =
         let w = digit_is 0 b m bs e in
@@ -236,42 +235,40 @@ natural_writes m (b ∷ bs) k e = go (eqb b 48) refl e
         let z : min BEYOND (0 * 10 + (b - 48)) ≡ b - 48 = omega arith in
         digits_after (b - 48) m bs (omega arith) k (rw z at w.rest) ∙ rw (digits_one (b - 48) (omega arith), c)
 
-natural_of_writes : (bs : List ℕ) (n : ℕ) → natural_of bs ≡ nat.Is n → (digits n ≡ bs) × (n ≤ MOST)
+natural_of_writes : (bs : List ℕ) (n : ℕ) → natural_of bs ≡ Ok n → (digits n ≡ bs) × (n ≤ MOST)
 unfolding natural_of capped
 natural_of_writes bs n e = go (natural bs) refl e
   where
-    is : (m : ℕ) (t : Bool) → natural bs ≡ some m → ltb MOST m ≡ t → cond t nat.Beyond (nat.Is m) ≡ nat.Is n → (digits n ≡ bs) × (n ≤ MOST)
+    is : (m : ℕ) (t : Bool) → natural bs ≡ Some m → ltb MOST m ≡ t → cond t (Err Beyond) (Ok m) ≡ Ok n → (digits n ≡ bs) × (n ≤ MOST)
     is m true o p e = no cc
     is m false o p e =
         let k : m ≡ n = cc in
         let h = ltb-false MOST m p in
         (rw (← k) (natural_writes m bs h o), omega arith)
 
-    go : (o : Option ℕ) → natural bs ≡ o → capped o ≡ nat.Is n → (digits n ≡ bs) × (n ≤ MOST)
-    go none o e = no cc
-    go (some m) o e = is m (ltb MOST m) o refl e
+    go : (o : Option ℕ) → natural bs ≡ o → capped o ≡ Ok n → (digits n ≡ bs) × (n ≤ MOST)
+    go None o e = no cc
+    go (Some m) o e = is m (ltb MOST m) o refl e
 
 -- a field that reads as a number is its written form, and the number is in the range
-pub number_writes : (bs : List ℕ) (z : ℤ) → number_of bs ≡ num.Is z → (numeral z ≡ bs) × (nat_abs z ≤ MOST)
+pub number_writes : (bs : List ℕ) (z : ℤ) → number_of bs ≡ Ok z → (numeral z ≡ bs) × (nat_abs z ≤ MOST)
 unfolding number_of numeral
 number_writes [] z e = no cc
 number_writes (b ∷ bs) z e = go (eqb b 45) refl e
   where
-    below : (v : Nat) → natural_of bs ≡ v → minus v ≡ num.Is z → (numeral z ≡ 45 ∷ bs) × (nat_abs z ≤ MOST)
-    below (nat.Is zero) p e = no cc
-    below (nat.Is (suc n)) p e =
+    below : (v : Result ℕ Fault) → natural_of bs ≡ v → minus v ≡ Ok z → (numeral z ≡ 45 ∷ bs) × (nat_abs z ≤ MOST)
+    below (Ok zero) p e = no cc
+    below (Ok (suc n)) p e =
         let k : z ≡ negsuc n = cc in
         let w = natural_of_writes bs (suc n) p in
         rw k (ap (λ (l : List ℕ). 45 ∷ l) w.0, w.1)
-    below nat.Beyond p e = no cc
-    below nat.Not p e = no cc
+    below (Err f) p e = no cc
 
-    above : (v : Nat) → natural_of (b ∷ bs) ≡ v → with_no_sign v ≡ num.Is z → (numeral z ≡ b ∷ bs) × (nat_abs z ≤ MOST)
-    above (nat.Is n) p e = let k : z ≡ pos n = cc in rw k (natural_of_writes (b ∷ bs) n p)
-    above nat.Beyond p e = no cc
-    above nat.Not p e = no cc
+    above : (v : Result ℕ Fault) → natural_of (b ∷ bs) ≡ v → with_no_sign v ≡ Ok z → (numeral z ≡ b ∷ bs) × (nat_abs z ≤ MOST)
+    above (Ok n) p e = let k : z ≡ pos n = cc in rw k (natural_of_writes (b ∷ bs) n p)
+    above (Err f) p e = no cc
 
-    go : (t : Bool) → eqb b 45 ≡ t → signed t bs (b ∷ bs) ≡ num.Is z → (numeral z ≡ b ∷ bs) × (nat_abs z ≤ MOST)
+    go : (t : Bool) → eqb b 45 ≡ t → signed t bs (b ∷ bs) ≡ Ok z → (numeral z ≡ b ∷ bs) × (nat_abs z ≤ MOST)
     go true p e = rw (eqb-true b 45 p) (below (natural_of bs) refl e)
     go false p e = above (natural_of (b ∷ bs)) refl e
 

@@ -4,20 +4,20 @@ ghost use Rattle.std.specs.Prelude.{◌≡◌, ◌&&◌, ◌||◌, ◌∷◌, []
 ghost use Rattle.sizes.specs.Sizes.{STATES, VARIABLES, TRANSITIONS, ACTIONS};
 ghost use Rattle.numbers.specs.Reference.{NOWHERE};
 ghost use Rattle.numbers.specs.Range.{in_range};
-ghost use Rattle.meaning.specs.Grammar.{s_record, v_record, t_record, a_record, most, record_by};
+ghost use Rattle.meaning.specs.Grammar.{s_record, v_record, t_record, a_record, most};
 ghost use Rattle.meaning.specs.Value.{num, is_letter, is_absent, one_of_letters, count_fits, statable, laid, part_fits, rule_0};
 ghost use Rattle.meaning.specs.Value.{VALUE as whole};
+ghost use Rattle.chart_rows.specs.Kinds.{as_record};
 ghost use Rattle.rules.specs.Clauses.{number_if, guard_statable, target_statable, row_in, counted_fits, kind_fits};
 
 use chart_rows::decode::{is_absent, is_letter, one_of_letters};
-use chart_rows::kinds;
-use chart_rows::kinds::{KINDS, how_many, letter};
+use chart_rows::kinds::{RECORDS, Record};
 use chart_rows::layout::{
-    ACT_ROW, ACTIONS_AT, EVENT_COUNT, STATE_COUNT, STATE_ROW, STATES_AT, TRANS_ROW, TRANSITIONS_AT,
-    VALUE, VAR_ROW, VARS_AT,
+    ACT_ROW, ACTIONS_AT, EVENT_COUNT, STATE_ROW, STATES_AT, TRANS_ROW, TRANSITIONS_AT, VALUE,
+    VAR_ROW, VARS_AT,
 };
 use numbers::{between, in_range, number};
-use sizes::{EVENTS, LEAST_STATES, STATES};
+use sizes::{EVENTS, LEAST_STATES};
 
 // The number at a place that the value has: its length is tested once, before all else.
 fn number_at(chart: &[i32], i: usize) -> i32
@@ -31,10 +31,7 @@ fn number_at(chart: &[i32], i: usize) -> i32
 fn number_if(wanted: bool, z: i32) -> bool
     ensures { result ≡ number_if wanted z }
 {
-    if wanted {
-        return in_range(z);
-    }
-    is_absent(z)
+    if wanted { in_range(z) } else { is_absent(z) }
 }
 
 // State 0 alone has parent "-"; a default is a number for o, else "-".
@@ -191,59 +188,50 @@ fn count_fits(chart: &[i32], place: usize, least: usize, most: usize) -> bool
     )
 }
 
-// Row i of the kind that a letter names.
-fn row_statable(chart: &[i32], kind: u8, i: usize) -> bool
-    requires { (i < most (record_by kind)) × (whole ≤ length chart.now) }
-    ensures { result ≡ statable (record_by kind) i (row_in (record_by kind) i chart.now) }
+// Row i of a kind.
+fn row_statable(chart: &[i32], kind: Record, i: usize) -> bool
+    requires { (i < most (as_record kind)) × (whole ≤ length chart.now) }
+    ensures { result ≡ statable (as_record kind) i (row_in (as_record kind) i chart.now) }
 {
     match kind {
-        b'S' => state_statable(chart, i),
-        b'V' => var_statable(chart, i),
-        b'E' => count_fits(chart, EVENT_COUNT + i, 0, EVENTS),
-        b'T' => trans_statable(chart, i),
-        b'A' => action_statable(chart, i),
-        _ => false,
+        Record::State => state_statable(chart, i),
+        Record::Variable => var_statable(chart, i),
+        Record::Events => count_fits(chart, EVENT_COUNT + i, 0, EVENTS),
+        Record::Transition => trans_statable(chart, i),
+        Record::Action => action_statable(chart, i),
     }
 }
 
-// The rows of that kind.
-fn rows_statable(chart: &[i32], kind: u8) -> bool
+// The rows of a kind.
+fn rows_statable(chart: &[i32], kind: Record) -> bool
     requires { whole ≤ length chart.now }
-    ensures { result ≡ part_fits chart.now (laid (record_by kind)) }
+    ensures { result ≡ part_fits chart.now (laid (as_record kind)) }
 {
-    let count = how_many(chart, kind);
-    let mut i = 0;
-    while i < count {
+    for i in 0..kind.how_many(chart) {
         if !row_statable(chart, kind, i) {
             return false;
         }
-        i += 1;
     }
     true
 }
 
-// Does the count of that kind keep its size? There are at least two states; E has no count.
-fn kind_counted(chart: &[i32], kind: u8) -> bool
-    ensures { result ≡ counted_fits chart.now (record_by kind) }
+// Does the count of a kind keep its size? There are at least two states; E has no count.
+fn kind_counted(chart: &[i32], kind: Record) -> bool
+    ensures { result ≡ counted_fits chart.now (as_record kind) }
 {
+    let area = kind.area();
     match kind {
-        b'S' => count_fits(chart, STATE_COUNT, LEAST_STATES, STATES),
-        b'E' => true,
-        _ => {
-            let a = kinds::kind(kind);
-            count_fits(chart, a.count, 0, a.most)
-        }
+        Record::State => count_fits(chart, area.count, LEAST_STATES, area.most),
+        Record::Events => true,
+        _ => count_fits(chart, area.count, 0, area.most),
     }
 }
 
-fn kind_fits(chart: &[i32], kind: u8) -> bool
+fn kind_fits(chart: &[i32], kind: Record) -> bool
     requires { whole ≤ length chart.now }
-    ensures { result ≡ kind_fits chart.now (record_by kind) }
+    ensures { result ≡ kind_fits chart.now (as_record kind) }
 {
-    if !kind_counted(chart, kind) {
-        return false;
-    }
-    rows_statable(chart, kind)
+    kind_counted(chart, kind) && rows_statable(chart, kind)
 }
 
 // R0; numbers too few for the layout do not state a chart.
@@ -253,12 +241,10 @@ pub fn rule_0(chart: &[i32]) -> bool
     if chart.len() < VALUE {
         return false;
     }
-    let mut i = 0;
-    while i < KINDS {
-        if !kind_fits(chart, letter(i)) {
+    for kind in RECORDS {
+        if !kind_fits(chart, kind) {
             return false;
         }
-        i += 1;
     }
     true
 }

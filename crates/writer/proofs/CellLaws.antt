@@ -1,95 +1,80 @@
--- Laws of one field: what tells it from another, and its bytes, by its code. Assumes nothing.
-use mathlib.Core.Path.{◌≡◌, refl, sym, ap, ◌∙◌}
-use mathlib.Core.Bool.{Bool, true, false}
-use mathlib.Core.List.{List, [], ◌∷◌}
+-- Laws of one field: its bytes. Assumes nothing.
+use mathlib.Core.Path.{◌≡◌, refl, ap, ◌∙◌}
+use mathlib.Core.Bool.{true, false}
+use mathlib.Core.List.{List, ◌∷◌}
 use Prim.Native.Nat.{ℕ, ◌+◌, ◌<◌}
-use lib.IntN.{ℤ, pos}
+use lib.IntN.{ℤ}
 use Rattle.numbers.specs.Reference.{ref}
-use Rattle.meaning.specs.Grammar.{Field, letter, bytes}
-use Rattle.meaning.specs.Value.{num, is_absent, is_letter, one_of_letters, fits_field}
+use Rattle.sizes.specs.Sizes.{EVENTS}
+use Rattle.meaning.specs.Grammar.{turn, number, count, letter, dash, target_state, target_history, target_none}
+use Rattle.meaning.specs.Value.{num, one_of_letters}
 use Rattle.meaning.specs.Number.{digits, numeral}
 use Rattle.meaning.specs.Split.{TAB}
 use Rattle.meaning.specs.Line.{write_field}
-use Rattle.forms.specs.Table.{field_of}
-use Rattle.forms.proofs.TableLaws.{Letters, letters_else, has_byte, ◌also◌, each_code}
+use Rattle.forms.specs.declared.Letters.{Letters}
+use Rattle.forms.specs.declared.Field.{Field as Cell}
+use Rattle.forms.specs.declared.Field.TheVariants.{Turn, Number, EventCount, Dash, Letter, TargetState, TargetHistory, InPlace}
+use Rattle.forms.specs.Table.{letters_of, field_of}
+use Rattle.forms.proofs.TableLaws.{letter_byte}
 use Rattle.round_trip.specs.Rows.{tells}
 use Rattle.round_trip.proofs.Fields.{letter_is}
 use Rattle.pen.specs.Pen.{Pen, put_byte, put_all}
 
--- ---- what tells a field
+-- a field of another kind tells nothing
+pub tells_none : (f : Cell) (z : ℤ) → (f ≡ Dash → ⊥) → ((l : Letters) → f ≡ Letter l → ⊥) → (f ≡ TargetHistory → ⊥) → (f ≡ InPlace → ⊥)
+    → false ≡ tells (field_of f) z
+unfolding tells
+tells_none Turn z d l h p = refl
+tells_none Number z d l h p = refl
+tells_none EventCount z d l h p = refl
+tells_none Dash z d l h p = absurd (d refl)
+tells_none (Letter ls) z d l h p = absurd (l ls refl)
+tells_none TargetState z d l h p = refl
+tells_none TargetHistory z d l h p = absurd (h refl)
+tells_none InPlace z d l h p = absurd (p refl)
 
-module _ (k : ℕ) (z : ℤ) (t : Bool) where
-  pub tells_dash : k ≡ 45 → t ≡ is_absent z → t ≡ tells (field_of k) z
-  unfolding tells field_of
-  tells_dash e f = rw e f
-
-  pub tells_place : k ≡ 95 → t ≡ is_absent z → t ≡ tells (field_of k) z
-  unfolding tells field_of
-  tells_place e f = rw e f
-
-  pub tells_history : k ≡ 104 → t ≡ is_letter 104 z → t ≡ tells (field_of k) z
-  unfolding tells field_of
-  tells_history e f = rw e f
-
-  pub tells_letter : (m : ℕ) (ls : List ℕ) → field_of m ≡ letter ls → k ≡ m → t ≡ one_of_letters ls z → t ≡ tells (field_of k) z
-  unfolding tells
-  tells_letter m ls g e f = rw (e, g) f
-
-module _ (k : ℕ) (z : ℤ) where
-  pub tells_none : (k ≡ 45 → ⊥) → (k ≡ 104 → ⊥) → (k ≡ 95 → ⊥) → (k ≡ 111 → ⊥) → (k ≡ 98 → ⊥) → (k ≡ 61 → ⊥) → (k ≡ 119 → ⊥)
-      → (k ≡ 113 → ⊥) → (k ≡ 107 → ⊥)
-      → false ≡ tells (field_of k) z
-  unfolding tells
-  tells_none dash history place o ab sign owner saq ko = each_code (λ x. false ≡ tells x z) k
-      ((λ _. refl) also (λ _. refl) also (λ e. absurd (dash e)) also (λ _. refl) also (λ e. absurd (history e))
-      also (λ e. absurd (place e)) also (λ _. refl) also (λ e. absurd (o e)) also (λ e. absurd (ab e)) also (λ e. absurd (sign e))
-      also (λ e. absurd (owner e)) also (λ e. absurd (saq e)) also (λ e. absurd (ko e)) also refl)
+-- a letter is a byte
+pub letter_small : (l : Letters) (at : ℕ) (v : List ℤ) → one_of_letters (letters_of l) (num v at) ≡ true → ref (num v at) < 256
+letter_small l at v e = letter_byte l (ref (num v at)) (letter_is (letters_of l) (num v at) e).in_list
 
 -- ---- what a field says
 
-module _ (k at : ℕ) (v : List ℤ) where
-  pub letter_byte : Letters (field_of k) → fits_field (field_of k) at v ≡ true → ref (num v at) < 256
-  letter_byte l e =
-      let ls = l.letters in
-      let f : one_of_letters ls (num v at) ≡ true = rw l.is at e in
-      has_byte (ref (num v at)) ls l.small (letter_is ls (num v at) f).in_list
-
-module _ (k n at : ℕ) (v : List ℤ) (p r : Pen) where
-  pub said_turn : k ≡ 110 → r ≡ put_all (digits n) p → r ≡ put_all (write_field (field_of k) n at v) p
-  unfolding write_field field_of numeral
-  said_turn e f = rw e f
+module _ (n at : ℕ) (v : List ℤ) (p r : Pen) where
+  pub said_turn : r ≡ put_all (digits n) p → r ≡ put_all (write_field turn n at v) p
+  unfolding write_field numeral
+  said_turn f = f
 
   module _ (z : ℤ) (f : r ≡ put_all (numeral z) p) where
-    pub said_number : z ≡ num v at → k ≡ 35 → r ≡ put_all (write_field (field_of k) n at v) p
-    unfolding write_field field_of
-    said_number g e = rw (e, ← g) f
+    pub said_number : z ≡ num v at → r ≡ put_all (write_field number n at v) p
+    unfolding write_field
+    said_number g = rw (← g) f
 
-    pub said_count : z ≡ num v at → k ≡ 99 → r ≡ put_all (write_field (field_of k) n at v) p
-    unfolding write_field field_of
-    said_count g e = rw (e, ← g) f
+    pub said_count : z ≡ num v at → r ≡ put_all (write_field (count 0 EVENTS) n at v) p
+    unfolding write_field
+    said_count g = rw (← g) f
 
-    pub said_state : z ≡ num v (at + 1) → k ≡ 115 → r ≡ put_all (write_field (field_of k) n at v) p
-    unfolding write_field field_of
-    said_state g e = rw (e, ← g) f
+    pub said_state : z ≡ num v (at + 1) → r ≡ put_all (write_field target_state n at v) p
+    unfolding write_field
+    said_state g = rw (← g) f
 
-  pub said_history : (q : Pen) (z : ℤ) → z ≡ num v (at + 1) → k ≡ 104 → q ≡ put_byte 104 p → r ≡ put_all (numeral z) q
-      → r ≡ put_all (write_field (field_of k) n at v) p
-  unfolding write_field field_of put_all
-  said_history q z g e b f = rw (e, ← g) (f ∙ ap (put_all (numeral z)) b)
+  pub said_history : (q : Pen) (z : ℤ) → z ≡ num v (at + 1) → q ≡ put_byte 104 p → r ≡ put_all (numeral z) q
+      → r ≡ put_all (write_field target_history n at v) p
+  unfolding write_field put_all
+  said_history q z g b f = rw (← g) (f ∙ ap (put_all (numeral z)) b)
 
   module _ (f : r ≡ put_byte 45 p) where
-    pub said_dash : k ≡ 45 → r ≡ put_all (write_field (field_of k) n at v) p
-    unfolding write_field field_of put_all
-    said_dash e = rw e f
+    pub said_dash : r ≡ put_all (write_field dash n at v) p
+    unfolding write_field put_all
+    said_dash = f
 
-    pub said_place : k ≡ 95 → r ≡ put_all (write_field (field_of k) n at v) p
-    unfolding write_field field_of put_all
-    said_place e = rw e f
+    pub said_place : r ≡ put_all (write_field target_none n at v) p
+    unfolding write_field put_all
+    said_place = f
 
   -- a letter: which, is no matter
-  pub said_letter : Letters (field_of k) → (b : ℕ) → b ≡ ref (num v at) → r ≡ put_byte b p → r ≡ put_all (write_field (field_of k) n at v) p
+  pub said_letter : (ls : List ℕ) (b : ℕ) → b ≡ ref (num v at) → r ≡ put_byte b p → r ≡ put_all (write_field (letter ls) n at v) p
   unfolding write_field put_all
-  said_letter l b g f = rw (l.is, ← g) f
+  said_letter ls b g f = rw (← g) f
 
 pub field_put : (x : List ℕ) (p q r : Pen) → q ≡ put_byte TAB p → r ≡ put_all x q → r ≡ put_all (TAB ∷ x) p
 unfolding put_all

@@ -12,13 +12,12 @@ use lib.ListN.{length, get_or, take, drop, drop_of_length-le}
 use lib.Seq.{drop-cons, drop-drop}
 use Rattle.meaning.specs.Lists.{map_from, concat_map}
 use Rattle.meaning.specs.Grammar.{Field, turn, number, count, letter, dash, target_state, target_history, target_none, width}
-use Rattle.meaning.specs.Grammar.{Form, last, ◌tab◌, ◌or◌, size, Record, no_record, ORDER, form, most, row_size, record_by}
+use Rattle.meaning.specs.Grammar.{Form, last, ◌tab◌, ◌or◌, size, Record, no_record, ORDER, form, most, row_size}
 use Rattle.meaning.specs.Value.{Rows, laid, place, VALUE, num, how_many, rows_of, fits, fits_field, statable, rule_0}
-use Rattle.meaning.specs.Split.{LF, ended, joined}
+use Rattle.meaning.specs.Split.{LF, ended}
 use Rattle.meaning.specs.Line.{write_field, write_by, text_of_row}
 use Rattle.meaning.specs.Text.{lines_of, text_by}
 use Rattle.laws.proofs.Lists.{every_from_at}
-use Rattle.laws.proofs.Parts.{named_is}
 use Rattle.chart_rows.proofs.Named.{within_value}
 use Rattle.chart_rows.proofs.Rows.{chunk_at, length_chunks, num_at}
 use Rattle.round_trip.proofs.Forms.{Clear}
@@ -97,14 +96,11 @@ module _ (f : ℕ → List ℤ → List ℕ) (rs : List (List ℤ)) where
   unfolding left_from map_from ended put_all
   left_none i p q h e = rw (drop_of_length-le rs h) at e
 
--- the loop over the rows of the kind that a letter names
-module _ (v : List ℤ) (keeps : rule_0 v ≡ true) (k count : ℕ) (many : (count ≡ how_many v (record_by k)) × (count ≤ most (record_by k)))
+-- the loop over the rows of a kind
+module _ (v : List ℤ) (keeps : rule_0 v ≡ true) (r : Record) (count : ℕ) (many : (count ≡ how_many v r) × (count ≤ most r))
     (i at : ℕ)
-    (here : at ≡ place (laid (record_by k)) + i * row_size (record_by k))
+    (here : at ≡ place (laid r) + i * row_size r)
   where
-    abbrev r : Record
-    r = record_by k
-
     abbrev begins : ℕ
     begins = place (laid r) + i * row_size r
 
@@ -134,16 +130,13 @@ module _ (v : List ℤ) (keeps : rule_0 v ≡ true) (k count : ℕ) (many : (cou
           let w = within_value r in
           omega arith
 
-      pub next_row : at + row_size r ≡ place (laid r) + (i + 1) * row_size r
-      next_row = let u = suc-mul i (row_size r) in rw add-one (omega arith)
-
       row_room : 0 + size (form r i) ≤ row_size r
       row_room = let s = sized r i in omega arith
 
       at_row : begins + 0 ≡ at
       at_row = omega arith
 
-      pub row_statable : Statable k i at v
+      pub row_statable : Statable r i at v
       unfolding statable
       row_statable =
           let l = long in
@@ -158,15 +151,13 @@ module _ (v : List ℤ) (keeps : rule_0 v ≡ true) (k count : ℕ) (many : (cou
             near = omega arith;
           }
 
-      pub row_more : (p q : Pen) → q ≡ put_all (with_lf (line_at k i at v)) p → put_all (lines_from (i + 1)) q ≡ put_all (lines_from i) p
+      pub row_more : (p q : Pen) → q ≡ put_all (with_lf (line_at r i at v)) p → put_all (lines_from (i + 1)) q ≡ put_all (lines_from i) p
       unfolding line_at text_of_row
       row_more p q f =
           let l = long in
           let w = rw at_row at (row_text v begins (row_size r) (form r i) (clear r i) i 0 row_room) in
-          let t : line_at k i at v ≡ text_of_row r i (get_or (rows_of v r) i []) =
-          rw (w, row_is)
-          (ap (λ (m : ℕ). joined ((m ∷ []) ∷ write_by (form r i) i 0 (take (row_size r) (drop begins v))))
-          (named_is k i row_statable.room)) in
+          let t : line_at r i at v ≡ text_of_row r i (get_or (rows_of v r) i []) =
+          rw (w, row_is) in
           left_more (text_of_row r) (rows_of v r) i p q (omega arith) (f ∙ ap (λ (x : List ℕ). put_all (with_lf x) p) t)
 
 -- ---- all kinds, one after the other

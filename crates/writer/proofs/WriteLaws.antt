@@ -1,8 +1,8 @@
 -- Laws of writing into a slice that is 0: where the text fits it stands there and 0 past it; where it does not, the pen's place lies past
--- the slice. In the order: a slice set to 0; where the text fits, and where it does not; what the caller sees. Assumes nothing.
-use mathlib.Core.Path.{◌≡◌, refl, sym, ap, ◌∙◌}
+-- the slice. In the order: where the text fits, and where it does not; what the caller sees. Assumes nothing.
+use mathlib.Core.Path.{◌≡◌, refl, ap, ◌∙◌}
 use mathlib.Core.Bool.{Bool, true, false}
-use mathlib.Core.List.{List, [], ◌∷◌, ◌++◌, append-nil}
+use mathlib.Core.List.{List, [], ◌∷◌}
 use mathlib.Core.Option.{Option, none, some}
 use Prim.Native.Nat.{ℕ, zero, suc, ◌+◌, ◌-◌, ◌≤◌, ◌<◌}
 use native.Mathlib.Omega.{arith}
@@ -10,31 +10,15 @@ use native.Mathlib.Numerals.{add-one}
 use lib.Dec.{ltb}
 use lib.IntN.{ℤ}
 use lib.ListN.{length, set, replicate, drop, length-set, length-replicate}
-use lib.Seq.{sets, sets-eq, drop-length}
+use lib.Seq.{sets, sets-eq}
 use borrow.Author.Tests.{lt-ltb, le-ltb, ltb-true, ltb-false}
 use Rattle.meaning.specs.Lists.{padded}
 use Rattle.meaning.specs.Rules.{failing_rule_of, verdict}
 use Rattle.meaning.specs.Text.{answer, answer_of, count_of, lent_result, text_of, written_by, write, written, lent_bytes}
 use Rattle.meaning.specs.declared.Answer.{Answer}
 use Rattle.meaning.specs.declared.Written.{Written}
-use Rattle.pen.specs.Pen.{Pen, pen, put_if, put_byte, put_all}
+use Rattle.pen.specs.Pen.{Pen, pen, put_byte, put_all}
 use Rattle.pen.proofs.Laws.{all_over}
-use Rattle.writer.specs.Letters.{zeros}
-
--- ---- a slice set to 0, from its start on
-
-fill_suc : (n : ℕ) (d : List ℕ) → n < length d → set (replicate n 0 ++ drop n d) n 0 ≡ replicate (suc n) 0 ++ drop (suc n) d
-fill_suc n [] h = absurd (omega arith)
-fill_suc zero (x ∷ d) h = refl
-fill_suc (suc n) (x ∷ d) h = ap (λ (t : List ℕ). 0 ∷ t) (fill_suc n d (omega arith))
-
--- as the loop has it: l is d with its first n bytes 0
-pub fill_step : (l d : List ℕ) (n : ℕ) → l ≡ replicate n 0 ++ drop n d → n < length d → set l n 0 ≡ replicate (n + 1) 0 ++ drop (n + 1) d
-fill_step l d n e h = rw (e, add-one n) (fill_suc n d h)
-
-pub fill_all : (l d : List ℕ) (n : ℕ) → l ≡ replicate n 0 ++ drop n d → n ≤ length d → length d ≤ n → l ≡ zeros (length d)
-unfolding zeros
-fill_all l d n e h g = let q : n ≡ length d = omega arith in e ∙ rw (q, drop-length d, append-nil)
 
 -- ---- where the text fits, and where it does not
 
@@ -54,18 +38,17 @@ drop_zeros (suc k) (suc n) = let e : suc n - suc k ≡ n - k = omega arith in rw
 -- ---- what the caller sees
 
 module _
-    (v : List ℤ) (allowed : failing_rule_of v ≡ none) (o l : List ℕ) (n e : ℕ) (o_is : o ≡ zeros n)
+    (v : List ℤ) (allowed : failing_rule_of v ≡ none) (o l : List ℕ) (n e : ℕ) (o_is : o ≡ replicate n 0)
     (w : pen l e ≡ put_all (text_of v) (pen o 0))
   where
-    w_zeros : pen l e ≡ put_all (text_of v) (pen (zeros n) 0)
+    w_zeros : pen l e ≡ put_all (text_of v) (pen (replicate n 0) 0)
     w_zeros = w ∙ ap (λ (x : List ℕ). put_all (text_of v) (pen x 0)) o_is
 
-    zeros_length : length (zeros n) ≡ n
-    unfolding zeros
+    zeros_length : length (replicate {A = ℕ} n 0) ≡ n
     zeros_length = length-replicate {A = ℕ} n 0
 
-    tail : length (text_of v) ≤ n → sets (zeros n) 0 (text_of v) ≡ padded n 0 (text_of v)
-    unfolding zeros padded
+    tail : length (text_of v) ≤ n → sets (replicate n 0) 0 (text_of v) ≡ padded n 0 (text_of v)
+    unfolding padded
     tail h =
         let z : 0 + length (text_of v) ≡ length (text_of v) = omega arith in
         sets-eq (text_of v) (replicate n 0) 0 (omega (arith, length-replicate {A = ℕ} n 0)) ∙ rw (drop_zeros, z)
@@ -74,15 +57,15 @@ module _
     ended_in : length (text_of v) ≤ n → (e ≡ length (text_of v)) × (l ≡ padded n 0 (text_of v))
     ended_in h =
         let b = zeros_length in
-        let f = w_zeros ∙ fits (text_of v) (zeros n) 0 (omega arith) in
+        let f = w_zeros ∙ fits (text_of v) (replicate n 0) 0 (omega arith) in
         let z : 0 + length (text_of v) ≡ length (text_of v) = omega arith in
         (ap (λ (p : Pen). p.at) f ∙ z, ap (λ (p : Pen). p.bytes) f ∙ tail h)
 
     ended_over : n < length (text_of v) → n < e
     ended_over h =
         let b = zeros_length in
-        let x = all_over (text_of v) (zeros n) 0 (omega arith) in
-        let q : e ≡ (put_all (text_of v) (pen (zeros n) 0)).at = ap (λ (p : Pen). p.at) w_zeros in
+        let x = all_over (text_of v) (replicate n 0) 0 (omega arith) in
+        let q : e ≡ (put_all (text_of v) (pen (replicate n 0) 0)).at = ap (λ (p : Pen). p.at) w_zeros in
         omega arith
 
     abbrev Seen : Written → List ℕ → Type 0
@@ -91,8 +74,8 @@ module _
     abbrev told : Answer → ℕ → Written
     told a k = record { answer = a; length = k }
 
-    seen_over : n < length (text_of v) → Seen (told (answer 13 0) 0) (zeros n)
-    unfolding written write lent_bytes lent_result zeros
+    seen_over : n < length (text_of v) → Seen (told (answer 13 0) 0) (replicate n 0)
+    unfolding written write lent_bytes lent_result
     seen_over h = rw (allowed, lt-ltb n (length (text_of v)) h) (refl, refl)
 
     seen_in : length (text_of v) ≤ n → Seen (told (answer 0 0) (length (text_of v))) (padded n 0 (text_of v))
@@ -100,7 +83,7 @@ module _
     seen_in h = rw (allowed, le-ltb n (length (text_of v)) h) (refl, refl)
 
     -- by the place after the last byte
-    pub wrote_over : n < e → (m : List ℕ) (k : ℕ) → k ≡ n → m ≡ zeros k → Seen (told (answer 13 0) 0) m
+    pub wrote_over : n < e → (m : List ℕ) (k : ℕ) → k ≡ n → m ≡ replicate k 0 → Seen (told (answer 13 0) 0) m
     wrote_over h m k ek em = go (ltb n (length (text_of v))) refl
       where
         go : (t : Bool) → ltb n (length (text_of v)) ≡ t → Seen (told (answer 13 0) 0) m
@@ -117,9 +100,9 @@ module _
 -- ---- the verdict of the rules
 
 module _ (v : List ℤ) (a : Answer) (e : a ≡ verdict (failing_rule_of v)) where
-  pub wrote_refused : (n k : ℕ) (m : List ℕ) → (a.number ≡ 0 → ⊥) → k ≡ n → m ≡ zeros k
+  pub wrote_refused : (n k : ℕ) (m : List ℕ) → (a.number ≡ 0 → ⊥) → k ≡ n → m ≡ replicate k 0
       → (record { answer = a; length = 0 } ≡ written v n) × (m ≡ lent_bytes n (write v n))
-  unfolding verdict written write lent_bytes lent_result zeros
+  unfolding verdict written write lent_bytes lent_result
   wrote_refused n k m h ek em = go (failing_rule_of v) e
     where
       go : (o : Option ℕ) → a ≡ verdict o
@@ -127,4 +110,4 @@ module _ (v : List ℤ) (a : Answer) (e : a ≡ verdict (failing_rule_of v)) whe
           (record { answer = answer_of (written_by o v n); length = count_of (written_by o v n) }))
           × (m ≡ lent_result 0 n (written_by o v n))
       go none x = absurd (h (ap (λ (y : Answer). y.number) x))
-      go (some r) x = (ap (λ (y : Answer). record { answer = y; length = 0 }) x, em ∙ ap zeros ek)
+      go (some r) x = (ap (λ (y : Answer). record { answer = y; length = 0 }) x, em ∙ ap (λ (i : ℕ). replicate i 0) ek)

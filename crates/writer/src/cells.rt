@@ -1,4 +1,4 @@
-// One field of a line written (01, "Chart text"), by its code in the table of forms, from the numbers of its row.
+// One field of a line written (01, "Chart text"), from the numbers of its row.
 ghost use Rattle.std.specs.Prelude.{◌≡◌, true, ◌∷◌, ◌+◌, ◌<◌};
 ghost use Rattle.numbers.specs.Reference.{NOWHERE};
 ghost use Rattle.meaning.specs.Split.{TAB as Tab};
@@ -10,56 +10,54 @@ ghost use Rattle.round_trip.specs.Rows.{tells};
 
 use chart_rows::decode::{is_absent, is_letter, one_of_letters};
 use chart_rows::number_at;
-use forms::{
-    AB, DASH, EVENT_COUNT, HISTORY, IN_PLACE, KO, NUMBER, O, OWNER, SAQ, SIGN, STATE, TURN,
-};
+use forms::Field;
 use meaning::bytes::TAB;
 use numbers::reference;
 use pen::{put, put_digits, put_numeral};
 
-const MINUS: u8 = 45;
-
 // Whether the first number of a row's rest tells that it has this field, and not one of another form.
-pub fn tells(field: u8, z: i32) -> bool
+pub fn tells(field: Field, z: i32) -> bool
     ensures { result ≡ tells (field_of field) z }
 {
     match field {
-        DASH => is_absent(z),
-        HISTORY => is_letter(b'h', z),
-        IN_PLACE => is_absent(z),
-        O => one_of_letters(b"o", z),
-        AB => one_of_letters(b"ab", z),
-        SIGN => one_of_letters(b"=<>", z),
-        OWNER => one_of_letters(b"exdt", z),
-        SAQ => one_of_letters(b"saq", z),
-        KO => one_of_letters(b"ko", z),
+        Field::Dash => is_absent(z),
+        Field::InPlace => is_absent(z),
+        Field::TargetHistory => is_letter(b'h', z),
+        Field::Letter(letters) => one_of_letters(letters.bytes(), z),
         _ => false,
     }
 }
 
 // What a field says of record n, from the chart's numbers at a place on.
-fn put_said(chart: &[i32], at: usize, field: u8, n: usize, text: &mut [u8], p: usize) -> usize
+fn put_said(chart: &[i32], at: usize, field: Field, n: usize, text: &mut [u8], p: usize) -> usize
     requires { (fits_field (field_of field) at chart.now ≡ true) × (at + 1 < NOWHERE) }
     ensures { pen text.new result
         ≡ put_all (write_field (field_of field) n at chart.now) (pen text.old p) }
 {
     match field {
-        TURN => put_digits(text, p, n),
-        NUMBER => put_numeral(text, p, number_at(chart, at)),
-        EVENT_COUNT => put_numeral(text, p, number_at(chart, at)),
-        STATE => put_numeral(text, p, number_at(chart, at + 1)),
-        HISTORY => {
+        Field::Turn => put_digits(text, p, n),
+        Field::Number => put_numeral(text, p, number_at(chart, at)),
+        Field::EventCount => put_numeral(text, p, number_at(chart, at)),
+        Field::Dash => put(text, p, b'-'),
+        Field::Letter(_) => put(text, p, reference(number_at(chart, at)) as u8),
+        Field::TargetState => put_numeral(text, p, number_at(chart, at + 1)),
+        Field::TargetHistory => {
             let q = put(text, p, b'h');
             put_numeral(text, q, number_at(chart, at + 1))
         }
-        DASH => put(text, p, MINUS),
-        IN_PLACE => put(text, p, MINUS),
-        _ => put(text, p, reference(number_at(chart, at)) as u8),
+        Field::InPlace => put(text, p, b'-'),
     }
 }
 
 // A tab, and the field.
-pub fn put_field(chart: &[i32], at: usize, field: u8, n: usize, text: &mut [u8], p: usize) -> usize
+pub fn put_field(
+    chart: &[i32],
+    at: usize,
+    field: Field,
+    n: usize,
+    text: &mut [u8],
+    p: usize,
+) -> usize
     requires { (fits_field (field_of field) at chart.now ≡ true) × (at + 1 < NOWHERE) }
     ensures { pen text.new result
         ≡ put_all (Tab ∷ write_field (field_of field) n at chart.now) (pen text.old p) }

@@ -1,14 +1,13 @@
 -- `fields::field` meets its contract: each way out is a law of the files beside. Assumes nothing.
-use Rattle.fields.proofs.FieldLaws.{field_first, field_none, field_next}
+use Rattle.std.proofs.Common.{◌∙◌}
+use Rattle.fields.proofs.SplitLaws.{field_first, field_none, field_next}
 use Rattle.fields.proofs.+field.Goals as goal
 
 pub returns-then-k-eq0 : goal.returns-then-k-eq0
-returns-then-k-eq0 t c = field_first _ _ _ _ c.stop-e.ensures _ c.if-k-eq0.true
+returns-then-k-eq0 t c = field_first _ _ _ c.cut_at.ensures _ c.if-k-eq0.true
 
-pub returns-then-e-to : goal.returns-then-e-to
-returns-then-e-to t c = field_none _ _ _ _ c.stop-e.ensures _ c.if-k-eq0.false c.if-e-to.true
+pub returns-in_default : goal.returns-in_default
+returns-in_default t c = field_none _ _ _ c.cut_at.ensures _ c.if-k-eq0.false c.in_default.is
 
 pub returns : goal.returns
-returns t c =
-    field_next _ _ _ _ c.stop-e.ensures _ _ _ c.if-k-eq0.false
-    c.if-e-to.false c.field.ensures
+returns t c = c.field.ensures ∙ field_next _ _ _ c.cut_at.ensures _ _ c.if-k-eq0.false c.in-Some.is

@@ -1,104 +1,81 @@
 -- `line_by` reads by the form of its entry: each way out is a law of the files beside. The measure of the recursion is the entries that are
 -- left. Assumes nothing.
-use Rattle.fields.specs.Said.{said}
-use Rattle.lines.proofs.LineLaws.{past_taken, first_taken, second_taken, ends_early, field_wrong, more_not, more_put, goes_on}
-use Rattle.lines.proofs.LineLaws.{last_not, last_put}
+use Rattle.std.proofs.Common.{ap, ◌∙◌, ◌≡◌, sym, arith, Err, rules}
+use Rattle.std.proofs.lemmas.Result.{err_from_is_err_and}
+use Rattle.meaning.specs.Line.{mark_of}
+use Rattle.meaning.specs.declared.Fault.TheVariants.{Wrong, Beyond}
+use Rattle.forms.proofs.TableLaws.{or_inside}
+use Rattle.lines.proofs.LineLaws.{none_of, some_of, wrong_of}
+use Rattle.lines.proofs.LineLaws.{past_taken, first_taken, second_taken, ends_early, field_wrong, beyond_not, beyond_then}
+use Rattle.lines.proofs.LineLaws.{more_not, more_put, goes_on, last_not, last_put}
 use Rattle.lines.proofs.+line_by.Goals as goal
 
 pub returns-then-i-ge-ENTRIES : goal.returns-then-i-ge-ENTRIES
-returns-then-i-ge-ENTRIES t c =
-    past_taken _ _ _ _ _ c.if-i-ge-ENTRIES.true
+returns-then-i-ge-ENTRIES t c = past_taken _ _ _ _ _ c.if-i-ge-ENTRIES.true
 
-pub returns-then-first-ne1 : goal.returns-then-first-ne1
-returns-then-first-ne1 t c =
-    first_taken _ _ _ _ _ c.if-i-ge-ENTRIES.false _ _ c.if-what-eq-OR.true
-    c.step-what.ensures _ c.line_by-first.ensures
-    c.if-first-ne1.true
+-- a choice
+pub returns-then-ne : goal.returns-then-ne
+returns-then-ne t c =
+    let h : c.line_by-first.result ≡ Err Wrong → ⊥ = search rules in
+    first_taken _ _ _ _ _ c.if-i-ge-ENTRIES.false _ _ c.in-Or.ensures _ c.line_by-first.ensures (λ m. h (wrong_of _ m))
 
-pub returns-then-what-eq-OR : goal.returns-then-what-eq-OR
-returns-then-what-eq-OR t c =
-    second_taken _ _ _ _ _ c.if-i-ge-ENTRIES.false _ _
-    c.if-what-eq-OR.true
-    c.step-what.ensures _ c.line_by-first.ensures
-    _ _ _ c.if-first-ne1.false
-    c.skip.ensures.0
-    c.line_by.ensures
+pub overflow_add-i-in-Or-2 : goal.overflow_add-i-in-Or-2
+overflow_add-i-in-Or-2 t c = let k = (or_inside _ _ c.if-i-ge-ENTRIES.false (sym c.in-Or.ensures)).2 in omega arith
 
-pub returns-then-e-to : goal.returns-then-e-to
-returns-then-e-to t c =
-    ends_early _ _ c.if-i-ge-ENTRIES.false _ _ c.step-what.ensures
-    c.field.ensures _ _ _ _ _ c.stop-e.ensures _ _ c.read_field-said.ensures
-    c.if-what-eq-MORE.true
-    c.if-e-to.true
+pub returns-else-ne : goal.returns-else-ne
+returns-else-ne t c =
+    let h : c.line_by-first.result ≡ Err Wrong = search rules in
+    second_taken _ _ _ _ _ c.if-i-ge-ENTRIES.false _ _ c.in-Or.ensures _ c.line_by-first.ensures _ _ (ap mark_of h) c.line_by.ensures
 
-pub returns-then-said-eq1 : goal.returns-then-said-eq1
-unfolding said
-returns-then-said-eq1 t c =
-    field_wrong _ _ c.if-i-ge-ENTRIES.false _ _ c.step-what.ensures
-    c.field.ensures _ _ _ _ _
-    c.stop-e.ensures _ _
-    c.read_field-said.ensures
-    c.if-what-eq-MORE.true
-    c.if-e-to.false
-    c.if-said-eq1.true
+-- a field that ends its form
+pub returns-then-is_some : goal.returns-then-is_some
+returns-then-is_some t c = goes_on _ _ c.if-i-ge-ENTRIES.false _ _ _ _ c.cut_at-part.ensures _ _ c.in-Last.ensures (some_of _ c.if-is_some.ensures)
 
-pub returns-then-m-ne0 : goal.returns-then-m-ne0
-unfolding said
-returns-then-m-ne0 t c =
-    more_not _ _ c.if-i-ge-ENTRIES.false _ _
-    c.step-what.ensures
-    c.field.ensures _ _ _ _ _
-    c.stop-e.ensures _ _ c.read_field-said.ensures
-    c.if-what-eq-MORE.true
-    c.if-e-to.false
-    c.if-said-eq1.false _ _ _ _ c.stated.ensures.0
-    c.line_by-more.ensures
-    c.worse-m.ensures
-    c.if-m-ne0.true
+pub returns-in_err-said-in-Last : goal.returns-in_err-said-in-Last
+returns-in_err-said-in-Last t c =
+    let p = err_from_is_err_and c.from_residual.result c.from_residual.ensures.1 in
+    rw (p.1, p.2) (last_not _ _ c.if-i-ge-ENTRIES.false _ _ _ _ c.cut_at-part.ensures _ _ c.in-Last.ensures _
+    c.read_field.ensures (none_of _ c.if-is_some.ensures) _ c.in_err-said-in-Last.was)
 
-pub returns-then-what-eq-MORE : goal.returns-then-what-eq-MORE
-unfolding said
-returns-then-what-eq-MORE t c =
-    more_put _ _ c.if-i-ge-ENTRIES.false _ _ c.step-what.ensures
-    c.field.ensures _ _ _ _ _
-    c.stop-e.ensures _ _
-    c.read_field-said.ensures
-    c.if-what-eq-MORE.true
-    c.if-e-to.false
-    c.if-said-eq1.false _ _ _ _
-    c.stated.ensures.0
-    c.line_by-more.ensures
-    c.worse-m.ensures _ c.if-m-ne0.false
-    c.put_said.ensures
+pub returns-in_ok-said-in-Last : goal.returns-in_ok-said-in-Last
+returns-in_ok-said-in-Last t c =
+    last_put _ _ c.if-i-ge-ENTRIES.false _ _ _ _ c.cut_at-part.ensures _ _ c.in-Last.ensures _
+    c.read_field.ensures (none_of _ c.if-is_some.ensures) _ _ c.in_ok-said-in-Last.was c.put_said.ensures
 
-pub returns-then-e-to-2 : goal.returns-then-e-to-2
-returns-then-e-to-2 t c =
-    goes_on _ _ c.if-i-ge-ENTRIES.false _ _ c.step-what.ensures
-    c.field.ensures _ _ _ _ _ c.stop-e.ensures _ _ c.read_field-said.ensures
-    c.if-what-eq-OR.false
-    c.if-what-eq-MORE.false
-    c.if-e-to-2.true
+-- a field with more behind it
+pub returns-in_default : goal.returns-in_default
+returns-in_default t c = ends_early _ _ c.if-i-ge-ENTRIES.false _ _ _ _ c.cut_at-part-in-More.ensures _ _ c.in-More.ensures c.in_default.is
 
-pub returns-then-said-ne0 : goal.returns-then-said-ne0
-unfolding said
-returns-then-said-ne0 t c =
-    last_not _ _ c.if-i-ge-ENTRIES.false _ _ c.step-what.ensures
-    c.field.ensures _ _ _ _ _
-    c.stop-e.ensures _ _
-    c.read_field-said.ensures
-    c.if-what-eq-OR.false
-    c.if-what-eq-MORE.false
-    c.if-e-to-2.false
-    c.if-said-ne0.true
+pub returns-in-Wrong : goal.returns-in-Wrong
+returns-in-Wrong t c =
+    let w : c.read_field-in-More.result ≡ Err Wrong = c.in-Err.is ∙ ap Err c.in-Wrong.is in
+    rw c.in-Wrong.is (field_wrong _ _ c.if-i-ge-ENTRIES.false _ _ _ _ c.cut_at-part-in-More.ensures _ _ c.in-More.ensures _
+    c.read_field-in-More.ensures _ c.in-Some.is w)
 
-pub returns : goal.returns
-unfolding said
-returns t c =
-    last_put _ _ c.if-i-ge-ENTRIES.false _ _
-    c.step-what.ensures
-    c.field.ensures _ _ _ _ _
-    c.stop-e.ensures _ _ c.read_field-said.ensures
-    c.if-what-eq-OR.false
-    c.if-what-eq-MORE.false
-    c.if-e-to-2.false _ c.if-said-ne0.false
-    c.put_said-2.ensures
+pub returns-in_err-line_by-in-Beyond : goal.returns-in_err-line_by-in-Beyond
+returns-in_err-line_by-in-Beyond t c =
+    let w : c.read_field-in-More.result ≡ Err Beyond = c.in-Err.is ∙ ap Err c.in-Beyond.is in
+    let p = err_from_is_err_and c.from_residual-in_err-line_by-in-Beyond.result c.from_residual-in_err-line_by-in-Beyond.ensures.1 in
+    rw (p.1, p.2) (beyond_not _ _ c.if-i-ge-ENTRIES.false _ _ _ _ c.cut_at-part-in-More.ensures _ _ c.in-More.ensures _
+    c.read_field-in-More.ensures _ c.in-Some.is _ _ w
+    c.line_by-in-Beyond.ensures _ c.in_err-line_by-in-Beyond.was)
+
+pub returns-in_ok-line_by-in-Beyond : goal.returns-in_ok-line_by-in-Beyond
+returns-in_ok-line_by-in-Beyond t c =
+    let w : c.read_field-in-More.result ≡ Err Beyond = c.in-Err.is ∙ ap Err c.in-Beyond.is in
+    rw c.in-Beyond.is (beyond_then _ _ c.if-i-ge-ENTRIES.false _ _ _ _ c.cut_at-part-in-More.ensures _ _ c.in-More.ensures _
+    c.read_field-in-More.ensures _ c.in-Some.is _ _ w
+    c.line_by-in-Beyond.ensures _ c.in_ok-line_by-in-Beyond.was)
+
+pub returns-in_err-line_by-in-Ok : goal.returns-in_err-line_by-in-Ok
+returns-in_err-line_by-in-Ok t c =
+    let p = err_from_is_err_and c.from_residual-in_err-line_by-in-Ok.result c.from_residual-in_err-line_by-in-Ok.ensures.1 in
+    rw (p.1, p.2) (more_not _ _ c.if-i-ge-ENTRIES.false _ _ _ _ c.cut_at-part-in-More.ensures _ _ c.in-More.ensures _
+    c.read_field-in-More.ensures _ c.in-Some.is _ _ _ _ c.in-Ok.is c.stated.ensures.0
+    c.line_by-in-Ok.ensures _ c.in_err-line_by-in-Ok.was)
+
+pub returns-in_ok-line_by-in-Ok : goal.returns-in_ok-line_by-in-Ok
+returns-in_ok-line_by-in-Ok t c =
+    more_put _ _ c.if-i-ge-ENTRIES.false _ _ _ _ c.cut_at-part-in-More.ensures _ _ c.in-More.ensures _
+    c.read_field-in-More.ensures _ c.in-Some.is _ _ _ _ c.in-Ok.is c.stated.ensures.0
+    c.line_by-in-Ok.ensures _ _ c.in_ok-line_by-in-Ok.was c.put_said-in-Ok.ensures

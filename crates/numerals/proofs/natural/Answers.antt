@@ -1,20 +1,16 @@
 -- `numerals::natural` meets its contract: each way out is a law of the files beside. Assumes nothing.
-use mathlib.Core.Path.{◌∙◌}
-use Prim.Native.Nat.{◌<◌}
-use native.Mathlib.Omega.{arith}
+use Rattle.std.proofs.Common.{◌∙◌}
 use Rattle.numerals.proofs.ReadLaws.{nat_empty, nat_zero, nat_lead, nat_plain}
 use Rattle.numerals.proofs.natural.Goals as goal
 
-pub returns-then-from-to : goal.returns-then-from-to
-returns-then-from-to c = nat_empty _ _ _ c.if-from-to.true
+pub returns-in_default : goal.returns-in_default
+returns-in_default c = nat_empty _ c.in_default.len_below
 
-pub returns-then-from-to-2 : goal.returns-then-from-to-2
-returns-then-from-to-2 c = nat_zero _ _ _ (omega arith) c.requires.1 c.if-s-from-eq48.true c.if-from-to-2.true
+pub returns-then-first-ne48 : goal.returns-then-first-ne48
+returns-then-first-ne48 c = c.digits_of.ensures ∙ nat_plain _ c.in-len1-up.len_at_least c.if-first-ne48.true
 
-pub returns-then-s-from-eq48 : goal.returns-then-s-from-eq48
-returns-then-s-from-eq48 c = nat_lead _ _ _ (omega arith) c.requires.1 c.if-s-from-eq48.true c.if-from-to-2.false
+pub returns-then-is_empty : goal.returns-then-is_empty
+returns-then-is_empty c = nat_zero _ c.in-len1-up.len_at_least c.if-is_empty.ensures c.if-first-ne48.false
 
-pub returns : goal.returns
-returns c =
-    let h : c.args.from < c.args.to = omega arith in
-    c.digits_of.ensures ∙ nat_plain _ _ _ h c.requires.1 c.if-s-from-eq48.false
+pub returns-else-is_empty : goal.returns-else-is_empty
+returns-else-is_empty c = nat_lead _ c.in-len1-up.len_at_least c.if-is_empty.ensures c.if-first-ne48.false

@@ -1,27 +1,26 @@
 -- `numerals::number` meets its contract: each way out is a law of the files beside. Assumes nothing.
-use mathlib.Core.Path.{◌∙◌, sym, ap}
-use Prim.Native.Nat.{◌<◌}
-use native.Mathlib.Omega.{arith}
-use Rattle.meaning.specs.Number.{with_no_sign, minus}
-use Rattle.numerals.proofs.ReadLaws.{num_empty, num_minus, num_plain, nat_small}
+use Rattle.std.proofs.Common.{◌∙◌, sym}
+use Rattle.std.proofs.lemmas.Result.{err_from_is_err_and}
+use Rattle.numerals.proofs.ReadLaws.{num_empty, minus_is, minus_not, plain_is, plain_not}
 use Rattle.numerals.proofs.number.Goals as goal
 
-pub returns-then-from-to : goal.returns-then-from-to
-returns-then-from-to c = num_empty _ _ _ c.if-from-to.true
+pub returns-in_default : goal.returns-in_default
+returns-in_default c = num_empty _ c.in_default.len_below
 
-pub minus_of-requires : goal.minus_of-requires
-minus_of-requires c = rw c.natural.ensures (nat_small _)
+pub returns-in_err-natural : goal.returns-in_err-natural
+returns-in_err-natural c =
+    let p = err_from_is_err_and c.from_residual.result c.from_residual.ensures.1 in
+    rw (p.1, p.2) (minus_not _ c.in-len1-up.len_at_least c.if-first-eq45.true _ (sym c.natural.ensures ∙ c.in_err-natural.was))
 
-pub returns-then-s-from-eq45 : goal.returns-then-s-from-eq45
-returns-then-s-from-eq45 c =
-    let h : c.args.from < c.args.to = omega arith in
-    c.minus_of.ensures ∙ ap minus c.natural.ensures ∙ sym (num_minus _ _ _ h c.requires.1 c.if-s-from-eq45.true)
+pub returns-in_ok-natural : goal.returns-in_ok-natural
+returns-in_ok-natural c =
+    c.negative.ensures ∙ minus_is _ c.in-len1-up.len_at_least c.if-first-eq45.true _ (sym c.natural.ensures ∙ c.in_ok-natural.was)
 
-pub plain_of-requires : goal.plain_of-requires
-plain_of-requires c = rw c.natural-2.ensures (nat_small _)
+pub returns-in_err-natural-2 : goal.returns-in_err-natural-2
+returns-in_err-natural-2 c =
+    let p = err_from_is_err_and c.from_residual-in_err-natural-2.result c.from_residual-in_err-natural-2.ensures.1 in
+    rw (p.1, p.2) (plain_not _ c.if-first-eq45.false _ (sym c.natural-else-first-eq45.ensures ∙ c.in_err-natural-2.was))
 
-pub returns : goal.returns
-returns c =
-    let h : c.args.from < c.args.to = omega arith in
-    c.plain_of.ensures ∙ ap with_no_sign c.natural-2.ensures
-    ∙ sym (num_plain _ _ _ h c.requires.1 c.if-s-from-eq45.false)
+pub returns-in_ok-natural-2 : goal.returns-in_ok-natural-2
+returns-in_ok-natural-2 c =
+    c.plain.ensures ∙ plain_is _ c.if-first-eq45.false _ (sym c.natural-else-first-eq45.ensures ∙ c.in_ok-natural-2.was)

@@ -6,7 +6,7 @@ use Rattle.pen.proofs.put_numeral.Goals as goal
 pub returns-then-v-lt0 : goal.returns-then-v-lt0
 returns-then-v-lt0 c =
     numeral_minus _ _ _ _ (rw (to_z-of_z c.ranges.v) at
-    c.size-n.ensures) _
+    c.unsigned_abs-n.ensures.value) _
     (rw (to_z-of_z c.ranges.v) at
     c.if-v-lt0.true) c.put-p.ensures
     c.put_digits.ensures
@@ -14,6 +14,6 @@ returns-then-v-lt0 c =
 pub returns : goal.returns
 returns c =
     numeral_plain _ _ _ _
-    (rw (to_z-of_z c.ranges.v) at c.size-n.ensures)
+    (rw (to_z-of_z c.ranges.v) at c.unsigned_abs-n.ensures.value)
     (rw (to_z-of_z c.ranges.v) at c.if-v-lt0.false)
     c.put_digits-2.ensures

@@ -3,21 +3,15 @@
 use Rattle.writer.proofs.WriteLaws.{wrote_over, wrote_in}
 use Rattle.round_trip.proofs.Round.{passes}
 use native.Mathlib.Omega.{arith}
-use Rattle.writer.proofs.write_passed.Goals.{After-put_chart-arg-1, Else-text-end, Start}
 use Rattle.writer.proofs.write_passed.Goals as goal
 
-pub put_chart-end-requires : goal.put_chart-end-requires
-put_chart-end-requires c = (passes c.args.chart.now c.requires).keeps
+pub put_chart-length-requires : goal.put_chart-length-requires
+put_chart-length-requires c = (passes c.args.chart.now c.requires).keeps
 
-pub returns-then-text-end : goal.returns-then-text-end
-returns-then-text-end c =
-    wrote_over c.args.chart.now c.requires _ _ _ _
-    c.clear.ensures
-    c.put_chart-end.ensures (omega arith) _ _
-    (omega arith) c.clear-then-text-end.ensures
+pub returns-then-text-length : goal.returns-then-text-length
+returns-then-text-length c =
+    wrote_over c.args.chart.now c.requires _ _ _ _ (c.fill.ensures.after (λ y h. h))
+    c.put_chart-length.ensures (omega arith) _ _ (omega arith) (c.fill-then-text-length.ensures.after (λ y h. h))
 
 pub returns : goal.returns
-returns c =
-    wrote_in c.args.chart.now c.requires _ _ _ _
-    c.clear.ensures
-    c.put_chart-end.ensures (omega arith)
+returns c = wrote_in c.args.chart.now c.requires _ _ _ _ (c.fill.ensures.after (λ y h. h)) c.put_chart-length.ensures (omega arith)

@@ -1,28 +1,13 @@
 -- `fields::cells::history_said` meets its contract: each way out is a law of the files beside. Assumes nothing.
-use native.Mathlib.Omega.{arith}
-use Prim.Native.Nat.{◌<◌}
 use Rattle.fields.proofs.CellLaws.{history_empty, history_is, history_not}
-use Rattle.fields.specs.Said.{said}
 use Rattle.fields.proofs.cells.history_said.Goals as goal
 
-pub returns-then-from-to : goal.returns-then-from-to
-unfolding said
-returns-then-from-to c = history_empty _ _ _ c.if-from-to.true
+pub returns-in_default : goal.returns-in_default
+returns-in_default c = history_empty _ c.in_default.len_below
 
-pub returns-then-s-from-eq104 : goal.returns-then-s-from-eq104
-returns-then-s-from-eq104 c =
-    let a = c.args in
-    let p = c.requires in
-    let n = c.if-from-to.false in
-    let k : a.from < a.to = omega arith in
-    history_is a.s.now a.from a.to k p.1 c.if-s-from-eq104.true _ _
-    c.number.ensures c.target_said.ensures
+pub returns-then-first-eq104 : goal.returns-then-first-eq104
+returns-then-first-eq104 c =
+    history_is _ c.in-len1-up.len_at_least c.if-first-eq104.true _ _ c.number.ensures c.target_said.ensures
 
-pub returns : goal.returns
-unfolding said
-returns c =
-    let a = c.args in
-    let p = c.requires in
-    let n = c.if-from-to.false in
-    let k : a.from < a.to = omega arith in
-    history_not a.s.now a.from a.to k p.1 c.if-s-from-eq104.false
+pub returns-else-first-eq104 : goal.returns-else-first-eq104
+returns-else-first-eq104 c = history_not _ c.if-first-eq104.false

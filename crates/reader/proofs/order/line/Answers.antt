@@ -6,31 +6,19 @@ use Rattle.reader.proofs.order.line.Goals as goal
 
 pub overflow_mul-at : goal.overflow_mul-at
 overflow_mul-at c =
-    let w = place_within _ _ _ _ c.requires.2 c.turn-n.ensures
-    c.kind_of-q.ensures in
-    let h = w.1 in
-    record { fits = omega arith }
+    let w = place_within _ _ _ _ c.requires c.of-n.ensures c.area-area.ensures in let h = w.1 in record { fits = omega arith }
 
 pub overflow_add-at : goal.overflow_add-at
 overflow_add-at c =
-    let w = place_within _ _ _ _ c.requires.2
-    c.turn-n.ensures c.kind_of-q.ensures in
-    let h = w.2 in
-    record { fits = omega arith }
+    let w = place_within _ _ _ _ c.requires c.of-n.ensures c.area-area.ensures in let h = w.2 in record { fits = omega arith }
 
 pub line-requires : goal.line-requires
-line-requires c =
-    let p = c.requires in
-    let w = place_within _ _ _ _ p.2 c.turn-n.ensures
-    c.kind_of-q.ensures in
-    let h = w.2 in
-    (p.0, p.1, omega arith)
+line-requires c = let w = place_within _ _ _ _ c.requires c.of-n.ensures c.area-area.ensures in let h = w.2 in omega arith
 
-pub returns-then-placed : goal.returns-then-placed
-returns-then-placed c =
-    let i = c.before.before.before.before.before in
-    read_in_place _ _ _ _ _ _ _ _ _ (sym c.placed.ensures ∙ c.if-placed.true) c.turn-n.ensures
-    c.kind_of-q.ensures c.entry-i.ensures.0 c.line.ensures
+pub returns-then-not-placed : goal.returns-then-not-placed
+returns-then-not-placed c = misplaced _ _ _ _ (sym c.placed.ensures ∙ c.if-not-placed.true)
 
 pub returns : goal.returns
-returns c = misplaced _ _ _ _ (sym c.placed.ensures ∙ c.if-placed.false)
+returns c =
+    read_in_place _ _ _ _ _ _ _ _ _ (sym c.placed.ensures ∙ c.if-not-placed.false) c.of-n.ensures
+    c.area-area.ensures c.begins.ensures.0 c.line.ensures
