@@ -46,15 +46,7 @@ fn parent_fits(chart: &[i32], n: usize) -> bool
 pub fn rule_2(chart: &[i32]) -> bool
     ensures { result ≡ rule_2 (chart_of chart.now) }
 {
-    let n = state_count(chart);
-    let mut s = 0;
-    while s < n {
-        if !parent_fits(chart, s) {
-            return false;
-        }
-        s += 1;
-    }
-    true
+    (0..state_count(chart)).all(|s| parent_fits(chart, s))
 }
 
 // For each state how many children it has, and whether all of them are o.
