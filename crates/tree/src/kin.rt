@@ -30,7 +30,11 @@ pub fn o_parent(chart: &[i32], s: usize) -> Option<usize>
         return None;
     }
     let p = parent_of(chart, s);
-    if is_o(kind_of(chart, p)) { Some(p) } else { None }
+    if is_o(kind_of(chart, p)) {
+        Some(p)
+    } else {
+        None
+    }
 }
 
 // Is a a proper ancestor of d? The way up from d has at most d steps.

@@ -1,6 +1,5 @@
 -- `one_of_letters` asks whether any of the letters is the number. Assumes nothing.
 use Rattle.std.proofs.Common.{rules, tests, ◌∙◌}
-use mir.Facts.{to_z-of_z}
 use Rattle.std.proofs.lemmas.Iterator.{YieldsList-from_slice}
 use Rattle.std.proofs.lemmas.Iterator.Search.{any_from_yields_List}
 use Rattle.meaning.specs.Value.{is_letter}

@@ -17,7 +17,7 @@ loop-x-smaller c = search (rules, up_falls)
 
 pub loop-x-preserved : goal.loop-x-preserved
 loop-x-preserved c = elim c.else-is_o.branch [
-  else-is_o-via-then-is_o+else-is_ancestor w ↦ scope_on _ c.requires _ _ _
+  | else-is_o-via-then-is_o+else-is_ancestor w ↦ scope_on _ c.requires _ _ _
       c.loop-x.invariant
       c.loop-x-test.true _
       c.parent_of-x.ensures _
@@ -27,7 +27,8 @@ loop-x-preserved c = elim c.else-is_o.branch [
       c.loop-x.invariant
       c.loop-x-test.true _
       c.parent_of-x.ensures _
-      c.kind_of.ensures _ c.is_o.ensures w.if-is_o.false ]
+      c.kind_of.ensures _ c.is_o.ensures w.if-is_o.false
+]
 
 pub returns : goal.returns
 returns c = search (rules, scope_end)
