@@ -1,6 +1,6 @@
 -- A row fits a form of its record exactly where the code's tests of its fields hold. Assumes nothing.
 use Prim.Native.Nat.{ℕ, zero, suc}
-use mathlib.Core.Path.{◌≡◌, refl, sym, ap, subst}
+use mathlib.Core.Path.{◌≡◌, refl, sym, ap, ◌∙◌, subst}
 use mathlib.Core.Bool.{Bool, true, false, not, ◌&&◌, ◌||◌}
 use mathlib.Core.List.{List, [], ◌∷◌}
 use native.Mathlib.Omega.{arith}
@@ -9,8 +9,8 @@ use borrow.Author.Tests.{ne_eqb}
 use lib.IntN.{ℤ, pos}
 use Rattle.numbers.specs.Range.{in_range}
 use Rattle.numbers.proofs.Laws.{eq_z_true}
-use Rattle.meaning.specs.Grammar.{bytes}
-use Rattle.meaning.specs.Value.{num, is_letter, is_absent, one_of_letters, statable}
+use Rattle.meaning.specs.Grammar.{bytes, kind, target, guard, act}
+use Rattle.meaning.specs.Value.{num, is_letter, is_absent, one_of_letters, fits, statable}
 use Rattle.meaning.specs.Grammar.{s_record, t_record, a_record}
 use Rattle.rules.specs.Clauses.{number_if, guard_statable, target_statable}
 

@@ -1,16 +1,17 @@
 -- The fields of a row that a text can state (R0), against code that reads them one by one. Assumes nothing.
-use Prim.Native.Nat.{ℕ, ◌+◌, ◌*◌, ◌<◌}
-use mathlib.Core.Path.{◌≡◌, ap, ◌∙◌}
-use mathlib.Core.Bool.{not, ◌&&◌}
+use Prim.Native.Nat.{ℕ, zero, suc, ◌+◌, ◌*◌, ◌<◌, ◌≤◌}
+use mathlib.Core.Path.{◌≡◌, refl, sym, ap, ◌∙◌}
+use mathlib.Core.Bool.{Bool, true, false, not, ◌&&◌, ◌||◌}
 use mathlib.Core.List.{List, [], ◌∷◌}
+use native.Mathlib.Numerals.{add-one}
 use native.Mathlib.Omega.{arith}
 use lib.Dec.{eqb}
 use lib.IntN.{ℤ, pos}
-use lib.ListN.{get_or, take, drop}
-use lib.Seq.{drop-drop}
+use lib.ListN.{length, get_or, take, drop, drop_of_length-le}
+use lib.Seq.{drop-cons, drop-drop}
 use Rattle.numbers.specs.Range.{in_range}
 use Rattle.meaning.specs.Lists.{chunks}
-use Rattle.meaning.specs.Value.{is_letter, one_of_letters, STATE_ROW, VAR_ROW, TRANS_ROW, ACT_ROW}
+use Rattle.meaning.specs.Value.{num, is_letter, one_of_letters, STATE_ROW, VAR_ROW, TRANS_ROW, ACT_ROW}
 use Rattle.meaning.specs.Value.{statable}
 use Rattle.meaning.specs.Grammar.{s_record, v_record, t_record, a_record}
 use Rattle.rules.specs.Clauses.{number_if, guard_statable, target_statable}

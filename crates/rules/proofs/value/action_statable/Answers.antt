@@ -5,6 +5,7 @@ use mathlib.Core.List.{[], ◌∷◌}
 use Rattle.numbers.specs.Range.{in_range}
 use Rattle.numbers.proofs.Laws.{back32}
 use Rattle.meaning.specs.Value.{one_of_letters, ACTIONS_AT, ACT_ROW}
+use Rattle.rules.specs.Clauses.{number_if}
 use Rattle.chart_rows.proofs.Said.{said_of}
 use Rattle.rules.proofs.Tests.{refuted, held, on}
 use Rattle.rules.proofs.Letters.{action_read}

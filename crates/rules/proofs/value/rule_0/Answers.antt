@@ -2,6 +2,7 @@
 use lib.ListN.{length}
 use borrow.Author.Tests.{le-leb, lt-leb}
 use Rattle.meaning.specs.Value.{VALUE, rule_0}
+use Rattle.rules.specs.Clauses.{kind_fits}
 use Rattle.rules.proofs.Tests.{on}
 use Rattle.rules.proofs.KindTests.{all_kinds, kind_stops, kind_goes, kinds_end}
 use Rattle.rules.proofs.value.rule_0.Goals as goal

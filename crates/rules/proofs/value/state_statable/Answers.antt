@@ -5,7 +5,7 @@ use mathlib.Core.Bool.{not}
 use mathlib.Core.List.{[], ◌∷◌}
 use lib.Dec.{eqb}
 use Rattle.numbers.proofs.Laws.{back32}
-use Rattle.meaning.specs.Value.{one_of_letters, STATES_AT, STATE_ROW}
+use Rattle.meaning.specs.Value.{is_letter, one_of_letters, STATES_AT, STATE_ROW}
 use Rattle.rules.specs.Clauses.{number_if}
 use Rattle.chart_rows.proofs.Said.{said_of}
 use Rattle.rules.proofs.Tests.{refuted, held, on}
