@@ -10,14 +10,10 @@ use lib.Dec.{leb}
 use lib.IntN.{ℤ, pos}
 use lib.ListN.{length, get_or, take, drop, length-map, get_or-eq_default}
 use lib.Seq.{get_or-take, get_or-drop, drop-drop}
-use Rattle.sizes.specs.Sizes.{STATES, VARIABLES, EVENTS, TRANSITIONS, ACTIONS}
+use Rattle.sizes.specs.Sizes.{STATES, VARIABLES, TRANSITIONS, ACTIONS}
 use Rattle.numbers.specs.Reference.{ref}
 use Rattle.meaning.specs.Lists.{chunks}
-use Rattle.meaning.specs.declared.chart.Kind.{Kind}
 use Rattle.meaning.specs.declared.chart.Kind.TheVariants.{B as kind_b}
-use Rattle.meaning.specs.declared.chart.VarRow.{VarRow}
-use Rattle.meaning.specs.declared.chart.TransRow.{TransRow}
-use Rattle.meaning.specs.declared.chart.ActRow.{ActRow}
 use Rattle.meaning.specs.declared.chart.Guard.{Guard}
 use Rattle.meaning.specs.declared.chart.Target.{Target}
 use Rattle.meaning.specs.declared.chart.Owner.{Owner}

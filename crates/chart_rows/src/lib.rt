@@ -31,10 +31,7 @@ pub fn count_at(chart: &[i32], i: usize, most: usize) -> usize
     ensures { result ≡ size_by most (get_or chart.now i (pos 0)) }
 {
     let n = numbers::reference(number_at(chart, i));
-    if n <= most {
-        return n;
-    }
-    0
+    if n <= most { n } else { 0 }
 }
 
 pub fn state_count(chart: &[i32]) -> usize

@@ -13,7 +13,7 @@ ghost use Rattle.choice.specs.Choice.{seen, Reads, meant, Sources, noted, Chose,
 use chart_rows::layout::{TRANS_ROW, TRANSITIONS_AT};
 use chart_rows::{number_at, state_count, trans_row, transition_count};
 use meaning::chart::{Guard, Sign, Target, TransRow};
-use numbers::{less, reference, same};
+use numbers::reference;
 use sizes::{STATES, TRANSITIONS, VARIABLES};
 use tree::walks::{end_below, scope};
 use tree::ways::{aim_of, aimed};
@@ -41,19 +41,18 @@ pub fn span_of(chart: &[i32], s: usize, target: Target) -> Span
 {
     let aim = aim_of(target);
     let Some(goal) = aim else {
-        let below = end_below(chart, s);
         return Span {
             top: s,
             first: s,
-            end: below,
+            end: end_below(chart, s),
         };
     };
     let top = scope(chart, s, aimed(goal));
     let end = end_below(chart, top);
     Span {
-        top: top,
+        top,
         first: top + 1,
-        end: end,
+        end,
     }
 }
 
@@ -62,9 +61,9 @@ fn compare(sign: Sign, x: i32, y: i32) -> bool
     ensures { result ≡ compare_by sign x y }
 {
     match sign {
-        Sign::Equal => same(x, y),
-        Sign::Less => less(x, y),
-        Sign::More => less(y, x),
+        Sign::Equal => x == y,
+        Sign::Less => x < y,
+        Sign::More => y < x,
     }
 }
 
@@ -89,15 +88,7 @@ pub fn enabled(
     requires { (row.source < states) × Reads row.guard }
     ensures { result ≡ enabled_by row event (seen active.now vars.now) }
 {
-    if row.trigger != event {
-        return false;
-    }
-    let source = row.source;
-    if !active[source] {
-        return false;
-    }
-    let guard = row.guard;
-    guard_true(guard, vars)
+    row.trigger == event && (active[row.source] && guard_true(row.guard, vars))
 }
 
 // The source of transition t, read where it stands: nothing else of its row is decoded.
@@ -138,10 +129,7 @@ fn row_meant(chart: &[i32], t: usize, s: usize, event: usize) -> bool
     requires { t < length (chart_of chart.now).transitions }
     ensures { result ≡ meant (trans_row (chart_of chart.now) t) s event }
 {
-    if source_at(chart, t) != s {
-        return false;
-    }
-    trigger_at(chart, t) == event
+    source_at(chart, t) == s && trigger_at(chart, t) == event
 }
 
 // The states of a span are gone: no later span may meet them.
@@ -149,10 +137,8 @@ fn mark_gone(span: Span, gone: &mut [bool; STATES])
     requires { (span.first < span.end) × (span.end ≤ states) × (length gone.old ≡ states) }
     ensures { Goes span gone.old gone.new }
 {
-    let mut x = span.first;
-    while x < span.end {
+    for x in span.first..span.end {
         gone[x] = true;
-        x += 1;
     }
 }
 

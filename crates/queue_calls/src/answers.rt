@@ -11,13 +11,9 @@ use queue::Queue;
 pub fn refused(number: usize, place: usize, state: State) -> Called
     ensures { result ≡ called (refusal number place state) }
 {
-    let answer = Answer {
-        number: number,
-        place: place,
-    };
     Called {
-        answer: answer,
-        state: state,
+        answer: Answer { number, place },
+        state,
         entries: 0,
     }
 }
@@ -26,13 +22,12 @@ pub fn refused(number: usize, place: usize, state: State) -> Called
 pub fn done(state: State) -> Called
     ensures { result ≡ called (quiet state) }
 {
-    let answer = Answer {
-        number: 0,
-        place: 0,
-    };
     Called {
-        answer: answer,
-        state: state,
+        answer: Answer {
+            number: 0,
+            place: 0,
+        },
+        state,
         entries: 0,
     }
 }
@@ -41,14 +36,5 @@ pub fn done(state: State) -> Called
 pub fn with_queue(state: State, queue: Queue) -> State
     ensures { result ≡ set_queue queue state }
 {
-    let active = state.active;
-    let slots = state.slots;
-    let vars = state.vars;
-    State {
-        started: state.started,
-        active: active,
-        slots: slots,
-        vars: vars,
-        queue: queue,
-    }
+    State { queue, ..state }
 }

@@ -45,9 +45,9 @@ pub fn discard_ruled(chart: &[i32], state: State) -> Called
     if !own(chart, state) {
         return refused(FOREIGN, 0, state);
     }
-    let (front, after) = state.queue.remove();
-    let Some(_) = front else {
-        return refused(QUEUE_EMPTY, 0, state);
-    };
-    done(with_queue(state, after))
+    let (front, rest) = state.queue.remove();
+    match front {
+        Some(_) => done(with_queue(state, rest)),
+        None => refused(QUEUE_EMPTY, 0, state),
+    }
 }

@@ -38,10 +38,7 @@ fn count_children(
     ensures { Tallied (chart_of chart.now) active.now all.new on.new }
 {
     let n = state_count(chart);
-    let mut next: usize = 0;
-    while next < n {
-        let d = next;
-        next += 1;
+    for d in 0..n {
         if d == 0 {
             continue;
         }
@@ -49,11 +46,11 @@ fn count_children(
         if STATES <= p {
             continue;
         }
-        all[p] = all[p] + 1;
+        all[p] += 1;
         if !active[d] {
             continue;
         }
-        on[p] = on[p] + 1;
+        on[p] += 1;
     }
 }
 
@@ -83,8 +80,7 @@ fn legal(chart: &[i32], active: &[bool; STATES]) -> bool
     let mut all = [0u16; STATES];
     let mut on = [0u16; STATES];
     count_children(chart, active, &mut all, &mut on);
-    let mut s: usize = 0;
-    while s < n {
+    for s in 0..n {
         let t = Tally {
             all: all[s],
             on: on[s],
@@ -92,7 +88,6 @@ fn legal(chart: &[i32], active: &[bool; STATES]) -> bool
         if !legal_at(chart, active, s, t) {
             return false;
         }
-        s += 1;
     }
     true
 }
@@ -114,10 +109,8 @@ fn rest_zero(end: usize, vars: &[i32; VARIABLES]) -> bool
     ensures { result ≡ every (eq_z (pos 0)) (drop end vars.now) }
 {
     let mut fit = true;
-    let mut v = end;
-    while v < VARIABLES {
-        fit = fit & same(0, vars[v]);
-        v += 1;
+    for v in end..VARIABLES {
+        fit &= same(0, vars[v]);
     }
     fit
 }
@@ -127,12 +120,10 @@ fn values_fit(chart: &[i32], vars: [i32; VARIABLES]) -> bool
     ensures { result ≡ values_fit (chart_of chart.now).vars vars }
 {
     let n = var_count(chart);
-    let mut v: usize = 0;
-    while v < n {
+    for v in 0..n {
         if !value_fits(chart, v, vars[v]) {
             return false;
         }
-        v += 1;
     }
     rest_zero(n, &vars)
 }
@@ -179,10 +170,7 @@ fn components_filled(chart: &[i32], slots: &[i32; STATES]) -> bool
     ensures { (u : Widget) → u.slots ≡ slots.now → Completes (chart_of chart.now) u result }
 {
     let n = state_count(chart);
-    let mut next: usize = 1;
-    while next < n {
-        let d = next;
-        next += 1;
+    for d in 1..n {
         if filled(slots[d]) {
             continue;
         }
@@ -231,10 +219,8 @@ pub fn rest_empty(end: usize, slots: &[i32; STATES]) -> bool
     ensures { result ≡ every (eq_z (negsuc 0)) (drop end slots.now) }
 {
     let mut fit = true;
-    let mut s = end;
-    while s < STATES {
-        fit = fit & same(-1, slots[s]);
-        s += 1;
+    for s in end..STATES {
+        fit &= same(-1, slots[s]);
     }
     fit
 }
@@ -244,12 +230,10 @@ fn each_fits(chart: &[i32], slots: &[i32; STATES], end: usize, whole: bool) -> b
     requires { (length slots.now ≡ states) × (end ≤ states) × (every (eq_z (negsuc 0)) (drop end slots.now) ≡ true) }
     ensures { (u : Widget) → u.slots ≡ slots.now → result ≡ slots_if whole (chart_of chart.now) u }
 {
-    let mut s: usize = 0;
-    while s < end {
+    for s in 0..end {
         if !slot_fits(chart, slots, s, slots[s], whole) {
             return false;
         }
-        s += 1;
     }
     true
 }

@@ -5,5 +5,4 @@ pub mod Clauses
 pub mod Letters
 pub mod Verdicts
 pub mod Kept
-pub mod Fields
 pub mod KindTests

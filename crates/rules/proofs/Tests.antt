@@ -15,6 +15,13 @@ held {r} e t = sym e ∙ not-false r t
 pub on : {p q s : Bool} → p ≡ true → s ≡ q → s ≡ p && q
 on e g = rw e g
 
+-- `call && rest`: the call holds, and the rest is what is returned; or the call fails, and is what is returned
+pub both : {r p q s : Bool} → r ≡ p → r ≡ true → s ≡ q → s ≡ p && q
+both e t g = on (sym e ∙ t) g
+
+pub fails : {r p : Bool} (q : Bool) → r ≡ p → r ≡ false → r ≡ p && q
+fails q e f = f ∙ rw (sym e ∙ f)
+
 -- the first of two possibilities fails
 pub or_else : {p q s : Bool} → p ≡ false → s ≡ q → s ≡ p || q
 or_else e g = rw e g

@@ -1,11 +1,13 @@
 -- What a caller learns from the check's answer: 0 says that no rule fails, any other that the rule at its place does. Assumes nothing.
-use Prim.Native.Nat.{ℕ, zero, suc, ◌+◌, ◌<◌, ◌≤◌}
-use mathlib.Core.Path.{◌≡◌, refl, sym}
-use mathlib.Core.Bool.{Bool, true, false}
+use Rattle.std.specs.Prelude.{Option as Place, None, Some}
+use Rattle.std.specs.List.{position_or_len}
+use Prim.Native.Nat.{ℕ, suc, ◌+◌, ◌<◌, ◌≤◌}
+use mathlib.Core.Path.{◌≡◌, refl, sym, ap, ◌∙◌}
+use mathlib.Core.Bool.{Bool, true, false, not, cond}
 use mathlib.Core.List.{List, [], ◌∷◌}
-use native.Mathlib.Numerals.{add-one}
-use lib.ListN.{length, get_or, drop, drop_of_length-le, get_or-eq_default}
-use lib.Seq.{drop-cons}
+use borrow.Author.Tests.{ltb-true, ltb-false}
+use lib.Dec.{ltb}
+use lib.ListN.{length}
 use mathlib.Core.Option.{Option, none, some}
 use native.Mathlib.Omega.{arith}
 use Rattle.meaning.specs.declared.Answer.{Answer}
@@ -30,34 +32,40 @@ pub answer_failed : (o : Option ℕ) (r : ℕ) (a : Answer) → a ≡ verdict o 
 unfolding verdict
 answer_failed o r a e z = rw (e, z)
 
--- ---- the loop over the rules: those from i on name the same first failing one
+-- ---- the first failing one, by its place among the rules
 
-module _ (l : List Bool) (i : ℕ) {o : Option ℕ} where
-  pub rule_fails : i < length l → get_or l i true ≡ false → first_failing i (drop i l) ≡ o → some i ≡ o
-  unfolding first_failing
-  rule_fails h e g = rw (drop-cons l i true h, e) at g
+pub found : (bs : List Bool) (n i : ℕ) → position_or_len not bs ≡ i → i < length bs → first_failing n bs ≡ some (n + i)
+unfolding first_failing
+found [] n i e l = absurd (omega arith)
+found (false ∷ bs) n i e l = let z : n ≡ n + i = omega arith in ap some z
+found (true ∷ bs) n i e l =
+    let z : suc n + position_or_len not bs ≡ n + i = omega arith in
+    found bs (suc n) (position_or_len not bs) refl (omega arith) ∙ ap some z
 
-  pub rule_kept : i < length l → get_or l i true ≡ true → first_failing i (drop i l) ≡ o → first_failing (i + 1) (drop (i + 1) l) ≡ o
-  unfolding first_failing
-  rule_kept h e g = rw (add-one i) (rw (drop-cons l i true h, e) at g)
+pub none_found : (bs : List Bool) (n : ℕ) → length bs ≤ position_or_len not bs → first_failing n bs ≡ none
+unfolding first_failing
+none_found [] n l = refl
+none_found (false ∷ bs) n l = absurd (omega arith)
+none_found (true ∷ bs) n l = none_found bs (suc n) (omega arith)
 
-  pub rules_kept : length l ≤ i → first_failing i (drop i l) ≡ o → none ≡ o
-  unfolding first_failing
-  rules_kept h g = rw (drop_of_length-le l h) at g
+place_some : (b : Bool) (p i : ℕ) → Some i ≡ cond b (Some p) None → (b ≡ true) × (p ≡ i)
+place_some true p i e = (refl, cc)
+place_some false p i e = cc
 
--- a number that names no rule
-above : (k m : ℕ) → k ≤ m → (m ≡ k → ⊥) → k + 1 ≤ m
-above k m h n = omega arith
+place_none : (b : Bool) (p : ℕ) → None ≡ cond b (Some p) None → b ≡ false
+place_none true p e = cc
+place_none false p e = refl
 
-pub no_rule : (b₁ b₂ b₃ b₄ b₅ b₆ b₇ : Bool) (n : ℕ)
-    → (n ≡ 1 → ⊥) → (n ≡ 2 → ⊥) → (n ≡ 3 → ⊥) → (n ≡ 4 → ⊥) → (n ≡ 5 → ⊥) → (n ≡ 6 → ⊥) → (n ≡ 7 → ⊥)
-    → true ≡ get_or (true ∷ b₁ ∷ b₂ ∷ b₃ ∷ b₄ ∷ b₅ ∷ b₆ ∷ b₇ ∷ []) n true
-no_rule b₁ b₂ b₃ b₄ b₅ b₆ b₇ zero n₁ n₂ n₃ n₄ n₅ n₆ n₇ = refl
-no_rule b₁ b₂ b₃ b₄ b₅ b₆ b₇ (suc n) n₁ n₂ n₃ n₄ n₅ n₆ n₇ =
-    sym (get_or-eq_default (true ∷ b₁ ∷ b₂ ∷ b₃ ∷ b₄ ∷ b₅ ∷ b₆ ∷ b₇ ∷ []) true (past (suc n) (suc_positive n) n₁ n₂ n₃ n₄ n₅ n₆ n₇))
-  where
-    suc_positive : (m : ℕ) → 1 ≤ suc m
-    suc_positive m = omega arith
+module _ (bs : List Bool) {o : Place ℕ} (e : o ≡ cond (ltb (position_or_len not bs) (length bs)) (Some (position_or_len not bs)) None) where
+  -- the rule at place i is the first that fails
+  pub rule_fails : (i : ℕ) → o ≡ Some i → verdict (first_failing 1 bs) ≡ record { number = 3; place = i + 1 }
+  unfolding verdict
+  rule_fails i h =
+      let p = place_some (ltb (position_or_len not bs) (length bs)) (position_or_len not bs) i (sym h ∙ e) in
+      let z : 1 + i ≡ i + 1 = omega arith in
+      rw (found bs 1 i p.1 (omega (arith, ltb-true _ _ p.0, p.1)), z)
 
-    past : (m : ℕ) → 1 ≤ m → (m ≡ 1 → ⊥) → (m ≡ 2 → ⊥) → (m ≡ 3 → ⊥) → (m ≡ 4 → ⊥) → (m ≡ 5 → ⊥) → (m ≡ 6 → ⊥) → (m ≡ 7 → ⊥) → 8 ≤ m
-    past m h n₁ n₂ n₃ n₄ n₅ n₆ n₇ = above 7 m (above 6 m (above 5 m (above 4 m (above 3 m (above 2 m (above 1 m h n₁) n₂) n₃) n₄) n₅) n₆) n₇
+  pub rules_kept : o ≡ None → verdict (first_failing 1 bs) ≡ record { number = 0; place = 0 }
+  unfolding verdict
+  rules_kept h =
+      rw (none_found bs 1 (ltb-false _ _ (place_none (ltb (position_or_len not bs) (length bs)) (position_or_len not bs) (sym h ∙ e))))

@@ -1,21 +1,17 @@
 // R5 to R7 (01, "Chart rules, in order"): the variables, the transitions and the actions. Each function equals the
 // definition of the same name in the crate meaning, on every input.
-ghost use Rattle.std.specs.Prelude.{◌≡◌, ◌<◌, length, get_or};
-ghost use Rattle.meaning.specs.Chart.{no_action};
-ghost use Rattle.meaning.specs.Tree.{trans_row};
+ghost use Rattle.std.specs.Prelude.{◌≡◌};
 ghost use Rattle.meaning.specs.Rules.{is_var, row_fits, guard_fits, target_fits, transition_fits, owner_fits, within_row};
 ghost use Rattle.meaning.specs.Rules.{act_fits, action_fits};
 ghost use Rattle.meaning.specs.Rules.{rule_5, rule_6, rule_7};
 ghost use Rattle.meaning.specs.Value.{chart_of};
 
 use super::states::is_state;
-use chart_rows::decode::{act_by, guard_by, owner_by, target_by};
-use chart_rows::layout::{ACT_ROW, ACTIONS_AT, TRANS_ROW, TRANSITIONS_AT};
 use chart_rows::{
-    action_count, event_count, kind_of, number_at, transition_count, var_count, var_row,
+    action_count, action_row, event_count, kind_of, trans_row, transition_count, var_count, var_row,
 };
-use meaning::chart::{Act, Guard, Owner, Target, VarRow};
-use numbers::{between, reference};
+use meaning::chart::{Act, ActRow, Guard, Owner, Target, TransRow, VarRow};
+use numbers::between;
 use tree::kin::is_o;
 
 // Does the chart have the variable v?
@@ -35,15 +31,7 @@ fn row_fits(row: VarRow) -> bool
 pub fn rule_5(chart: &[i32]) -> bool
     ensures { result ≡ rule_5 (chart_of chart.now) }
 {
-    let n = var_count(chart);
-    let mut i = 0;
-    while i < n {
-        if !row_fits(var_row(chart, i)) {
-            return false;
-        }
-        i += 1;
-    }
-    true
+    (0..var_count(chart)).all(|i| row_fits(var_row(chart, i)))
 }
 
 // R6: the guard variable exists.
@@ -62,73 +50,25 @@ fn target_fits(chart: &[i32], s: usize, target: Target) -> bool
     ensures { result ≡ target_fits (chart_of chart.now) s target }
 {
     match target {
-        Target::To(t) => {
-            if !is_state(chart, t) {
-                return false;
-            }
-            if t == 0 {
-                return false;
-            }
-            s != 0
-        }
-        Target::History(b) => {
-            if !is_state(chart, b) {
-                return false;
-            }
-            if b == 0 {
-                return false;
-            }
-            if !is_o(kind_of(chart, b)) {
-                return false;
-            }
-            s != 0
-        }
+        Target::To(t) => is_state(chart, t) && (t != 0 && s != 0),
+        Target::History(b) => is_state(chart, b) && (b != 0 && (is_o(kind_of(chart, b)) && s != 0)),
         Target::InPlace => true,
     }
 }
 
-// R6 of one transition, whose numbers are read where they stand.
-fn transition_fits(chart: &[i32], i: usize) -> bool
-    requires { i < length (chart_of chart.now).transitions }
-    ensures { result ≡ transition_fits (chart_of chart.now) (trans_row (chart_of chart.now) i) }
+// R6 of one transition; the tests are nested as in the definition.
+fn transition_fits(chart: &[i32], row: TransRow) -> bool
+    ensures { result ≡ transition_fits (chart_of chart.now) row }
 {
-    let at = TRANSITIONS_AT + i * TRANS_ROW;
-    let source = reference(number_at(chart, at));
-    if !is_state(chart, source) {
-        return false;
-    }
-    if event_count(chart) < reference(number_at(chart, at + 1)) {
-        return false;
-    }
-    if !guard_fits(
-        chart,
-        guard_by(
-            number_at(chart, at + 2),
-            number_at(chart, at + 3),
-            number_at(chart, at + 4),
-        ),
-    ) {
-        return false;
-    }
-    target_fits(
-        chart,
-        source,
-        target_by(number_at(chart, at + 5), number_at(chart, at + 6)),
-    )
+    is_state(chart, row.source)
+        && (row.trigger <= event_count(chart)
+            && (guard_fits(chart, row.guard) && target_fits(chart, row.source, row.target)))
 }
 
 pub fn rule_6(chart: &[i32]) -> bool
     ensures { result ≡ rule_6 (chart_of chart.now) }
 {
-    let n = transition_count(chart);
-    let mut i = 0;
-    while i < n {
-        if !transition_fits(chart, i) {
-            return false;
-        }
-        i += 1;
-    }
-    true
+    (0..transition_count(chart)).all(|i| transition_fits(chart, trans_row(chart, i)))
 }
 
 // R7: the owner exists; a d owner is an o state.
@@ -136,14 +76,8 @@ fn owner_fits(chart: &[i32], owner: Owner) -> bool
     ensures { result ≡ owner_fits (chart_of chart.now) owner }
 {
     match owner {
-        Owner::EntryOf(s) => is_state(chart, s),
-        Owner::ExitOf(s) => is_state(chart, s),
-        Owner::DefaultOf(s) => {
-            if !is_state(chart, s) {
-                return false;
-            }
-            is_o(kind_of(chart, s))
-        }
+        Owner::EntryOf(s) | Owner::ExitOf(s) => is_state(chart, s),
+        Owner::DefaultOf(s) => is_state(chart, s) && is_o(kind_of(chart, s)),
         Owner::TransitionOf(t) => t < transition_count(chart),
     }
 }
@@ -160,56 +94,22 @@ fn act_fits(chart: &[i32], act: Act) -> bool
     ensures { result ≡ act_fits (chart_of chart.now) act }
 {
     match act {
-        Act::SetTo(v, x) => {
-            if !is_var(chart, v) {
-                return false;
-            }
-            within_row(var_row(chart, v), x)
-        }
-        Act::AddTo(v, _) => is_var(chart, v),
-        Act::TakeTo(v) => is_var(chart, v),
-        Act::Send(e, _) => {
-            if e < 1 {
-                return false;
-            }
-            e <= event_count(chart)
-        }
+        Act::SetTo(v, x) => is_var(chart, v) && within_row(var_row(chart, v), x),
+        Act::AddTo(v, _) | Act::TakeTo(v) => is_var(chart, v),
+        Act::Send(e, _) => 1 <= e && e <= event_count(chart),
         Act::Tell(_) => true,
     }
 }
 
-// R7 of one action, whose numbers are read where they stand.
-fn action_fits(chart: &[i32], i: usize) -> bool
-    requires { i < length (chart_of chart.now).actions }
-    ensures { result ≡ action_fits (chart_of chart.now) (get_or (chart_of chart.now).actions i no_action) }
+// R7 of one action.
+fn action_fits(chart: &[i32], row: ActRow) -> bool
+    ensures { result ≡ action_fits (chart_of chart.now) row }
 {
-    let at = ACTIONS_AT + i * ACT_ROW;
-    if !owner_fits(
-        chart,
-        owner_by(number_at(chart, at), number_at(chart, at + 1)),
-    ) {
-        return false;
-    }
-    act_fits(
-        chart,
-        act_by(
-            number_at(chart, at + 2),
-            number_at(chart, at + 3),
-            number_at(chart, at + 4),
-        ),
-    )
+    owner_fits(chart, row.owner) && act_fits(chart, row.act)
 }
 
 pub fn rule_7(chart: &[i32]) -> bool
     ensures { result ≡ rule_7 (chart_of chart.now) }
 {
-    let n = action_count(chart);
-    let mut i = 0;
-    while i < n {
-        if !action_fits(chart, i) {
-            return false;
-        }
-        i += 1;
-    }
-    true
+    (0..action_count(chart)).all(|i| action_fits(chart, action_row(chart, i)))
 }

@@ -1,6 +1,6 @@
 // R1 to R4 (01, "Chart rules, in order"): the states and their tree. Each function equals a definition of the crate
 // meaning, or of specs/Family.antt, on every input.
-ghost use Rattle.std.specs.Prelude.{◌≡◌, ◌&&◌, length};
+ghost use Rattle.std.specs.Prelude.{◌≡◌, length};
 ghost use Rattle.meaning.specs.Tree.{kind_of};
 ghost use Rattle.meaning.specs.Rules.{is_state, rule_1, rule_2, rule_3, rule_4, parent_fits, default_fits};
 ghost use Rattle.meaning.specs.Value.{chart_of};
@@ -22,10 +22,7 @@ pub fn is_state(chart: &[i32], s: usize) -> bool
 pub fn rule_1(chart: &[i32]) -> bool
     ensures { result ≡ rule_1 (chart_of chart.now) }
 {
-    if state_count(chart) < LEAST_STATES {
-        return false;
-    }
-    is_o(kind_of(chart, 0))
+    LEAST_STATES <= state_count(chart) && is_o(kind_of(chart, 0))
 }
 
 // R2 of one state: the parent of n > 0 is n-1 or an ancestor of n-1.
@@ -37,24 +34,13 @@ fn parent_fits(chart: &[i32], n: usize) -> bool
     }
     let p = parent_of(chart, n);
     let last = n - 1;
-    if p == last {
-        return true;
-    }
-    is_ancestor(chart, p, last)
+    p == last || is_ancestor(chart, p, last)
 }
 
 pub fn rule_2(chart: &[i32]) -> bool
     ensures { result ≡ rule_2 (chart_of chart.now) }
 {
-    let n = state_count(chart);
-    let mut s = 0;
-    while s < n {
-        if !parent_fits(chart, s) {
-            return false;
-        }
-        s += 1;
-    }
-    true
+    (0..state_count(chart)).all(|s| parent_fits(chart, s))
 }
 
 // For each state how many children it has, and whether all of them are o.
@@ -64,15 +50,6 @@ struct Families {
     plain: [bool; STATES],
 }
 
-fn both(a: bool, b: bool) -> bool
-    ensures { result ≡ a && b }
-{
-    if a {
-        return b;
-    }
-    false
-}
-
 // One pass over the states: each is counted at its parent.
 fn count_children(chart: &[i32]) -> Families
     ensures { Family (chart_of chart.now) (length (chart_of chart.now).states) result.counts result.plain }
@@ -80,20 +57,16 @@ fn count_children(chart: &[i32]) -> Families
     let n = state_count(chart);
     let mut counts = [0u16; STATES];
     let mut plain = [true; STATES];
-    let mut next = 0;
-    while next < n {
-        let d = next;
-        next += 1;
-        let p = parent_of(chart, d);
-        let o = is_o(kind_of(chart, d));
+    for d in 0..n {
         if d == 0 {
             continue;
         }
+        let p = parent_of(chart, d);
         if STATES <= p {
             continue;
         }
-        counts[p] = counts[p] + 1;
-        plain[p] = both(plain[p], o);
+        counts[p] += 1;
+        plain[p] &= is_o(kind_of(chart, d));
     }
     Families { counts, plain }
 }
@@ -104,7 +77,7 @@ fn children_fit(kind: Kind, count: u16, plain: bool) -> bool
 {
     match kind {
         Kind::O => 1 <= count,
-        Kind::A => both(2 <= count, plain),
+        Kind::A => 2 <= count && plain,
         Kind::B => count == 0,
     }
 }
@@ -113,15 +86,11 @@ pub fn rule_3(chart: &[i32]) -> bool
     ensures { result ≡ rule_3 (chart_of chart.now) }
 {
     let n = state_count(chart);
-    let f = count_children(chart);
-    let counts = f.counts;
-    let plain = f.plain;
-    let mut s = 0;
-    while s < n {
+    let Families { counts, plain } = count_children(chart);
+    for s in 0..n {
         if !children_fit(kind_of(chart, s), counts[s], plain[s]) {
             return false;
         }
-        s += 1;
     }
     true
 }
@@ -134,22 +103,11 @@ fn default_fits(chart: &[i32], s: usize) -> bool
         return true;
     }
     let d = default_child(chart, s);
-    if !is_state(chart, d) {
-        return false;
-    }
-    is_child(chart, s, d)
+    is_state(chart, d) && is_child(chart, s, d)
 }
 
 pub fn rule_4(chart: &[i32]) -> bool
     ensures { result ≡ rule_4 (chart_of chart.now) }
 {
-    let n = state_count(chart);
-    let mut s = 0;
-    while s < n {
-        if !default_fits(chart, s) {
-            return false;
-        }
-        s += 1;
-    }
-    true
+    (0..state_count(chart)).all(|s| default_fits(chart, s))
 }

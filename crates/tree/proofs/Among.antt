@@ -2,7 +2,7 @@
 use Rattle.std.specs.Prelude.{Option, None, Some}
 use mathlib.Core.Path.{◌≡◌, refl, sym, ap, subst, ◌∙◌}
 use Prim.Native.Nat.{ℕ, zero, suc, ◌+◌, ◌-◌, ◌≤◌, ◌<◌}
-use mathlib.Core.Bool.{Bool, true, false, cond}
+use mathlib.Core.Bool.{Bool, true, false, cond, true≢false, false≢true}
 use mathlib.Core.List.{List, [], ◌∷◌, append-nil}
 use native.Mathlib.Omega.{arith}
 use lib.ListN.{length, get_or}
@@ -21,7 +21,7 @@ use Rattle.meaning.specs.declared.chart.Kind.TheVariants.{A as kind_a, B as kind
 use Rattle.meaning.specs.Entry.{Visit, Way, on_to, defaults, stops, plain, goes_on, all_below, by_defaults, slot_way, towards}
 use Rattle.meaning.specs.Entry.{towards_owner}
 use Rattle.meaning.specs.Lists.{concat_map, from, keep, has, first_that}
-use Rattle.meaning.specs.Tree.{kind_of, default_child, is_child, children, all_states, ancestors}
+use Rattle.meaning.specs.Tree.{kind_of, is_o, default_child, is_child, children, all_states, ancestors}
 use Rattle.meaning.specs.Value.{chart_of}
 use Rattle.meaning.specs.Rules.{Ruled}
 use Rattle.tree.specs.Courses.{path_child}
@@ -151,10 +151,25 @@ module _ (v : List ℤ) (r : Ruled v) (s : ℕ) (l : s < length (chart_of v).sta
 
 -- ---- by default or not
 
-module _ (c : Chart) (s : ℕ) (next : Next) (kind : Kind) (e : kind ≡ kind_of c s) where
-  pub by_default_is : (k : Kind) (n : Next) → kind ≡ k → next ≡ n → (b : Bool) → b ≡ defaulting k (way_by n)
-      → b ≡ defaulting (kind_of c s) (way_by next)
-  by_default_is k n p q b f = f ∙ sym (ap (λ x. defaulting x (way_by next)) (sym e ∙ p) ∙ ap (λ x. defaulting k (way_by x)) q)
+pub defaults_o : (k : Kind) → is_o k ≡ true → true ≡ defaulting k defaults
+unfolding is_o defaulting
+defaults_o kind_o e = refl
+defaults_o kind_a e = absurd (false≢true e)
+defaults_o kind_b e = absurd (false≢true e)
+
+pub defaults_no : (k : Kind) (n : Next) → (n ≡ Defaults → ⊥) → false ≡ defaulting k (way_by n)
+unfolding defaulting
+defaults_no kind_o (OnTo d) e = refl
+defaults_no kind_o Defaults e = absurd (e refl)
+defaults_no kind_o Stops e = refl
+defaults_no kind_a n e = refl
+defaults_no kind_b n e = refl
+
+pub defaults_other : (k : Kind) (way : Way) → is_o k ≡ false → false ≡ defaulting k way
+unfolding is_o defaulting
+defaults_other kind_o way e = absurd (true≢false e)
+defaults_other kind_a way e = refl
+defaults_other kind_b way e = refl
 
 -- ---- the ways
 

@@ -2,13 +2,13 @@
 use Rattle.std.specs.Prelude.{None, Some}
 use Prim.Native.Nat.{ℕ, zero, suc, ◌-◌, ◌<◌}
 use mathlib.Core.Path.{◌≡◌, refl}
-use mathlib.Core.Bool.{Bool, true, false, cond, ◌||◌}
+use mathlib.Core.Bool.{true, false, cond}
 use native.Mathlib.Omega.{arith}
 use borrow.Author.Tests.{eq-eqb, ne_eqb}
 use lib.Dec.{eqb}
 use Rattle.meaning.specs.Lists.{has}
 use Rattle.meaning.specs.Chart.{Chart}
-use Rattle.meaning.specs.Tree.{parent_of, kind_of, is_o, is_child, climb, ancestors}
+use Rattle.meaning.specs.Tree.{parent_of, kind_of, is_o, is_child, climb}
 use Rattle.meaning.specs.Effects.{o_parent}
 
 module _ (c : Chart) where

@@ -85,5 +85,5 @@ module _ (v : List ℤ) (r : Ruled v) where
     end_on n f g p e l =
         (omega arith, omega (arith, end_more (chart_of v) (sound v r).ordered s h d i.0 (omega arith) i.1 (omega arith)))
 
-    pub end_all : (n : ℕ) → n ≡ length (chart_of v).states → n ≤ d → d ≡ suc s + length (descendants (chart_of v) s)
-    end_all n f g = end_last (chart_of v) (sound v r).ordered s h d i.1 (omega arith)
+    pub end_all : (n : ℕ) → n ≡ length (chart_of v).states → n ≤ d → d ≤ n → n ≡ suc s + length (descendants (chart_of v) s)
+    end_all n f g l = omega (arith, end_last (chart_of v) (sound v r).ordered s h d i.1 (omega arith))

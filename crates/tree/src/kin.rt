@@ -12,21 +12,14 @@ use meaning::chart::Kind;
 pub fn is_o(kind: Kind) -> bool
     ensures { result ≡ is_o kind }
 {
-    match kind {
-        Kind::O => true,
-        Kind::A => false,
-        Kind::B => false,
-    }
+    kind == Kind::O
 }
 
 // Is d a child of s? The root is nobody's.
 pub fn is_child(chart: &[i32], s: usize, d: usize) -> bool
     ensures { result ≡ is_child (chart_of chart.now) s d }
 {
-    if d == 0 {
-        return false;
-    }
-    parent_of(chart, d) == s
+    d != 0 && parent_of(chart, d) == s
 }
 
 // The parent of s if that is an o state: leaving s stores it there.
@@ -38,9 +31,10 @@ pub fn o_parent(chart: &[i32], s: usize) -> Option<usize>
     }
     let p = parent_of(chart, s);
     if is_o(kind_of(chart, p)) {
-        return Some(p);
+        Some(p)
+    } else {
+        None
     }
-    None
 }
 
 // Is a a proper ancestor of d? The way up from d has at most d steps.
@@ -48,8 +42,7 @@ pub fn is_ancestor(chart: &[i32], a: usize, d: usize) -> bool
     ensures { result ≡ has a (ancestors (chart_of chart.now) d) }
 {
     let mut at = d;
-    let mut fuel = d;
-    while 0 < fuel {
+    for _step in 0..d {
         if at == 0 {
             return false;
         }
@@ -57,7 +50,6 @@ pub fn is_ancestor(chart: &[i32], a: usize, d: usize) -> bool
         if a == at {
             return true;
         }
-        fuel -= 1;
     }
     false
 }

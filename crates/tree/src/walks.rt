@@ -15,14 +15,12 @@ pub fn end_below(chart: &[i32], s: usize) -> usize
     ensures { result ≡ suc s + length (descendants (chart_of chart.now) s) }
 {
     let count = state_count(chart);
-    let mut d = s + 1;
-    while d < count {
+    for d in s + 1..count {
         if parent_of(chart, d) < s {
             return d;
         }
-        d += 1;
     }
-    d
+    count
 }
 
 // The child of s through which the way goes to t, where s is a proper ancestor of t.
@@ -31,6 +29,7 @@ pub fn path_child(chart: &[i32], s: usize, t: usize) -> Option<usize>
     ensures { result ≡ path_child (chart_of chart.now) s t }
 {
     let mut x = t;
+    // A climb, not a count: each turn goes from a state to its parent, so no range or iterator gives the states in between.
     while 0 < x {
         let p = parent_of(chart, x);
         if p == s {
@@ -47,12 +46,10 @@ pub fn scope(chart: &[i32], s: usize, t: usize) -> usize
     ensures { result ≡ scope_of (chart_of chart.now) s t }
 {
     let mut x = s;
+    // A climb by parents, as in path_child: there is no range to go over.
     while 0 < x {
         x = parent_of(chart, x);
-        if !is_o(kind_of(chart, x)) {
-            continue;
-        }
-        if is_ancestor(chart, x, t) {
+        if is_o(kind_of(chart, x)) && is_ancestor(chart, x, t) {
             return x;
         }
     }

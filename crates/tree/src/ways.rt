@@ -10,6 +10,7 @@ ghost use Rattle.tree.specs.Aims.{aim_by, aimed_at};
 ghost use Rattle.tree.specs.Courses.{way_by, slot_of as slot_in, stored_way, goal_way, course_way, restoring, onward_goal};
 ghost use Rattle.tree.specs.Courses.{onward_from, defaulting, OnChild, Kids};
 
+use super::kin::is_o;
 use super::walks::path_child;
 use chart_rows::{default_child, kind_of, state_count};
 use meaning::chart::{Kind, Target};
@@ -100,16 +101,7 @@ pub fn goes_on(chart: &[i32], s: usize, next: Next) -> Children
 pub fn by_default(chart: &[i32], s: usize, next: Next) -> bool
     ensures { result ≡ defaulting (kind_in (chart_of chart.now) s) (way_by next) }
 {
-    let kind = kind_of(chart, s);
-    match kind {
-        Kind::O => match next {
-            Next::OnTo(d) => false,
-            Next::Defaults => true,
-            Next::Stops => false,
-        },
-        Kind::A => false,
-        Kind::B => false,
-    }
+    is_o(kind_of(chart, s)) && matches!(next, Next::Defaults)
 }
 
 // What a slot holds: an empty slot's marker is no state.
@@ -176,11 +168,7 @@ pub fn next_by(chart: &[i32], slots: &[i32; STATES], course: Course, s: usize) -
 pub fn restores(course: Course) -> bool
     ensures { result ≡ restoring course }
 {
-    match course {
-        Course::Defaults => false,
-        Course::Slots => true,
-        Course::Towards(goal) => false,
-    }
+    matches!(course, Course::Slots)
 }
 
 // How a descent to a goal goes on below s, which it just entered: at the owner of a history "if its slot is filled .. down by the

@@ -6,7 +6,7 @@ ghost use Rattle.queue.specs.Queue.{waiting};
 ghost use Rattle.meaning.specs.Lists.{every};
 ghost use Rattle.meaning.specs.Foreign.{event_fits, item_fits, is_none, queue_fits};
 
-use numbers::{in_range, place_of, same};
+use numbers::{in_range, place_of};
 use queue::{Item, Queue};
 use sizes::{QUEUE, STATES};
 
@@ -17,23 +17,14 @@ pub fn event_fits(events: usize, event: i32, arg: i32) -> bool
     let Some(e) = place_of(event) else {
         return false;
     };
-    if e == 0 {
-        return false;
-    }
-    if events < e {
-        return false;
-    }
-    in_range(arg)
+    e != 0 && (e <= events && in_range(arg))
 }
 
 // A place not in use holds 0 with 0.
 fn is_free(item: Item) -> bool
     ensures { result ≡ is_none item }
 {
-    if same(item.event, 0) {
-        return same(item.arg, 0);
-    }
-    false
+    (item.event == 0) & (item.arg == 0)
 }
 
 fn waiting_fit(events: usize, queue: Queue) -> bool
@@ -41,13 +32,11 @@ fn waiting_fit(events: usize, queue: Queue) -> bool
     ensures { result ≡ every (item_fits events) (waiting queue) }
 {
     let n = queue.len;
-    let mut i: usize = 0;
-    while i < n {
+    for i in 0..n {
         let item = queue.items[i];
         if !event_fits(events, item.event, item.arg) {
             return false;
         }
-        i += 1;
     }
     true
 }
@@ -56,11 +45,8 @@ fn rest_free(queue: Queue) -> bool
     ensures { result ≡ every is_none (drop queue.len queue.items) }
 {
     let mut fit = true;
-    let mut i = queue.len;
-    while i < QUEUE {
-        let item = queue.items[i];
-        fit = fit & is_free(item);
-        i += 1;
+    for i in queue.len..QUEUE {
+        fit &= is_free(queue.items[i]);
     }
     fit
 }
@@ -69,13 +55,7 @@ fn rest_free(queue: Queue) -> bool
 pub fn queue_fits(events: usize, queue: Queue) -> bool
     ensures { result ≡ queue_fits events queue }
 {
-    if QUEUE < queue.len {
-        return false;
-    }
-    if !waiting_fit(events, queue) {
-        return false;
-    }
-    rest_free(queue)
+    queue.len <= QUEUE && (waiting_fit(events, queue) && rest_free(queue))
 }
 
 // 01, answer 6: a state that there is not is not active. Every mark is looked at, with no way out before the last: so the compiler tests
@@ -84,10 +64,8 @@ pub fn marks_fit(states: usize, active: [bool; STATES]) -> bool
     ensures { result ≡ every not (drop states active) }
 {
     let mut fit = true;
-    let mut i = states;
-    while i < STATES {
-        fit = fit & !active[i];
-        i += 1;
+    for i in states..STATES {
+        fit &= !active[i];
     }
     fit
 }

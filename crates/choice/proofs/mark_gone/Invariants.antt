@@ -1,10 +1,7 @@
-use Prim.Native.Nat.{◌-◌, ◌≤◌}
+use Prim.Native.Nat.{◌≤◌}
 use Rattle.choice.specs.Span.{Goes}
 use Rattle.choice.proofs.mark_gone.Given as goal
 
 abbrev pub invariant-loop-x : goal.invariant-loop-x
-invariant-loop-x l = Goes (record { top = l.span.top; first = l.span.first; end = l.x }) l.initial.gone l.gone × (l.span.first ≤ l.x) ×
-    (l.x ≤ l.span.end)
-
-abbrev pub decreases-loop-x : goal.decreases-loop-x
-decreases-loop-x l = l.span.end - l.x
+invariant-loop-x l = Goes (record { top = l.fn.span.top; first = l.fn.span.first; end = l.x }) l.initial.gone l.gone × (l.fn.span.first ≤ l.x) ×
+    (l.x ≤ l.fn.span.end)

@@ -6,7 +6,7 @@ use Rattle.choice.proofs.span_of.Goals as goal
 pub returns-in_default : goal.returns-in_default
 returns-in_default c =
     stays_spanned _ c.requires.0 _ _ c.requires.1 c.aim_of-aim.ensures c.in_default.is _ refl refl
-    c.end_below-below.ensures
+    c.end_below.ensures
 
 pub end_below-end-requires : goal.end_below-end-requires
 end_below-end-requires c = (

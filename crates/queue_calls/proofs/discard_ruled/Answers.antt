@@ -14,17 +14,14 @@ returns-then-not-own c = c.refused-then-not-own.ensures ∙ discard_6 (chart_of 
     c.args.state (not-false _ c.if-not-state.false)
     (sym c.own.ensures ∙ not-true _ c.if-not-own.true-raw)
 
-pub returns-in_default : goal.returns-in_default
-returns-in_default c = c.refused-in_default.ensures ∙ discard_8 (chart_of c.args.chart.now)
+pub returns-in-Some : goal.returns-in-Some
+returns-in-Some c = (rw c.with_queue.ensures at c.done.ensures) ∙ discard_0 (chart_of c.args.chart.now)
     c.args.state (not-false _ c.if-not-state.false)
     (sym c.own.ensures ∙ not-false _ c.if-not-own.false-raw)
-    (rw c.in_default.is at c.remove-front.ensures) refl
-
-pub returns : goal.returns
-returns c = (rw c.with_queue.ensures at c.done.ensures) ∙ discard_0
-    (chart_of c.args.chart.now)
-    c.args.state
-    (not-false _ c.if-not-state.false)
-    (sym c.own.ensures
-    ∙ not-false _ c.if-not-own.false-raw)
     (rw c.in-Some.is at c.remove-front.ensures) refl
+
+pub returns-in-None : goal.returns-in-None
+returns-in-None c = c.refused-in-None.ensures ∙ discard_8 (chart_of c.args.chart.now)
+    c.args.state (not-false _ c.if-not-state.false)
+    (sym c.own.ensures ∙ not-false _ c.if-not-own.false-raw)
+    (rw c.in-None.is at c.remove-front.ensures) refl

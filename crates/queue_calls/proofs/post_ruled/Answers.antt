@@ -32,29 +32,14 @@ returns-in_default c = c.refused-in_default.ensures
     c.event_count.ensures
     (sym (rw (to_z-of_z c.ranges.event, to_z-of_z c.ranges.arg) at
     c.event_fits.ensures) ∙ not-false _ c.if-not-event_fits.false-raw)
-    (rw (to_z-of_z c.ranges.event, to_z-of_z c.ranges.arg) at
-    c.in_default.ensures) refl
+    (rw (to_z-of_z c.ranges.event, to_z-of_z c.ranges.arg) at c.in_default.ensures) refl
 
 pub returns : goal.returns
-returns c = (rw c.with_queue.ensures at c.done.ensures) ∙ post_0 (chart_of
-    c.args.chart.now)
-    c.args.state
-    c.args.event
-    c.args.arg
-    (not-false _ c.if-not-state.false)
-    (sym c.own.ensures
-    ∙ not-false _ c.if-not-own.false-raw)
-    c.event_count.ensures (sym (rw (
-      to_z-of_z
-          c.ranges.event,
-      to_z-of_z
-          c.ranges.arg,
-    )
-    at c.event_fits.ensures)
-    ∙ not-false _ c.if-not-event_fits.false-raw) (rw (
-      to_z-of_z
-          c.ranges.event,
-      to_z-of_z
-          c.ranges.arg,
-    )
-    at c.in-Ok.ensures) refl
+returns c = (rw c.with_queue.ensures at c.done.ensures)
+    ∙ post_0 (chart_of c.args.chart.now) c.args.state
+    c.args.event c.args.arg (not-false _ c.if-not-state.false)
+    (sym c.own.ensures ∙ not-false _ c.if-not-own.false-raw)
+    c.event_count.ensures
+    (sym (rw (to_z-of_z c.ranges.event, to_z-of_z c.ranges.arg) at
+    c.event_fits.ensures) ∙ not-false _ c.if-not-event_fits.false-raw)
+    (rw (to_z-of_z c.ranges.event, to_z-of_z c.ranges.arg) at c.in-Ok.ensures) refl

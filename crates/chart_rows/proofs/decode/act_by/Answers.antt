@@ -1,72 +1,60 @@
 -- `act_by` tries the letters s, a, k and q. Assumes nothing.
-use mathlib.Core.Bool.{Bool}
-use mathlib.Core.Path.{◌≡◌, refl}
+use mathlib.Core.Path.{refl}
+use Rattle.std.proofs.Common.{lit<}
 use mir.Facts.{to_z-of_z}
 use Rattle.numbers.specs.Reference.{ref}
-use Rattle.meaning.specs.Value.{is_letter, act_by}
+use Rattle.meaning.specs.Value.{act_by}
+use Rattle.chart_rows.proofs.Letters.{letter_is, letter_not, no_letter}
 use Rattle.chart_rows.proofs.Said.{said}
-use Rattle.chart_rows.proofs.decode.act_by.Goals.{After-is_letter, After-is_letter-2, After-is_letter-3, After-is_letter-4}
 use Rattle.chart_rows.proofs.decode.act_by.Goals as goal
 
-first : (c : After-is_letter) {b : Bool} → c.is_letter.result ≡ b → is_letter 115 c.args.a ≡ b
-first c e = said (is_letter 115) c.ranges.a c.is_letter.ensures e
-
-second : (c : After-is_letter-2) {b : Bool} → c.is_letter-2.result ≡ b → is_letter 97 c.args.a ≡ b
-second c e = said (is_letter 97) c.ranges.a c.is_letter-2.ensures e
-
-third : (c : After-is_letter-3) {b : Bool}
-    → c.is_letter-3.result ≡ b → is_letter 107 c.args.a ≡ b
-third c e = said (is_letter 107) c.ranges.a c.is_letter-3.ensures e
-
-fourth : (c : After-is_letter-4) {b : Bool}
-    → c.is_letter-4.result ≡ b → is_letter 113 c.args.a ≡ b
-fourth c e = said (is_letter 113) c.ranges.a c.is_letter-4.ensures e
-
-pub returns-then-is_letter : goal.returns-then-is_letter
+pub returns-in-Ok-eq115 : goal.returns-in-Ok-eq115
 unfolding act_by
-returns-then-is_letter c = rw (
-  first c.before.before c.if-is_letter.true,
+returns-in-Ok-eq115 c = rw (
+  letter_is c.ranges.a c.in-Ok-eq115.ensures 115 c.in-Ok-eq115.field-0-test,
   said ref c.ranges.x c.reference.ensures refl,
   to_z-of_z c.ranges.y,
 )
 
-pub returns-then-is_letter-2 : goal.returns-then-is_letter-2
+pub returns-in-Ok-eq97 : goal.returns-in-Ok-eq97
 unfolding act_by
-returns-then-is_letter-2 c = rw (
-  first c.before.before.before.before c.if-is_letter.false,
-  second c.before.before c.if-is_letter-2.true,
-  said ref c.ranges.x c.reference-then-is_letter-2.ensures refl,
+returns-in-Ok-eq97 c = rw (
+  letter_is c.ranges.a c.in-Ok-eq97.ensures 97 c.in-Ok-eq97.field-0-test,
+  said ref c.ranges.x c.reference-in-Ok-eq97.ensures refl,
   to_z-of_z c.ranges.y,
 )
 
-pub returns-then-is_letter-3 : goal.returns-then-is_letter-3
+pub returns-in-Ok-eq107 : goal.returns-in-Ok-eq107
 unfolding act_by
-returns-then-is_letter-3 c = rw (
-  first c.before.before.before.before.before.before c.if-is_letter.false,
-  second c.before.before.before.before c.if-is_letter-2.false,
-  third c.before.before c.if-is_letter-3.true,
-  said ref c.ranges.x c.reference-then-is_letter-3.ensures refl,
+returns-in-Ok-eq107 c = rw (
+  letter_is c.ranges.a c.in-Ok-eq107.ensures 107 c.in-Ok-eq107.field-0-test,
+  said ref c.ranges.x c.reference-in-Ok-eq107.ensures refl,
 )
 
-pub returns-then-is_letter-4 : goal.returns-then-is_letter-4
+pub returns-in-Ok-eq113 : goal.returns-in-Ok-eq113
 unfolding act_by
-returns-then-is_letter-4 c = rw (
-  first c.before.before.before.before.before.before.before.before
-      c.if-is_letter.false,
-  second c.before.before.before.before.before.before c.if-is_letter-2.false,
-  third c.before.before.before.before c.if-is_letter-3.false,
-  fourth c.before.before c.if-is_letter-4.true,
-  said ref c.ranges.x c.reference-then-is_letter-4.ensures refl,
+returns-in-Ok-eq113 c = rw (
+  letter_is c.ranges.a c.in-Ok-eq113.ensures 113 c.in-Ok-eq113.field-0-test,
+  said ref c.ranges.x c.reference-in-Ok-eq113.ensures refl,
   to_z-of_z c.ranges.y,
 )
 
-pub returns : goal.returns
+pub returns-in_default : goal.returns-in_default
 unfolding act_by
-returns c = rw (
-  first c.before.before.before.before.before.before.before c.if-is_letter.false,
-  second
-      c.before.before.before.before.before c.if-is_letter-2.false,
-  third c.before.before.before c.if-is_letter-3.false,
-  fourth c.before c.if-is_letter-4.false,
+returns-in_default c = rw (
+  letter_not c.ranges.a c.in_default.ensures 115 c.in_default.field-0-test.0.0.0.1,
+  letter_not c.ranges.a c.in_default.ensures 97 c.in_default.field-0-test.0.0.1,
+  letter_not c.ranges.a c.in_default.ensures 107 c.in_default.field-0-test.0.1,
+  letter_not c.ranges.a c.in_default.ensures 113 c.in_default.field-0-test.1,
+  to_z-of_z c.ranges.x,
+)
+
+pub returns-in_default-2 : goal.returns-in_default-2
+unfolding act_by
+returns-in_default-2 c = rw (
+  no_letter c.ranges.a c.try_from.ensures c.in_default.is 115 (lit< tt),
+  no_letter c.ranges.a c.try_from.ensures c.in_default.is 97 (lit< tt),
+  no_letter c.ranges.a c.try_from.ensures c.in_default.is 107 (lit< tt),
+  no_letter c.ranges.a c.try_from.ensures c.in_default.is 113 (lit< tt),
   to_z-of_z c.ranges.x,
 )

@@ -1,25 +1,27 @@
 -- `kind_by` tries the letters o and a. Assumes nothing.
-use mathlib.Core.Bool.{Bool}
-use mathlib.Core.Path.{◌≡◌}
-use Rattle.meaning.specs.Value.{is_letter, kind_by}
-use Rattle.chart_rows.proofs.Said.{said}
-use Rattle.chart_rows.proofs.decode.kind_by.Goals.{After-is_letter, After-is_letter-2}
+use Rattle.std.proofs.Common.{lit<}
+use Rattle.meaning.specs.Value.{kind_by}
+use Rattle.chart_rows.proofs.Letters.{letter_is, letter_not, no_letter}
 use Rattle.chart_rows.proofs.decode.kind_by.Goals as goal
 
-o : (c : After-is_letter) {b : Bool} → c.is_letter.result ≡ b → is_letter 111 c.args.z ≡ b
-o c e = said (is_letter 111) c.ranges.z c.is_letter.ensures e
-
-a : (c : After-is_letter-2) {b : Bool} → c.is_letter-2.result ≡ b → is_letter 97 c.args.z ≡ b
-a c e = said (is_letter 97) c.ranges.z c.is_letter-2.ensures e
-
-pub returns-then-is_letter : goal.returns-then-is_letter
+pub returns-in-Ok-eq111 : goal.returns-in-Ok-eq111
 unfolding kind_by
-returns-then-is_letter c = rw (o c.before c.if-is_letter.true)
+returns-in-Ok-eq111 c = rw (letter_is c.ranges.z c.in-Ok-eq111.ensures 111 c.in-Ok-eq111.field-0-test)
 
-pub returns-then-is_letter-2 : goal.returns-then-is_letter-2
+pub returns-in-Ok-eq97 : goal.returns-in-Ok-eq97
 unfolding kind_by
-returns-then-is_letter-2 c = rw (o c.before.before.before c.if-is_letter.false, a c.before c.if-is_letter-2.true)
+returns-in-Ok-eq97 c = rw (letter_is c.ranges.z c.in-Ok-eq97.ensures 97 c.in-Ok-eq97.field-0-test)
 
-pub returns : goal.returns
+pub returns-in_default : goal.returns-in_default
 unfolding kind_by
-returns c = rw (o c.before.before.before c.if-is_letter.false, a c.before c.if-is_letter-2.false)
+returns-in_default c = rw (
+  letter_not c.ranges.z c.in_default.ensures 111 c.in_default.field-0-test.0.1,
+  letter_not c.ranges.z c.in_default.ensures 97 c.in_default.field-0-test.1,
+)
+
+pub returns-in_default-2 : goal.returns-in_default-2
+unfolding kind_by
+returns-in_default-2 c = rw (
+  no_letter c.ranges.z c.try_from.ensures c.in_default.is 111 (lit< tt),
+  no_letter c.ranges.z c.try_from.ensures c.in_default.is 97 (lit< tt),
+)

@@ -1,52 +1,47 @@
 -- `owner_by` tries the letters e, x and d. Assumes nothing.
-use mathlib.Core.Bool.{Bool}
-use mathlib.Core.Path.{◌≡◌, refl}
+use mathlib.Core.Path.{refl}
+use Rattle.std.proofs.Common.{lit<}
 use Rattle.numbers.specs.Reference.{ref}
-use Rattle.meaning.specs.Value.{is_letter, owner_by}
+use Rattle.meaning.specs.Value.{owner_by}
+use Rattle.chart_rows.proofs.Letters.{letter_is, letter_not, no_letter}
 use Rattle.chart_rows.proofs.Said.{said}
-use Rattle.chart_rows.proofs.decode.owner_by.Goals.{After-is_letter, After-is_letter-2, After-is_letter-3}
 use Rattle.chart_rows.proofs.decode.owner_by.Goals as goal
 
-first : (c : After-is_letter) {b : Bool} → c.is_letter.result ≡ b → is_letter 101 c.args.k ≡ b
-first c e = said (is_letter 101) c.ranges.k c.is_letter.ensures e
-
-second : (c : After-is_letter-2) {b : Bool} → c.is_letter-2.result ≡ b → is_letter 120 c.args.k ≡ b
-second c e = said (is_letter 120) c.ranges.k c.is_letter-2.ensures e
-
-third : (c : After-is_letter-3) {b : Bool}
-    → c.is_letter-3.result ≡ b → is_letter 100 c.args.k ≡ b
-third c e = said (is_letter 100) c.ranges.k c.is_letter-3.ensures e
-
-pub returns-then-is_letter : goal.returns-then-is_letter
+pub returns-in-Ok-eq101 : goal.returns-in-Ok-eq101
 unfolding owner_by
-returns-then-is_letter c = rw (
-  first c.before.before c.if-is_letter.true,
-  said ref c.ranges.n c.reference.ensures refl,
+returns-in-Ok-eq101 c = rw (
+  letter_is c.ranges.k c.in-Ok-eq101.ensures 101 c.in-Ok-eq101.field-0-test,
+  said ref c.ranges.n c.reference-n.ensures refl,
 )
 
-pub returns-then-is_letter-2 : goal.returns-then-is_letter-2
+pub returns-in-Ok-eq120 : goal.returns-in-Ok-eq120
 unfolding owner_by
-returns-then-is_letter-2 c = rw (
-  first c.before.before.before.before c.if-is_letter.false,
-  second c.before.before
-      c.if-is_letter-2.true,
-  said ref c.ranges.n c.reference-then-is_letter-2.ensures refl,
+returns-in-Ok-eq120 c = rw (
+  letter_is c.ranges.k c.in-Ok-eq120.ensures 120 c.in-Ok-eq120.field-0-test,
+  said ref c.ranges.n c.reference-n.ensures refl,
 )
 
-pub returns-then-is_letter-3 : goal.returns-then-is_letter-3
+pub returns-in-Ok-eq100 : goal.returns-in-Ok-eq100
 unfolding owner_by
-returns-then-is_letter-3 c = rw (
-  first c.before.before.before.before.before.before c.if-is_letter.false,
-  second c.before.before.before.before c.if-is_letter-2.false,
-  third c.before.before c.if-is_letter-3.true,
-  said ref c.ranges.n c.reference-then-is_letter-3.ensures refl,
+returns-in-Ok-eq100 c = rw (
+  letter_is c.ranges.k c.in-Ok-eq100.ensures 100 c.in-Ok-eq100.field-0-test,
+  said ref c.ranges.n c.reference-n.ensures refl,
 )
 
-pub returns : goal.returns
+pub returns-in_default : goal.returns-in_default
 unfolding owner_by
-returns c = rw (
-  first c.before.before.before.before.before.before c.if-is_letter.false,
-  second c.before.before.before.before c.if-is_letter-2.false,
-  third c.before.before c.if-is_letter-3.false,
-  said ref c.ranges.n c.reference-2.ensures refl,
+returns-in_default c = rw (
+  letter_not c.ranges.k c.in_default.ensures 101 c.in_default.field-0-test.0.0.1,
+  letter_not c.ranges.k c.in_default.ensures 120 c.in_default.field-0-test.0.1,
+  letter_not c.ranges.k c.in_default.ensures 100 c.in_default.field-0-test.1,
+  said ref c.ranges.n c.reference-n.ensures refl,
+)
+
+pub returns-in_default-2 : goal.returns-in_default-2
+unfolding owner_by
+returns-in_default-2 c = rw (
+  no_letter c.ranges.k c.try_from.ensures c.in_default.is 101 (lit< tt),
+  no_letter c.ranges.k c.try_from.ensures c.in_default.is 120 (lit< tt),
+  no_letter c.ranges.k c.try_from.ensures c.in_default.is 100 (lit< tt),
+  said ref c.ranges.n c.reference-n.ensures refl,
 )

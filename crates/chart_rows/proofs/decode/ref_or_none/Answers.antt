@@ -14,9 +14,9 @@ pub returns-then-is_absent : goal.returns-then-is_absent
 unfolding ref_or_none
 returns-then-is_absent c = rw (absent c.before c.if-is_absent.true)
 
-pub returns : goal.returns
+pub returns-else-is_absent : goal.returns-else-is_absent
 unfolding ref_or_none
-returns c = rw (
+returns-else-is_absent c = rw (
   absent c.before.before c.if-is_absent.false,
   said ref c.ranges.z c.reference.ensures refl,
 )

@@ -21,11 +21,11 @@ pub returns-then-is_absent : goal.returns-then-is_absent
 unfolding target_by
 returns-then-is_absent c = rw (h c.before.before.before c.if-is_letter.false, absent c.before c.if-is_absent.true)
 
-pub returns : goal.returns
+pub returns-else-is_absent : goal.returns-else-is_absent
 unfolding target_by
-returns c = rw (
+returns-else-is_absent c = rw (
   h c.before.before.before.before c.if-is_letter.false,
   absent c.before.before
       c.if-is_absent.false,
-  said ref c.ranges.s c.reference-2.ensures refl,
+  said ref c.ranges.s c.reference-else-is_absent.ensures refl,
 )

@@ -55,6 +55,3 @@ returns c u e =
 
 pub loop-s-init : goal.loop-s-init
 loop-s-init c = (search rules, λ u e. refl)
-
-pub overflow_add-s : goal.overflow_add-s
-overflow_add-s c = omega (arith, c.requires.1)

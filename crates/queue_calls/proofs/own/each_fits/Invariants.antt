@@ -1,6 +1,6 @@
 use mathlib.Core.Path.{◌≡◌}
 use Rattle.meaning.specs.Value.{chart_of}
-use Prim.Native.Nat.{◌-◌, ◌≤◌}
+use Prim.Native.Nat.{◌≤◌}
 use lib.ListN.{drop}
 use Rattle.sizes.specs.Sizes.{STATES}
 use Rattle.meaning.specs.declared.State.{State}
@@ -13,6 +13,3 @@ invariant-loop-s l =
     (l.s ≤ l.end)
     × ((u : State) → u.slots ≡ l.slots
     → every (slot_right l.whole (chart_of l.chart) u) (drop l.s (from 0 STATES)) ≡ every (slot_right l.whole (chart_of l.chart) u) (from 0 STATES))
-
-abbrev pub decreases-loop-s : goal.decreases-loop-s
-decreases-loop-s l = l.end - l.s

@@ -1,6 +1,6 @@
 use mathlib.Core.Path.{◌≡◌}
 use Rattle.meaning.specs.Value.{chart_of}
-use Prim.Native.Nat.{◌-◌, ◌≤◌}
+use Prim.Native.Nat.{◌≤◌}
 use lib.ListN.{drop}
 use Rattle.meaning.specs.declared.State.{State}
 use Rattle.meaning.specs.Lists.{every, from}
@@ -12,6 +12,3 @@ invariant-loop-s l =
     (l.s ≤ l.n)
     × ((u : State) → u.active ≡ l.active → every (legal_at (chart_of l.chart) u) (drop l.s (from 0 l.n)) ≡ every (legal_at (chart_of l.chart) u)
     (from 0 l.n))
-
-abbrev pub decreases-loop-s : goal.decreases-loop-s
-decreases-loop-s l = l.n - l.s

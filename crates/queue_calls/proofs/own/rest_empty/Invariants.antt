@@ -1,5 +1,4 @@
 use mathlib.Core.Path.{◌≡◌}
-use Prim.Native.Nat.{◌-◌}
 use mathlib.Core.Bool.{◌&&◌}
 use lib.IntN.{negsuc}
 use lib.ListN.{drop}
@@ -11,6 +10,3 @@ use Rattle.queue_calls.proofs.own.rest_empty.Given as goal
 abbrev pub invariant-loop-s : goal.invariant-loop-s
 invariant-loop-s l =
     l.fit && every (eq_z (negsuc 0)) (drop l.s l.slots) ≡ every (eq_z (negsuc 0)) (drop l.end l.slots)
-
-abbrev pub decreases-loop-s : goal.decreases-loop-s
-decreases-loop-s l = STATES - l.s

@@ -1,5 +1,4 @@
 use mathlib.Core.Path.{◌≡◌}
-use Prim.Native.Nat.{◌-◌}
 use mathlib.Core.Bool.{◌&&◌}
 use lib.IntN.{pos}
 use lib.ListN.{drop}
@@ -11,6 +10,3 @@ use Rattle.queue_calls.proofs.own.rest_zero.Given as goal
 abbrev pub invariant-loop-v : goal.invariant-loop-v
 invariant-loop-v l =
     l.fit && every (eq_z (pos 0)) (drop l.v l.vars) ≡ every (eq_z (pos 0)) (drop l.end l.vars)
-
-abbrev pub decreases-loop-v : goal.decreases-loop-v
-decreases-loop-v l = VARIABLES - l.v

@@ -64,6 +64,3 @@ offset_bounds-vars-v c = omega (arith, within c)
 
 pub bounds-vars-v : goal.bounds-vars-v
 bounds-vars-v c = omega (arith, within c)
-
-pub overflow_add-v : goal.overflow_add-v
-overflow_add-v c = omega (arith, within c.before.before.before)

@@ -30,7 +30,7 @@ pub returns-then-not-children_fit : goal.returns-then-not-children_fit
 returns-then-not-children_fit c =
     let k = chart_of c.args.chart.now in
     let w = c.loop-s in
-    let f = c.count_children-f in
+    let f = c.count_children in
     all_stop (tried k) (length k.states) w.s (omega arith)
     (refuted (c.children_fit.ensures
     ∙ rw c.kind_of.ensures (counted_fits k f.result.counts f.result.plain w.s f.ensures
@@ -41,7 +41,7 @@ pub loop-s-preserved : goal.loop-s-preserved
 loop-s-preserved c =
     let k = chart_of c.args.chart.now in
     let w = c.loop-s in
-    let f = c.count_children-f in
+    let f = c.count_children in
     all_next (tried k) (length k.states) w.s (omega arith)
     (held (c.children_fit.ensures
     ∙ rw c.kind_of.ensures (counted_fits k f.result.counts f.result.plain w.s f.ensures

@@ -14,6 +14,3 @@ tried k s = children_fit k (kind_of k s) (children k s)
 
 abbrev pub invariant-loop-s : goal.invariant-loop-s
 invariant-loop-s l = every (tried (chart_of l.chart)) (from l.s (length (chart_of l.chart).states - l.s)) ≡ rule_3 (chart_of l.chart)
-
-abbrev pub decreases-loop-s : goal.decreases-loop-s
-decreases-loop-s l = l.n - l.s

@@ -1,32 +1,14 @@
 -- `rule_4` tries each state. Assumes nothing.
-use native.Mathlib.Omega.{arith}
+use Rattle.std.proofs.Common.{rules, tests, arith}
 use lib.ListN.{length}
-use Rattle.meaning.specs.Tree.{all_states}
-use Rattle.meaning.specs.Rules.{rule_4}
+use Rattle.meaning.specs.Tree.{all_states, kind_of}
+use Rattle.meaning.specs.Rules.{default_fits, rule_4}
 use Rattle.meaning.specs.Value.{chart_of}
-use Rattle.rules.proofs.Tests.{refuted, held}
-use Rattle.rules.proofs.Every.{all_start, all_stop, all_next, all_done}
-use Rattle.rules.proofs.states.rule_4.Invariants.{tried}
+use Rattle.meaning.proofs.Tried.{all_from}
 use Rattle.rules.proofs.states.rule_4.Goals as goal
 
-pub loop-s-init : goal.loop-s-init
-unfolding rule_4 all_states
-loop-s-init c = all_start (tried (chart_of c.args.chart.now)) (length (chart_of c.args.chart.now).states)
-
-pub returns-then-not-default_fits : goal.returns-then-not-default_fits
-returns-then-not-default_fits c =
-    let w = c.loop-s in
-    let k = chart_of c.args.chart.now in
-    all_stop (tried k) (length k.states) w.s (omega arith) (refuted c.default_fits.ensures c.if-not-default_fits.true-raw) w.invariant
-
-pub loop-s-preserved : goal.loop-s-preserved
-loop-s-preserved c =
-    let w = c.loop-s in
-    let k = chart_of c.args.chart.now in
-    all_next (tried k) (length k.states) w.s (omega arith) (held c.default_fits.ensures c.if-not-default_fits.false-raw) w.invariant
-
 pub returns : goal.returns
+unfolding rule_4 all_states
 returns c =
-    let w = c.loop-s in
     let k = chart_of c.args.chart.now in
-    all_done (tried k) (length k.states) w.s (omega arith) w.invariant
+    all_from {b = c.state_count.result} (λ s. default_fits k s (kind_of k s)) 0 (length k.states) c.all.ensures.ran (cc) (omega arith) (λ x t q h. search (rules, tests))

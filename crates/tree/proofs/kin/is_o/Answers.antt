@@ -1,15 +1,17 @@
--- `is_o` goes by cases. Assumes nothing.
+-- `is_o` compares with the kind o. Assumes nothing.
+use mathlib.Core.Path.{◌≡◌, refl, ◌∙◌}
+use denote.Enum.Bare.{sameb}
+use Rattle.meaning.specs.contracts.chart.Kind.{the_type}
+use Rattle.meaning.specs.declared.chart.Kind.{Kind}
+use Rattle.meaning.specs.declared.chart.Kind.TheVariants.{O, A, B}
 use Rattle.meaning.specs.Tree.{is_o}
 use Rattle.tree.proofs.kin.is_o.Goals as goal
 
-pub returns-in-O : goal.returns-in-O
+told : (k : Kind) → sameb the_type k O ≡ is_o k
 unfolding is_o
-returns-in-O c = rw c.in-O.is
+told O = refl
+told A = refl
+told B = refl
 
-pub returns-in-A : goal.returns-in-A
-unfolding is_o
-returns-in-A c = rw c.in-A.is
-
-pub returns-in-B : goal.returns-in-B
-unfolding is_o
-returns-in-B c = rw c.in-B.is
+pub returns : goal.returns
+returns c = c.eq.ensures ∙ told c.args.kind

@@ -26,7 +26,7 @@ returns-then-is_o c =
       c.parent_of-p.ensures,
     )
 
-pub returns : goal.returns
-returns c =
+pub returns-else-is_o : goal.returns-else-is_o
+returns-else-is_o c =
     let a = c.args in
     rw (o_parent_below (chart_of a.chart.now) a.s c.if-s-eq0.false, test c.before c.if-is_o.false)

@@ -1,5 +1,6 @@
 -- `end_below` goes on until a parent comes before s. Assumes nothing.
 use borrow.Author.Rules.{rules}
+use native.Mathlib.Omega.{arith}
 use Rattle.tree.proofs.Passing.{end_found, end_on, end_all}
 use Rattle.tree.proofs.walks.end_below.Goals as goal
 
@@ -12,4 +13,5 @@ loop-d-preserved c = end_on _ c.requires.0 _ c.requires.1
     c.loop-d-test.true _ c.parent_of.ensures c.if-parent_of-s.false
 
 pub returns : goal.returns
-returns c = search (rules, end_all)
+returns c = end_all _ c.requires.0 _ c.requires.1
+    _ c.loop-d.invariant _ c.state_count-count.ensures (omega arith) (omega arith)

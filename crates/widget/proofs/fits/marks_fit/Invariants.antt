@@ -1,5 +1,4 @@
 use mathlib.Core.Path.{◌≡◌}
-use Prim.Native.Nat.{◌-◌}
 use mathlib.Core.Bool.{not, ◌&&◌}
 use lib.ListN.{drop}
 use Rattle.sizes.specs.Sizes.{STATES}
@@ -8,6 +7,3 @@ use Rattle.widget.proofs.fits.marks_fit.Given as goal
 
 abbrev pub invariant-loop-i : goal.invariant-loop-i
 invariant-loop-i l = l.fit && every not (drop l.i l.active) ≡ every not (drop l.states l.active)
-
-abbrev pub decreases-loop-i : goal.decreases-loop-i
-decreases-loop-i l = STATES - l.i

@@ -1,5 +1,4 @@
 use mathlib.Core.Path.{◌≡◌}
-use Prim.Native.Nat.{◌-◌}
 use mathlib.Core.Bool.{◌&&◌}
 use lib.ListN.{drop}
 use Rattle.sizes.specs.Sizes.{QUEUE}
@@ -9,6 +8,3 @@ use Rattle.widget.proofs.fits.rest_free.Given as goal
 
 abbrev pub invariant-loop-i : goal.invariant-loop-i
 invariant-loop-i l = l.fit && every is_none (drop l.i l.queue.items) ≡ every is_none (drop l.queue.len l.queue.items)
-
-abbrev pub decreases-loop-i : goal.decreases-loop-i
-decreases-loop-i l = QUEUE - l.i

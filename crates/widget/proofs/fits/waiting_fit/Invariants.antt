@@ -1,5 +1,4 @@
 use mathlib.Core.Path.{◌≡◌}
-use Prim.Native.Nat.{◌-◌}
 use lib.ListN.{drop}
 use Rattle.queue.specs.Queue.{waiting}
 use Rattle.meaning.specs.Lists.{every}
@@ -9,6 +8,3 @@ use Rattle.widget.proofs.fits.waiting_fit.Given as goal
 abbrev pub invariant-loop-i : goal.invariant-loop-i
 invariant-loop-i l =
     (l.n ≡ l.queue.len) × (every (item_fits l.events) (drop l.i (waiting l.queue)) ≡ every (item_fits l.events) (waiting l.queue))
-
-abbrev pub decreases-loop-i : goal.decreases-loop-i
-decreases-loop-i l = l.n - l.i
