@@ -1,3 +1,4 @@
 pub mod Starred
 pub mod Computed
 pub mod TextExamples
+pub mod Tried
