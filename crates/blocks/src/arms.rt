@@ -68,12 +68,9 @@ fn put_stored_arm(
         × (b < length (chart_of chart.now).states) × Room (stored_arm (chart_of chart.now) b) at }
     ensures { pen plan.new result ≡ emits (stored_arm (chart_of chart.now) b) (pen plan.old at) }
 {
-    let end = end_below(chart, b);
     let mut p = at;
-    let mut d = b + 1;
-    while d < end {
+    for d in b + 1..end_below(chart, b) {
         p = put_stored(chart, index, d, plan, p);
-        d += 1;
     }
     p
 }

@@ -15,7 +15,7 @@ use acts::index::INDEX;
 use blocks::block_length;
 use chart_rows::trans_row;
 use choice::span_of;
-use emitter::{put_four, put_three};
+use emitter::put_all;
 use meaning::chart::{Guard, Sign};
 use numbers::number;
 use sizes::TRANSITIONS;
@@ -37,8 +37,8 @@ fn put_guard(plan: &mut [i32], at: usize, guard: Guard) -> usize
     ensures { pen plan.new result ≡ puts (guard_numbers guard) (pen plan.old at) }
 {
     match guard {
-        Guard::Always => put_three(plan, at, -1, 0, 0),
-        Guard::Compares(v, sign, x) => put_three(plan, at, number(v), sign_number(sign), x),
+        Guard::Always => put_all(plan, at, &[-1, 0, 0]),
+        Guard::Compares(v, sign, x) => put_all(plan, at, &[number(v), sign_number(sign), x]),
     }
 }
 
@@ -60,16 +60,22 @@ fn put_head(
     let target = row.target;
     let guard = row.guard;
     let span = span_of(chart, row.source, target);
-    let p = put_three(plan, at, number(t), number(row.source), number(row.trigger));
+    let p = put_all(
+        plan,
+        at,
+        &[number(t), number(row.source), number(row.trigger)],
+    );
     let q = put_guard(plan, p, guard);
     let last = span.end - 1;
-    put_four(
+    put_all(
         plan,
         q,
-        number(span.first),
-        number(last),
-        number(start),
-        number(length),
+        &[
+            number(span.first),
+            number(last),
+            number(start),
+            number(length),
+        ],
     )
 }
 

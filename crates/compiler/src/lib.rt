@@ -20,7 +20,7 @@ ghost use Rattle.compiler.specs.Plans.{InOrder, Compiles};
 use acts::index::{INDEX, index_of};
 use blocks::{put_block, put_start};
 use chart_rows::{event_count, state_count, var_count, var_row};
-use emitter::{WIDTH, put_three};
+use emitter::{WIDTH, put_all};
 use heads::put_heads;
 use meaning::Answer;
 use meaning::answers::PLAN_TOO_LONG;
@@ -104,7 +104,7 @@ fn put_vars(chart: &[i32], plan: &mut [i32], at: usize) -> usize
     let mut p = at;
     for v in 0..n {
         let row = var_row(chart, v);
-        p = put_three(plan, p, row.low, row.high, row.first);
+        p = put_all(plan, p, &[row.low, row.high, row.first]);
     }
     p
 }
@@ -118,8 +118,8 @@ fn put_six(chart: &[i32], heads: usize, code: usize, start: usize, plan: &mut [i
     let states = state_count(chart);
     let vars = var_count(chart);
     let events = event_count(chart);
-    let p = put_three(plan, 0, number(states), number(vars), number(events));
-    put_three(plan, p, number(heads), number(code), number(start))
+    let p = put_all(plan, 0, &[number(states), number(vars), number(events)]);
+    put_all(plan, p, &[number(heads), number(code), number(start)])
 }
 
 // The plan of a chart that passes the rules; 4 where it is longer than the slice.
@@ -140,10 +140,7 @@ fn compile_passed(chart: &[i32], plan: &mut [i32]) -> Compiled
             number: PLAN_TOO_LONG,
             place: 0,
         };
-        return Compiled {
-            answer: answer,
-            length: 0,
-        };
+        return Compiled { answer, length: 0 };
     }
     let p0 = put_six(chart, heads, code, start, plan);
     let p1 = put_vars(chart, plan, p0);
@@ -155,7 +152,7 @@ fn compile_passed(chart: &[i32], plan: &mut [i32]) -> Compiled
         place: 0,
     };
     Compiled {
-        answer: answer,
+        answer,
         length: end,
     }
 }

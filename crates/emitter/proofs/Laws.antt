@@ -4,8 +4,9 @@ use Prim.Native.Nat.{ℕ, zero, suc, ◌+◌, ◌*◌, ◌<◌, ◌≤◌}
 use mathlib.Core.List.{List, [], ◌∷◌, ◌++◌, append-nil}
 use native.Mathlib.Omega.{arith}
 use native.Mathlib.Numerals.{add-one}
-use lib.ListN.{length, set, length-append}
-use lib.Seq.{sets, length-sets}
+use lib.ListN.{length, set, get_or, take, length-append}
+use lib.Seq.{sets, length-sets, take-suc, take-length}
+use Rattle.std.proofs.lemmas.List.{length-take-le}
 use lib.IntN.{ℤ, pos, negsuc}
 use Rattle.meaning.specs.Lists.{concat_map}
 use Rattle.meaning.specs.declared.chart.Act.{Act}
@@ -39,23 +40,20 @@ pub puts_at : (ns : List ℤ) (l : List ℤ) (at : ℕ) {l₁ : List ℤ} {r : �
 unfolding puts
 puts_at ns l at e = ap (λ p. p.at) e
 
-pub three : (l : List ℤ) (at : ℕ) (a b c : ℤ) {l₁ l₂ l₃ : List ℤ} → l₁ ≡ set l at a → l₂ ≡ set l₁ (at + 1) b → l₃ ≡ set l₂ (at + 2) c
-    → pen l₃ (at + 3) ≡ puts (a ∷ b ∷ c ∷ []) (pen l at)
-unfolding puts
-three l at a b c {l₁} {l₂} {l₃} e f g =
-    let p : at + 1 ≡ suc at = omega arith in
-    let q : at + 2 ≡ suc (suc at) = omega arith in
-    ap (λ x. pen x (at + 3)) (g ∙ ap (λ k. set l₂ k c) q
-    ∙ ap (λ x. set x (suc (suc at)) c) (f ∙ ap (λ k. set l₁ k b) p ∙ ap (λ x. set x (suc at) b) e))
+-- one number more of those that are put
+pub next_put : (l ns : List ℤ) (at i : ℕ) {l₁ l₂ : List ℤ} → i < length ns → l₁ ≡ sets l at (take i ns)
+    → l₂ ≡ set l₁ (at + i) (get_or ns i (pos 0)) → l₂ ≡ sets l at (take (i + 1) ns)
+next_put l ns at i h e f =
+    let z : ℤ = get_or ns i (pos 0) in
+    f ∙ ap (λ x. set x (at + i) z) e
+    ∙ sym (ap (sets l at) (ap (λ k. take k ns) (add-one i) ∙ take-suc ns i (pos 0) h)
+    ∙ sets_append l at (take i ns) (z ∷ [])
+    ∙ ap (λ k. set (sets l at (take i ns)) (at + k) z) (length-take-le i ns (omega arith)))
 
-pub four : (l : List ℤ) (at : ℕ) (a b c d : ℤ) {l₁ l₂ l₃ l₄ : List ℤ}
-    → l₁ ≡ set l at a → l₂ ≡ set l₁ (at + 1) b → l₃ ≡ set l₂ (at + 2) c → l₄ ≡ set l₃ (at + 3) d
-    → pen l₄ (at + 4) ≡ puts (a ∷ b ∷ c ∷ d ∷ []) (pen l at)
+pub all_put : (l ns : List ℤ) (at i : ℕ) {l₁ : List ℤ} → i ≡ length ns → l₁ ≡ sets l at (take i ns)
+    → pen l₁ (at + length ns) ≡ puts ns (pen l at)
 unfolding puts
-four l at a b c d {l₁} {l₂} {l₃} {l₄} e f g h =
-    let r : at + 3 ≡ suc (suc (suc at)) = omega arith in
-    ap (λ x. pen x (at + 4)) (h ∙ ap (λ k. set l₃ k d) r
-    ∙ ap (λ x. set x (suc (suc (suc at))) d) (ap (λ x. x.buf) (three l at a b c e f g)))
+all_put l ns at i h e = ap (λ x. pen x (at + length ns)) (e ∙ ap (λ k. sets l at (take k ns)) h ∙ ap (sets l at) (take-length ns))
 
 -- ---- instructions
 

@@ -5,14 +5,16 @@
 
 pub mod actions;
 
-ghost use Rattle.std.specs.Prelude.{◌≡◌, [], ◌∷◌, ◌<◌, ◌+◌, set, pos};
+ghost use Rattle.std.specs.Prelude.{◌≡◌, [], ◌∷◌, ◌<◌, ◌+◌, set, length, pos};
 ghost use Rattle.numbers.specs.Reference.{NOWHERE};
 ghost use Rattle.meaning.specs.declared.plan.Instr.TheVariants.{Out as go_out, Does as does};
+ghost use Rattle.plan_rows.specs.Codes.{code_number};
 ghost use Rattle.emitter.specs.Pen.{pen, puts, emits, SmallPlace, SmallAct, Small};
 
 use meaning::chart::Act;
 use meaning::plan::Instr;
 use numbers::number;
+use plan_rows::code::Code;
 
 // How many numbers an instruction has.
 pub const WIDTH: usize = 4;
@@ -26,35 +28,31 @@ pub fn put(plan: &mut [i32], at: usize, z: i32)
     }
 }
 
-// Three numbers.
-pub fn put_three(plan: &mut [i32], at: usize, a: i32, b: i32, c: i32) -> usize
-    requires { at + 3 < NOWHERE }
-    ensures { pen plan.new result ≡ puts (a ∷ b ∷ c ∷ []) (pen plan.old at) }
+// Numbers, one after another.
+pub fn put_all(plan: &mut [i32], at: usize, numbers: &[i32]) -> usize
+    requires { at + length numbers.now < NOWHERE }
+    ensures { pen plan.new result ≡ puts numbers.now (pen plan.old at) }
 {
-    put(plan, at, a);
-    put(plan, at + 1, b);
-    put(plan, at + 2, c);
-    at + 3
+    for i in 0..numbers.len() {
+        put(plan, at + i, numbers[i]);
+    }
+    at + numbers.len()
 }
 
-// Four numbers.
-pub fn put_four(plan: &mut [i32], at: usize, a: i32, b: i32, c: i32, d: i32) -> usize
+// A code and its three numbers.
+fn put_code(plan: &mut [i32], at: usize, code: Code, a: i32, b: i32, c: i32) -> usize
     requires { at + 4 < NOWHERE }
-    ensures { pen plan.new result ≡ puts (a ∷ b ∷ c ∷ d ∷ []) (pen plan.old at) }
+    ensures { pen plan.new result ≡ puts (pos (code_number code) ∷ a ∷ b ∷ c ∷ []) (pen plan.old at) }
 {
-    put(plan, at, a);
-    put(plan, at + 1, b);
-    put(plan, at + 2, c);
-    put(plan, at + 3, d);
-    at + 4
+    put_all(plan, at, &[code.number(), a, b, c])
 }
 
-// Four numbers that are not below 0.
-fn put_plain(plan: &mut [i32], at: usize, code: usize, a: usize, b: usize, c: usize) -> usize
-    requires { (code < NOWHERE) × (a < NOWHERE) × (b < NOWHERE) × (c < NOWHERE) × (at + 4 < NOWHERE) }
-    ensures { pen plan.new result ≡ puts (pos code ∷ pos a ∷ pos b ∷ pos c ∷ []) (pen plan.old at) }
+// A code and three numbers that are not below 0.
+fn put_plain(plan: &mut [i32], at: usize, code: Code, a: usize, b: usize, c: usize) -> usize
+    requires { (a < NOWHERE) × (b < NOWHERE) × (c < NOWHERE) × (at + 4 < NOWHERE) }
+    ensures { pen plan.new result ≡ puts (pos (code_number code) ∷ pos a ∷ pos b ∷ pos c ∷ []) (pen plan.old at) }
 {
-    put_four(plan, at, number(code), number(a), number(b), number(c))
+    put_code(plan, at, code, number(a), number(b), number(c))
 }
 
 // "2 OUT s p (p the o parent, or -1)"
@@ -63,8 +61,8 @@ fn put_out(plan: &mut [i32], at: usize, s: usize, p: Option<usize>) -> usize
     ensures { pen plan.new result ≡ emits (go_out s p ∷ []) (pen plan.old at) }
 {
     match p {
-        None => put_four(plan, at, 2, number(s), -1, 0),
-        Some(q) => put_plain(plan, at, 2, s, q, 0),
+        None => put_code(plan, at, Code::Out, number(s), -1, 0),
+        Some(q) => put_plain(plan, at, Code::Out, s, q, 0),
     }
 }
 
@@ -74,11 +72,11 @@ fn put_act(plan: &mut [i32], at: usize, act: Act) -> usize
     ensures { pen plan.new result ≡ emits (does act ∷ []) (pen plan.old at) }
 {
     match act {
-        Act::SetTo(v, x) => put_four(plan, at, 7, number(v), x, 0),
-        Act::AddTo(v, x) => put_four(plan, at, 8, number(v), x, 0),
-        Act::TakeTo(v) => put_plain(plan, at, 9, v, 0, 0),
-        Act::Send(e, x) => put_four(plan, at, 10, number(e), x, 0),
-        Act::Tell(x) => put_four(plan, at, 11, x, 0, 0),
+        Act::SetTo(v, x) => put_code(plan, at, Code::Set, number(v), x, 0),
+        Act::AddTo(v, x) => put_code(plan, at, Code::Add, number(v), x, 0),
+        Act::TakeTo(v) => put_plain(plan, at, Code::Take, v, 0, 0),
+        Act::Send(e, x) => put_code(plan, at, Code::Send, number(e), x, 0),
+        Act::Tell(x) => put_code(plan, at, Code::Tell, x, 0, 0),
     }
 }
 
@@ -88,12 +86,12 @@ pub fn put_instr(plan: &mut [i32], at: usize, instr: Instr) -> usize
     ensures { pen plan.new result ≡ emits (instr ∷ []) (pen plan.old at) }
 {
     match instr {
-        Instr::In(s) => put_plain(plan, at, 1, s, 0, 0),
+        Instr::In(s) => put_plain(plan, at, Code::In, s, 0, 0),
         Instr::Out(s, p) => put_out(plan, at, s, p),
-        Instr::SkipOut(s, n) => put_plain(plan, at, 3, s, n, 0),
-        Instr::SkipEmpty(s, n) => put_plain(plan, at, 4, s, n, 0),
-        Instr::SkipFull(s, n) => put_plain(plan, at, 5, s, n, 0),
-        Instr::SkipNot(s, d, n) => put_plain(plan, at, 6, s, d, n),
+        Instr::SkipOut(s, n) => put_plain(plan, at, Code::SkipOut, s, n, 0),
+        Instr::SkipEmpty(s, n) => put_plain(plan, at, Code::SkipEmpty, s, n, 0),
+        Instr::SkipFull(s, n) => put_plain(plan, at, Code::SkipFull, s, n, 0),
+        Instr::SkipNot(s, d, n) => put_plain(plan, at, Code::SkipNot, s, d, n),
         Instr::Does(act) => put_act(plan, at, act),
     }
 }

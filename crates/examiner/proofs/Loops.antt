@@ -1,36 +1,54 @@
--- The loops over rows: what is left to try says as much as the whole. Three laws each: a row that fails ends the loop, one that fits goes
--- on, and no row left is the end. Assumes nothing.
-use Prim.Native.Nat.{ℕ, ◌+◌, ◌-◌, ◌<◌, ◌≤◌}
-use mathlib.Core.Path.{◌≡◌, sym, ap, ◌∙◌}
-use mathlib.Core.Bool.{Bool, true, false}
-use mathlib.Core.List.{List}
+-- The loops over rows: a test of every row by its number is one of all rows; and where block follows block, what is left to try says as
+-- much as the whole, in three laws: a block that fails ends the loop, one that fits goes on, and no head left is the end. Assumes nothing.
+use Prim.Native.Nat.{ℕ, zero, suc, ◌+◌, ◌-◌, ◌*◌, ◌<◌, ◌≤◌}
+use mathlib.Core.Path.{◌≡◌, refl, sym, ap, ◌∙◌}
+use mathlib.Core.Bool.{Bool, true, false, ◌&&◌}
+use mathlib.Core.List.{List, ◌∷◌}
 use native.Mathlib.Omega.{arith}
 use borrow.Author.Tests.{eqb-true, eqb-false}
 use lib.Dec.{eqb}
 use lib.IntN.{ℤ}
 use lib.ListN.{take, drop}
 use lib.Seq.{drop-drop}
+use Rattle.std.proofs.Math.Nat.{suc-mul}
 use Rattle.numbers.specs.Reference.{NOWHERE}
-use Rattle.meaning.specs.Lists.{every, chunks}
+use Rattle.meaning.specs.Lists.{every, chunks, from}
 use Rattle.meaning.specs.declared.plan.Counts.{Counts}
 use Rattle.meaning.specs.WellFormed.{HEAD_ROW, INSTR_ROW, head_by, blocks_fill, instr_fits, left_after_each, code_fits}
-use Rattle.plan_rows.proofs.Blocks.{rows_cons, rows_none, fills_past, fills_gap, fills_on, left_cons, code_stop, code_next}
+use Rattle.plan_rows.proofs.Blocks.{rows_cons, rows_none, fills_past, fills_gap, fills_on, code_stop, code_next}
 
--- ---- each of the rows left, from a place on
+-- ---- each of so many rows from a place on
 
-module _ (p : List ℤ → Bool) (w at left : ℕ) (ns : List ℤ) {b : Bool} where
-  pub each_stop : 0 < left → p (take w (drop at ns)) ≡ false → every p (chunks left w (drop at ns)) ≡ b → false ≡ b
-  unfolding every
-  each_stop h e g = rw (rows_cons left w at ns h, e) at g
+-- a number of rows further on
+module _ (w at : ℕ) (ns : List ℤ) where
+  further : (a n : ℕ) → chunks n w (drop w (drop (at + a * w) ns)) ≡ chunks n w (drop (at + suc a * w) ns)
+  further a n =
+      let z : (at + a * w) + w ≡ at + suc a * w = omega (arith, suc-mul a w) in
+      ap (chunks n w) (drop-drop w (at + a * w) ns ∙ ap (λ m. drop m ns) z)
 
-  pub each_next : 0 < left → p (take w (drop at ns)) ≡ true → every p (chunks left w (drop at ns)) ≡ b
-      → every p (chunks (left - 1) w (drop (at + w) ns)) ≡ b
-  unfolding every
-  each_next h e g = rw (rows_cons left w at ns h, e) at g
+  rows_from : (p : List ℤ → Bool) (a n : ℕ) → every (λ i. p (take w (drop (at + i * w) ns))) (from a n) ≡ every p (chunks n w (drop (at + a * w) ns))
+  unfolding every from chunks
+  rows_from p a zero = refl
+  rows_from p a (suc n) =
+      ap (λ b. p (take w (drop (at + a * w) ns)) && b) (rows_from p (suc a) n ∙ sym (ap (every p) (further a n)))
 
-  pub each_done : left ≡ 0 → every p (chunks left w (drop at ns)) ≡ b → true ≡ b
-  unfolding every
-  each_done h g = rw (rows_none left w at ns h) at g
+  pub each_row : (p : List ℤ → Bool) (n : ℕ) → every (λ i. p (take w (drop (at + i * w) ns))) (from 0 n) ≡ every p (chunks n w (drop at ns))
+  each_row p n = let z : at + 0 * w ≡ at = omega arith in rows_from p 0 n ∙ ap (λ m. every p (chunks n w (drop m ns))) z
+
+-- ---- the heads left before and after a step
+
+module _ (f : ℕ → ℕ → Bool) (base heads : ℕ) where
+  pub heads_first : f (heads - 0) (base + 0 * HEAD_ROW) ≡ f heads base
+  heads_first =
+      let z : heads - 0 ≡ heads = omega arith in
+      let y : base + 0 * HEAD_ROW ≡ base = omega arith in
+      ap (λ m. f m (base + 0 * HEAD_ROW)) z ∙ ap (f heads) y
+
+  pub heads_step : (h : ℕ) → f (heads - (h + 1)) (base + (h + 1) * HEAD_ROW) ≡ f ((heads - h) - 1) ((base + h * HEAD_ROW) + HEAD_ROW)
+  heads_step h =
+      let z : heads - (h + 1) ≡ (heads - h) - 1 = omega arith in
+      let y : base + (h + 1) * HEAD_ROW ≡ (base + h * HEAD_ROW) + HEAD_ROW = omega arith in
+      ap (λ m. f m (base + (h + 1) * HEAD_ROW)) z ∙ ap (f ((heads - h) - 1)) y
 
 -- ---- the blocks of the heads left fill n instructions from `end` on
 
@@ -64,19 +82,32 @@ module _ (n end at left : ℕ) (ns : List ℤ) {b : Bool} where
   unfolding blocks_fill
   fill_done h g = rw (rows_none left HEAD_ROW at ns h) at g
 
--- ---- the instructions left in a block, from a place on
+-- ---- the instructions of a block of n, one by one: of instruction i as many follow as are left
 
-module _ (k : Counts) (at left : ℕ) (ns : List ℤ) {b : Bool} where
-  pub block_stop : 0 < left → instr_fits k (left - 1) (drop at ns) ≡ false → code_fits k (left_after_each left) (drop at ns) ≡ b → false ≡ b
-  block_stop h e g = sym (code_stop k (left - 1) (left_after_each (left - 1)) (drop at ns) e) ∙ rw (left_cons left h) at g
+module _ (k : Counts) (base n : ℕ) (ns : List ℤ) where
+  one_block : (m : ℕ) (lefts : List ℕ) (l : List ℤ) → code_fits k (m ∷ lefts) l ≡ instr_fits k m l && code_fits k lefts (drop INSTR_ROW l)
+  one_block m lefts l = go (instr_fits k m l) refl
+    where
+      go : (b : Bool) → instr_fits k m l ≡ b → code_fits k (m ∷ lefts) l ≡ b && code_fits k lefts (drop INSTR_ROW l)
+      go true e = code_next k m lefts l e
+      go false e = code_stop k m lefts l e
 
-  pub block_next : 0 < left → instr_fits k (left - 1) (drop at ns) ≡ true → code_fits k (left_after_each left) (drop at ns) ≡ b
-      → code_fits k (left_after_each (left - 1)) (drop (at + INSTR_ROW) ns) ≡ b
-  block_next h e g =
-      ap (code_fits k (left_after_each (left - 1))) (sym (drop-drop INSTR_ROW at ns))
-      ∙ sym (code_next k (left - 1) (left_after_each (left - 1)) (drop at ns) e)
-      ∙ rw (left_cons left h) at g
+  left_from : (a m : ℕ) → a + m ≡ n
+      → every (λ i. instr_fits k ((n - 1) - i) (drop (base + i * INSTR_ROW) ns)) (from a m)
+      ≡ code_fits k (left_after_each m) (drop (base + a * INSTR_ROW) ns)
+  unfolding every from left_after_each code_fits
+  left_from a zero e = refl
+  left_from a (suc m) e =
+      let z : (n - 1) - a ≡ m = omega arith in
+      let y : (base + a * INSTR_ROW) + INSTR_ROW ≡ base + suc a * INSTR_ROW = omega arith in
+      ap (λ q. instr_fits k q (drop (base + a * INSTR_ROW) ns)
+      && every (λ i. instr_fits k ((n - 1) - i) (drop (base + i * INSTR_ROW) ns)) (from (suc a) m)) z
+      ∙ ap (λ b. instr_fits k m (drop (base + a * INSTR_ROW) ns) && b)
+      (left_from (suc a) m (omega arith)
+      ∙ sym (ap (code_fits k (left_after_each m)) (drop-drop INSTR_ROW (base + a * INSTR_ROW) ns ∙ ap (λ q. drop q ns) y)))
+      ∙ sym (one_block m (left_after_each m) (drop (base + a * INSTR_ROW) ns))
 
-  pub block_done : left ≡ 0 → code_fits k (left_after_each left) (drop at ns) ≡ b → true ≡ b
-  unfolding code_fits left_after_each
-  block_done h g = rw h at g
+  pub each_instr : every (λ i. instr_fits k ((n - 1) - i) (drop (base + i * INSTR_ROW) ns)) (from 0 n)
+      ≡ code_fits k (left_after_each n) (drop base ns)
+  each_instr = let z : base + 0 * INSTR_ROW ≡ base = omega arith in
+      left_from 0 n (omega arith) ∙ ap (λ m. code_fits k (left_after_each n) (drop m ns)) z

@@ -1,5 +1,6 @@
 -- The tests of a row, number by number, against code that reads the numbers one by one from the place b where the row begins.
 -- Assumes nothing.
+use Rattle.std.specs.Prelude.{Option, None, Some}
 use Prim.Native.Nat.{ℕ, zero, suc, ◌+◌}
 use mathlib.Core.Path.{◌≡◌, refl, ◌∙◌}
 use mathlib.Core.Bool.{Bool, false, ◌&&◌}
@@ -20,8 +21,12 @@ use Rattle.meaning.specs.declared.plan.Counts.{Counts}
 use Rattle.meaning.specs.Rules.{row_fits}
 use Rattle.meaning.specs.Value.{count_fits, var_by, statable}
 use Rattle.meaning.specs.WellFormed.{HEAD_ROW, var_keeps, one_of, span_fits, head_guard_fits, head_fits}
-use Rattle.meaning.specs.WellFormed.{Operand, SHAPES, no_shape, shape, operand_fits, shape_fits, instr_fits}
+use Rattle.meaning.specs.WellFormed.{Operand, a_state, a_parent, a_variable, an_event, a_constant, a_skip, unused}
+use Rattle.meaning.specs.WellFormed.{Shape, SHAPES, no_shape, shape, operand_fits, shape_fits, instr_fits}
 use Rattle.chart_rows.proofs.Rows.{num_at}
+use Rattle.plan_rows.specs.declared.code.Code.{Code}
+use Rattle.plan_rows.specs.declared.code.Code.TheVariants.{In, Out, SkipOut, SkipEmpty, SkipFull, SkipNot, Set, Add, Take, Send, Tell}
+use Rattle.plan_rows.specs.Codes.{code_of}
 
 -- the order of two numbers that were handed over as their bits
 pub order_said : {x y : ℤ} → SFits w32 x → SFits w32 y → le_z (to_z w32 (of_z w32 x)) (to_z w32 (of_z w32 y)) ≡ le_z x y
@@ -67,19 +72,33 @@ module _ (k : Counts) (ns : List ℤ) (b : ℕ) where
   instr_read left n f g h t e u v w o =
       o ∙ rw (u, v, w, get_or-drop b ns 0 (pos 0), e, t, get_or-drop b ns 1 (pos 0), get_or-drop b ns 2 (pos 0), get_or-drop b ns 3 (pos 0))
 
--- a number that is no code has no form
-pub no_code : (n : ℕ) → (n ≡ 1 → ⊥) → (n ≡ 2 → ⊥) → (n ≡ 3 → ⊥) → (n ≡ 4 → ⊥) → (n ≡ 5 → ⊥) → (n ≡ 6 → ⊥) → (n ≡ 7 → ⊥) → (n ≡ 8 → ⊥)
-    → (n ≡ 9 → ⊥) → (n ≡ 10 → ⊥) → (n ≡ 11 → ⊥) → no_shape ≡ get_or SHAPES n no_shape
-no_code zero n₁ n₂ n₃ n₄ n₅ n₆ n₇ n₈ n₉ n₁₀ n₁₁ = refl
-no_code (suc zero) n₁ n₂ n₃ n₄ n₅ n₆ n₇ n₈ n₉ n₁₀ n₁₁ = absurd (n₁ refl)
-no_code (suc (suc zero)) n₁ n₂ n₃ n₄ n₅ n₆ n₇ n₈ n₉ n₁₀ n₁₁ = absurd (n₂ refl)
-no_code (suc (suc (suc zero))) n₁ n₂ n₃ n₄ n₅ n₆ n₇ n₈ n₉ n₁₀ n₁₁ = absurd (n₃ refl)
-no_code (suc (suc (suc (suc zero)))) n₁ n₂ n₃ n₄ n₅ n₆ n₇ n₈ n₉ n₁₀ n₁₁ = absurd (n₄ refl)
-no_code (suc (suc (suc (suc (suc zero))))) n₁ n₂ n₃ n₄ n₅ n₆ n₇ n₈ n₉ n₁₀ n₁₁ = absurd (n₅ refl)
-no_code (suc (suc (suc (suc (suc (suc zero)))))) n₁ n₂ n₃ n₄ n₅ n₆ n₇ n₈ n₉ n₁₀ n₁₁ = absurd (n₆ refl)
-no_code (suc (suc (suc (suc (suc (suc (suc zero))))))) n₁ n₂ n₃ n₄ n₅ n₆ n₇ n₈ n₉ n₁₀ n₁₁ = absurd (n₇ refl)
-no_code (suc (suc (suc (suc (suc (suc (suc (suc zero)))))))) n₁ n₂ n₃ n₄ n₅ n₆ n₇ n₈ n₉ n₁₀ n₁₁ = absurd (n₈ refl)
-no_code (suc (suc (suc (suc (suc (suc (suc (suc (suc zero))))))))) n₁ n₂ n₃ n₄ n₅ n₆ n₇ n₈ n₉ n₁₀ n₁₁ = absurd (n₉ refl)
-no_code (suc (suc (suc (suc (suc (suc (suc (suc (suc (suc zero)))))))))) n₁ n₂ n₃ n₄ n₅ n₆ n₇ n₈ n₉ n₁₀ n₁₁ = absurd (n₁₀ refl)
-no_code (suc (suc (suc (suc (suc (suc (suc (suc (suc (suc (suc zero))))))))))) n₁ n₂ n₃ n₄ n₅ n₆ n₇ n₈ n₉ n₁₀ n₁₁ = absurd (n₁₁ refl)
-no_code (suc (suc (suc (suc (suc (suc (suc (suc (suc (suc (suc (suc n)))))))))))) n₁ n₂ n₃ n₄ n₅ n₆ n₇ n₈ n₉ n₁₀ n₁₁ = refl
+-- the form of each code, and of a number that is none
+abbrev pub shape_by : Option Code → Shape
+shape_by None = no_shape
+shape_by (Some In) = shape a_state unused unused
+shape_by (Some Out) = shape a_state a_parent unused
+shape_by (Some SkipOut) = shape a_state a_skip unused
+shape_by (Some SkipEmpty) = shape a_state a_skip unused
+shape_by (Some SkipFull) = shape a_state a_skip unused
+shape_by (Some SkipNot) = shape a_state a_state a_skip
+shape_by (Some Set) = shape a_variable a_constant unused
+shape_by (Some Add) = shape a_variable a_constant unused
+shape_by (Some Take) = shape a_variable unused unused
+shape_by (Some Send) = shape an_event a_constant unused
+shape_by (Some Tell) = shape a_constant unused unused
+
+pub shaped : (n : ℕ) → get_or SHAPES n no_shape ≡ shape_by (code_of n)
+unfolding code_of
+shaped zero = refl
+shaped (suc zero) = refl
+shaped (suc (suc zero)) = refl
+shaped (suc (suc (suc zero))) = refl
+shaped (suc (suc (suc (suc zero)))) = refl
+shaped (suc (suc (suc (suc (suc zero))))) = refl
+shaped (suc (suc (suc (suc (suc (suc zero)))))) = refl
+shaped (suc (suc (suc (suc (suc (suc (suc zero))))))) = refl
+shaped (suc (suc (suc (suc (suc (suc (suc (suc zero)))))))) = refl
+shaped (suc (suc (suc (suc (suc (suc (suc (suc (suc zero))))))))) = refl
+shaped (suc (suc (suc (suc (suc (suc (suc (suc (suc (suc zero)))))))))) = refl
+shaped (suc (suc (suc (suc (suc (suc (suc (suc (suc (suc (suc zero))))))))))) = refl
+shaped (suc (suc (suc (suc (suc (suc (suc (suc (suc (suc (suc (suc n)))))))))))) = refl

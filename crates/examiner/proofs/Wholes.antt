@@ -7,8 +7,8 @@ use lib.IntN.{ℤ}
 use lib.ListN.{length}
 use Rattle.numbers.specs.Reference.{ref, NOWHERE}
 use Rattle.meaning.specs.declared.plan.Counts.{Counts}
-use Rattle.meaning.specs.Value.{num}
-use Rattle.meaning.specs.WellFormed.{HEAD_ROW, INSTR_ROW, counts_of, heads_at, code_at, plan_end}
+use Rattle.meaning.specs.Value.{num, VAR_ROW}
+use Rattle.meaning.specs.WellFormed.{SIX, HEAD_ROW, INSTR_ROW, counts_of, heads_at, code_at, plan_end}
 use Rattle.plan_rows.specs.Rows.{Sized}
 use Rattle.plan_rows.proofs.Rows.{sized}
 use Rattle.examiner.specs.Examined.{Whole}
@@ -23,6 +23,10 @@ module _ (ns : List ℤ) (k : Counts) (w : Whole ns k) where
 
   pub whole_few : k.instructions < NOWHERE
   whole_few = let s = whole_sized in omega arith
+
+  pub vars_there : SIX + k.vars * VAR_ROW ≤ length ns
+  unfolding plan_end code_at heads_at
+  vars_there = omega arith
 
   pub heads_there : heads_at k + k.heads * HEAD_ROW ≤ length ns
   unfolding plan_end code_at

@@ -20,45 +20,23 @@ use sizes::TRANSITIONS;
 fn guard_absent(v: i32, g: i32, x: i32) -> bool
     ensures { result ≡ eq_z v (negsuc 0) && (eq_z g (pos 0) && eq_z x (pos 0)) }
 {
-    if !same(v, -1) {
-        return false;
-    }
-    if !same(g, 0) {
-        return false;
-    }
-    same(x, 0)
+    same(v, -1) && same(g, 0) && same(x, 0)
 }
 
 // The guard is -1, 0, 0 or a variable, 1 to 3 and a number in range.
+#[tactic(auto, unfolding(meaning::specs::WellFormed::head_guard_fits))]
 fn guard_fits(k: Counts, v: i32, g: i32, x: i32) -> bool
     ensures { result ≡ head_guard_fits k v g x }
 {
-    if guard_absent(v, g, x) {
-        return true;
-    }
-    if !one_of(k.vars, v) {
-        return false;
-    }
-    if !count_fits(1, 3, g) {
-        return false;
-    }
-    in_range(x)
+    guard_absent(v, g, x) || one_of(k.vars, v) && count_fits(1, 3, g) && in_range(x)
 }
 
 // Source and span are states with first ≤ last.
+#[tactic(auto, unfolding(meaning::specs::WellFormed::span_fits))]
 fn span_fits(k: Counts, source: i32, first: i32, last: i32) -> bool
     ensures { result ≡ span_fits k source first last }
 {
-    if !one_of(k.states, source) {
-        return false;
-    }
-    if !one_of(k.states, first) {
-        return false;
-    }
-    if !one_of(k.states, last) {
-        return false;
-    }
-    first <= last
+    one_of(k.states, source) && one_of(k.states, first) && one_of(k.states, last) && first <= last
 }
 
 // The head whose row begins at this place.
@@ -66,44 +44,28 @@ fn head_fits(plan: &[i32], k: Counts, at: usize) -> bool
     requires { (at + HEAD_ROW ≤ length plan.now) × Sized k }
     ensures { result ≡ head_fits k (take HEAD_ROW (drop at plan.now)) }
 {
-    if !one_of(TRANSITIONS, read(plan, at + TRANSITION)) {
-        return false;
-    }
-    if !count_fits(0, k.events, read(plan, at + TRIGGER)) {
-        return false;
-    }
-    let source = read(plan, at + SOURCE);
-    if !span_fits(
-        k,
-        source,
-        read(plan, at + SPAN_FIRST),
-        read(plan, at + SPAN_LAST),
-    ) {
-        return false;
-    }
-    let v = read(plan, at + GUARD_VAR);
-    guard_fits(
-        k,
-        v,
-        read(plan, at + GUARD_SIGN),
-        read(plan, at + GUARD_CONSTANT),
-    )
+    one_of(TRANSITIONS, read(plan, at + TRANSITION))
+        && count_fits(0, k.events, read(plan, at + TRIGGER))
+        && span_fits(
+            k,
+            read(plan, at + SOURCE),
+            read(plan, at + SPAN_FIRST),
+            read(plan, at + SPAN_LAST),
+        )
+        && guard_fits(
+            k,
+            read(plan, at + GUARD_VAR),
+            read(plan, at + GUARD_SIGN),
+            read(plan, at + GUARD_CONSTANT),
+        )
 }
 
 pub fn heads_fit(plan: &[i32], k: Counts) -> bool
     requires { Whole plan.now k }
     ensures { result ≡ every (head_fits k) (head_rows plan.now k) }
 {
-    let mut at = heads_at(k);
-    let mut left = k.heads;
-    while 0 < left {
-        if !head_fits(plan, k, at) {
-            return false;
-        }
-        at += HEAD_ROW;
-        left -= 1;
-    }
-    true
+    let base = heads_at(k);
+    (0..k.heads).all(|h| head_fits(plan, k, base + h * HEAD_ROW))
 }
 
 // Does the block of the head whose row begins at this place begin with this instruction?
@@ -123,20 +85,15 @@ pub fn blocks_fill(plan: &[i32], k: Counts) -> bool
     if k.instructions < k.start {
         return false;
     }
+    let base = heads_at(k);
     let mut end = k.start;
-    let mut at = heads_at(k);
-    let mut left = k.heads;
-    while 0 < left {
-        if !begins_with(plan, at, end) {
-            return false;
-        }
+    for h in 0..k.heads {
+        let at = base + h * HEAD_ROW;
         let n = block_length(plan, at);
-        if k.instructions - end < n {
+        if !begins_with(plan, at, end) || k.instructions - end < n {
             return false;
         }
         end += n;
-        at += HEAD_ROW;
-        left -= 1;
     }
     end == k.instructions
 }

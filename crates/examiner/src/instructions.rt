@@ -11,6 +11,7 @@ ghost use Rattle.examiner.specs.Examined.{Whole};
 use super::fits::{count_fits, one_of};
 use meaning::plan::Counts;
 use numbers::{in_range, same};
+use plan_rows::code::Code;
 use plan_rows::layout::{CODE, FIRST, HEAD_ROW, INSTR_ROW, SECOND, THIRD};
 use plan_rows::{block_length, code_at, heads_at, named, read};
 
@@ -18,10 +19,7 @@ use plan_rows::{block_length, code_at, heads_at, named, read};
 fn parent_fits(k: Counts, z: i32) -> bool
     ensures { result ≡ eq_z z (negsuc 0) || one_of k.states z }
 {
-    if same(z, -1) {
-        return true;
-    }
-    one_of(k.states, z)
+    same(z, -1) || one_of(k.states, z)
 }
 
 // A skip stays within its block, of which so many instructions follow.
@@ -36,38 +34,33 @@ fn skip_fits(left: usize, z: i32) -> bool
 fn all_three(first: bool, second: bool, third: bool) -> bool
     ensures { result ≡ first && (second && third) }
 {
-    if !first {
-        return false;
-    }
-    if !second {
-        return false;
-    }
-    third
+    first && second && third
 }
 
-// The instruction whose row begins at this place, by its code, 1 to 11: what is named exists, constants are in range, unused
-// numbers are 0.
+// The instruction whose row begins at this place, by its code: what is named exists, constants are in range, unused numbers
+// are 0.
 fn instr_fits(plan: &[i32], k: Counts, left: usize, at: usize) -> bool
     requires { Sized k × (left ≤ INSTRUCTIONS) × (at + INSTR_ROW ≤ length plan.now) }
     ensures { result ≡ instr_fits k left (drop at plan.now) }
 {
-    let code = named(plan, at + CODE);
+    let Some(code) = Code::of(named(plan, at + CODE)) else {
+        return false;
+    };
     let x = read(plan, at + FIRST);
     let y = read(plan, at + SECOND);
     let z = read(plan, at + THIRD);
     match code {
-        1 => all_three(one_of(k.states, x), same(y, 0), same(z, 0)),
-        2 => all_three(one_of(k.states, x), parent_fits(k, y), same(z, 0)),
-        3 => all_three(one_of(k.states, x), skip_fits(left, y), same(z, 0)),
-        4 => all_three(one_of(k.states, x), skip_fits(left, y), same(z, 0)),
-        5 => all_three(one_of(k.states, x), skip_fits(left, y), same(z, 0)),
-        6 => all_three(one_of(k.states, x), one_of(k.states, y), skip_fits(left, z)),
-        7 => all_three(one_of(k.vars, x), in_range(y), same(z, 0)),
-        8 => all_three(one_of(k.vars, x), in_range(y), same(z, 0)),
-        9 => all_three(one_of(k.vars, x), same(y, 0), same(z, 0)),
-        10 => all_three(count_fits(1, k.events, x), in_range(y), same(z, 0)),
-        11 => all_three(in_range(x), same(y, 0), same(z, 0)),
-        _ => false,
+        Code::In => all_three(one_of(k.states, x), same(y, 0), same(z, 0)),
+        Code::Out => all_three(one_of(k.states, x), parent_fits(k, y), same(z, 0)),
+        Code::SkipOut => all_three(one_of(k.states, x), skip_fits(left, y), same(z, 0)),
+        Code::SkipEmpty => all_three(one_of(k.states, x), skip_fits(left, y), same(z, 0)),
+        Code::SkipFull => all_three(one_of(k.states, x), skip_fits(left, y), same(z, 0)),
+        Code::SkipNot => { all_three(one_of(k.states, x), one_of(k.states, y), skip_fits(left, z)) }
+        Code::Set => all_three(one_of(k.vars, x), in_range(y), same(z, 0)),
+        Code::Add => all_three(one_of(k.vars, x), in_range(y), same(z, 0)),
+        Code::Take => all_three(one_of(k.vars, x), same(y, 0), same(z, 0)),
+        Code::Send => all_three(count_fits(1, k.events, x), in_range(y), same(z, 0)),
+        Code::Tell => all_three(in_range(x), same(y, 0), same(z, 0)),
     }
 }
 
@@ -76,16 +69,7 @@ fn block_fits(plan: &[i32], k: Counts, base: usize, n: usize) -> bool
     requires { Sized k × (n ≤ INSTRUCTIONS) × (base + n * INSTR_ROW ≤ length plan.now) }
     ensures { result ≡ code_fits k (left_after_each n) (drop base plan.now) }
 {
-    let mut at = base;
-    let mut left = n;
-    while 0 < left {
-        left -= 1;
-        if !instr_fits(plan, k, left, at) {
-            return false;
-        }
-        at += INSTR_ROW;
-    }
-    true
+    (0..n).all(|i| instr_fits(plan, k, n - 1 - i, base + i * INSTR_ROW))
 }
 
 // All blocks, once it is known that they fill the instructions: the start block, then those of the heads. Before each, so
@@ -98,17 +82,14 @@ pub fn code_fits(plan: &[i32], k: Counts) -> bool
     if !block_fits(plan, k, base, k.start) {
         return false;
     }
+    let heads = heads_at(k);
     let mut done = k.start;
-    let mut head = heads_at(k);
-    let mut left = k.heads;
-    while 0 < left {
-        let n = block_length(plan, head);
+    for h in 0..k.heads {
+        let n = block_length(plan, heads + h * HEAD_ROW);
         if !block_fits(plan, k, base + done * INSTR_ROW, n) {
             return false;
         }
         done += n;
-        head += HEAD_ROW;
-        left -= 1;
     }
     true
 }

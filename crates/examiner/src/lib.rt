@@ -24,52 +24,31 @@ use sizes::{EVENTS, INSTRUCTIONS, LEAST_STATES, STATES, TRANSITIONS, VARIABLES};
 use variables::vars_keep;
 
 // The counts keep their sizes.
+#[tactic(auto, unfolding(meaning::specs::WellFormed::counts_keep))]
 fn counts_keep(plan: &[i32]) -> bool
     ensures { result ≡ counts_keep plan.now }
 {
-    if !count_fits(LEAST_STATES, STATES, number_at(plan, STATE_COUNT)) {
-        return false;
-    }
-    if !count_fits(0, VARIABLES, number_at(plan, VAR_COUNT)) {
-        return false;
-    }
-    if !count_fits(0, EVENTS, number_at(plan, EVENT_COUNT)) {
-        return false;
-    }
-    if !count_fits(0, TRANSITIONS, number_at(plan, HEAD_COUNT)) {
-        return false;
-    }
-    count_fits(0, INSTRUCTIONS, number_at(plan, INSTR_COUNT))
+    count_fits(LEAST_STATES, STATES, number_at(plan, STATE_COUNT))
+        && (count_fits(0, VARIABLES, number_at(plan, VAR_COUNT))
+            && (count_fits(0, EVENTS, number_at(plan, EVENT_COUNT))
+                && (count_fits(0, TRANSITIONS, number_at(plan, HEAD_COUNT))
+                    && count_fits(0, INSTRUCTIONS, number_at(plan, INSTR_COUNT)))))
 }
 
 // The rows of a plan that is not cut short: variables, heads, blocks, instructions.
+#[tactic(auto, unfolding(meaning::specs::WellFormed::rows_well_formed))]
 fn rows_well_formed(plan: &[i32], k: Counts) -> bool
     requires { Whole plan.now k }
     ensures { result ≡ rows_well_formed plan.now k }
 {
-    if !vars_keep(plan, k) {
-        return false;
-    }
-    if !heads_fit(plan, k) {
-        return false;
-    }
-    if !blocks_fill(plan, k) {
-        return false;
-    }
-    code_fits(plan, k)
+    vars_keep(plan, k) && heads_fit(plan, k) && blocks_fill(plan, k) && code_fits(plan, k)
 }
 
 fn well_formed(plan: &[i32]) -> bool
     ensures { result ≡ well_formed plan.now }
 {
-    if !counts_keep(plan) {
-        return false;
-    }
     let k = counts(plan);
-    if plan.len() < plan_end(k) {
-        return false;
-    }
-    rows_well_formed(plan, k)
+    counts_keep(plan) && plan_end(k) <= plan.len() && rows_well_formed(plan, k)
 }
 
 // 0 if the numbers begin with a well-formed plan, else 5.

@@ -16,29 +16,15 @@ fn var_keeps(plan: &[i32], v: usize) -> bool
     ensures { result ≡ var_keeps (row VAR_ROW SIX v plan.now) }
 {
     let var = var_row(plan, v);
-    if !between(var.low, var.first, var.high) {
-        return false;
-    }
-    if !in_range(var.low) {
-        return false;
-    }
-    if !in_range(var.high) {
-        return false;
-    }
-    in_range(var.first)
+    between(var.low, var.first, var.high)
+        && in_range(var.low)
+        && in_range(var.high)
+        && in_range(var.first)
 }
 
 pub fn vars_keep(plan: &[i32], k: Counts) -> bool
     requires { Whole plan.now k }
     ensures { result ≡ every var_keeps (var_rows plan.now k) }
 {
-    let n = k.vars;
-    let mut v = 0;
-    while v < n {
-        if !var_keeps(plan, v) {
-            return false;
-        }
-        v += 1;
-    }
-    true
+    (0..k.vars).all(|v| var_keeps(plan, v))
 }

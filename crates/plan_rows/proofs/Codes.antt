@@ -1,7 +1,7 @@
 -- What a head's sign and an instruction's code say, number by number: code that goes by cases on the number meets the definitions, which
 -- test one number after the other. Assumes nothing.
-use Rattle.std.specs.Prelude.{Option}
-use Prim.Native.Nat.{ℕ, ◌<◌}
+use Rattle.std.specs.Prelude.{Option, None, get_or}
+use Prim.Native.Nat.{ℕ, zero, suc, ◌<◌}
 use mathlib.Core.Path.{◌≡◌, refl, ap}
 use mathlib.Core.Bool.{false}
 use native.Mathlib.Omega.{arith}
@@ -16,6 +16,7 @@ use Rattle.meaning.specs.declared.chart.Act.TheVariants.{SetTo as set_to, AddTo 
 use Rattle.meaning.specs.declared.plan.Instr.TheVariants.{In as go_in, Out as go_out, SkipOut as skip_out, SkipEmpty as skip_empty}
 use Rattle.meaning.specs.declared.plan.Instr.TheVariants.{SkipFull as skip_full, SkipNot as skip_not, Does as does}
 use Rattle.meaning.specs.WellFormed.{head_guard_by, instr_of, instr_act_by}
+use Rattle.plan_rows.specs.Codes.{CODES}
 
 -- the number that names n, and one that does not
 pub names : (z : ℤ) (n : ℕ) → n < NOWHERE → ref z ≡ n → z ≡ pos n
@@ -106,3 +107,20 @@ tell_said k x y z n₁ n₂ n₃ n₄ n₅ n₆ n₇ n₈ n₉ n₁₀ e =
       names_other k 10 n₁₀,
       e,
     )
+
+-- a number that is not 1 to 11 is no code
+pub no_code : (n : ℕ) → (n ≡ 1 → ⊥) → (n ≡ 2 → ⊥) → (n ≡ 3 → ⊥) → (n ≡ 4 → ⊥) → (n ≡ 5 → ⊥) → (n ≡ 6 → ⊥) → (n ≡ 7 → ⊥) → (n ≡ 8 → ⊥)
+    → (n ≡ 9 → ⊥) → (n ≡ 10 → ⊥) → (n ≡ 11 → ⊥) → None ≡ get_or CODES n None
+no_code zero n₁ n₂ n₃ n₄ n₅ n₆ n₇ n₈ n₉ n₁₀ n₁₁ = refl
+no_code (suc zero) n₁ n₂ n₃ n₄ n₅ n₆ n₇ n₈ n₉ n₁₀ n₁₁ = absurd (n₁ refl)
+no_code (suc (suc zero)) n₁ n₂ n₃ n₄ n₅ n₆ n₇ n₈ n₉ n₁₀ n₁₁ = absurd (n₂ refl)
+no_code (suc (suc (suc zero))) n₁ n₂ n₃ n₄ n₅ n₆ n₇ n₈ n₉ n₁₀ n₁₁ = absurd (n₃ refl)
+no_code (suc (suc (suc (suc zero)))) n₁ n₂ n₃ n₄ n₅ n₆ n₇ n₈ n₉ n₁₀ n₁₁ = absurd (n₄ refl)
+no_code (suc (suc (suc (suc (suc zero))))) n₁ n₂ n₃ n₄ n₅ n₆ n₇ n₈ n₉ n₁₀ n₁₁ = absurd (n₅ refl)
+no_code (suc (suc (suc (suc (suc (suc zero)))))) n₁ n₂ n₃ n₄ n₅ n₆ n₇ n₈ n₉ n₁₀ n₁₁ = absurd (n₆ refl)
+no_code (suc (suc (suc (suc (suc (suc (suc zero))))))) n₁ n₂ n₃ n₄ n₅ n₆ n₇ n₈ n₉ n₁₀ n₁₁ = absurd (n₇ refl)
+no_code (suc (suc (suc (suc (suc (suc (suc (suc zero)))))))) n₁ n₂ n₃ n₄ n₅ n₆ n₇ n₈ n₉ n₁₀ n₁₁ = absurd (n₈ refl)
+no_code (suc (suc (suc (suc (suc (suc (suc (suc (suc zero))))))))) n₁ n₂ n₃ n₄ n₅ n₆ n₇ n₈ n₉ n₁₀ n₁₁ = absurd (n₉ refl)
+no_code (suc (suc (suc (suc (suc (suc (suc (suc (suc (suc zero)))))))))) n₁ n₂ n₃ n₄ n₅ n₆ n₇ n₈ n₉ n₁₀ n₁₁ = absurd (n₁₀ refl)
+no_code (suc (suc (suc (suc (suc (suc (suc (suc (suc (suc (suc zero))))))))))) n₁ n₂ n₃ n₄ n₅ n₆ n₇ n₈ n₉ n₁₀ n₁₁ = absurd (n₁₁ refl)
+no_code (suc (suc (suc (suc (suc (suc (suc (suc (suc (suc (suc (suc n)))))))))))) n₁ n₂ n₃ n₄ n₅ n₆ n₇ n₈ n₉ n₁₀ n₁₁ = refl

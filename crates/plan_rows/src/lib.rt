@@ -2,6 +2,7 @@
 // read only where it is there whole, which its caller shows. Each accessor equals a definition of the crate meaning.
 #![tactic(auto)]
 
+pub mod code;
 pub mod decode;
 pub mod layout;
 

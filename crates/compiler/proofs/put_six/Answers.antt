@@ -57,8 +57,8 @@ number-requires-6 c =
       start_few c.args.chart.now c.requires.0,
     )
 
-pub put_three-requires : goal.put_three-requires
-put_three-requires c = omega (arith, puts_at _ _ _ c.put_three-p.ensures)
+pub put_all-requires : goal.put_all-requires
+put_all-requires c = omega (arith, puts_at _ _ _ c.put_all-p.ensures)
 
 pub returns : goal.returns
 returns c =
@@ -80,7 +80,7 @@ returns c =
       back32 c.number-3.result
           c.number-3.type_inv,
       c.number-3.ensures,
-    ) at c.put_three-p.ensures)
+    ) at c.put_all-p.ensures)
     (rw (
       back32 c.number-4.result
           c.number-4.type_inv,
@@ -89,4 +89,4 @@ returns c =
       c.number-5.ensures,
       back32 c.number-6.result c.number-6.type_inv,
       c.number-6.ensures,
-    ) at c.put_three.ensures)
+    ) at c.put_all.ensures)

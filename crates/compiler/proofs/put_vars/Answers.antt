@@ -11,8 +11,8 @@ use Rattle.compiler.proofs.put_vars.Goals as goal
 pub loop-v-init : goal.loop-v-init
 loop-v-init c = ranging_begin _ _ _
 
-pub put_three-p-requires : goal.put_three-p-requires
-put_three-p-requires c =
+pub put_all-p-requires : goal.put_all-p-requires
+put_all-p-requires c =
     omega (
       arith,
       c.loop-v.invariant.placed,
@@ -42,7 +42,7 @@ loop-v-preserved c =
     ranging_on c.loop-v.invariant
     (omega (arith, c.loop-v-test.true, c.var_count-n.ensures)) _
     c.var_row-row.ensures
-    (rw (to_z-of_z fl, to_z-of_z fh, to_z-of_z ff) at c.put_three-p.ensures)
+    (rw (to_z-of_z fl, to_z-of_z fh, to_z-of_z ff) at c.put_all-p.ensures)
 
 pub shape_of-plan : goal.shape_of-plan
 shape_of-plan c = omega (arith, same_sized _ _ _ _ _ _ c.loop-v.invariant.owes)

@@ -3,31 +3,25 @@ use Rattle.chart_rows.proofs.Rows.{states_most}
 use Rattle.meaning.specs.Value.{chart_of}
 use Rattle.meaning.specs.Compile.{stored_code, stored_arm}
 use Rattle.tree.proofs.Passing.{sound}
-use Rattle.emitter.proofs.Laws.{same_size}
 use Rattle.blocks.proofs.Descent.{rising_begin, rising_room, rising_on, rising_end, end_inside}
 use native.Mathlib.Omega.{arith}
 use Rattle.blocks.proofs.arms.put_stored_arm.Goals as goal
 
-pub end_below-end-requires : goal.end_below-end-requires
-end_below-end-requires c = (c.requires.0.ruled, c.requires.1)
-
-pub overflow_add-d : goal.overflow_add-d
-overflow_add-d c = omega (arith, c.requires.1, states_most c.args.chart.now)
+pub overflow_step-d : goal.overflow_step-d
+overflow_step-d c = omega (arith, c.requires.1, states_most c.args.chart.now)
 
 pub loop-d-init : goal.loop-d-init
 unfolding stored_arm
-loop-d-init c = (
-  omega arith,
-  rising_begin (chart_of c.args.chart.now)
-      (sound c.args.chart.now c.requires.0.ruled) c.args.b
-      c.requires.1 (stored_code (chart_of c.args.chart.now)) _ _ _
-      c.end_below-end.ensures,
-)
+loop-d-init c =
+    rising_begin (chart_of c.args.chart.now)
+    (sound c.args.chart.now c.requires.0.ruled) c.args.b
+    c.requires.1 (stored_code (chart_of c.args.chart.now)) _ _ _
+    c.end_below-d-end.ensures
 
 pub put_stored-p-requires : goal.put_stored-p-requires
 put_stored-p-requires c = (
   c.requires.0,
-  omega (arith, c.loop-d.invariant.0),
+  omega arith,
   omega (
     arith,
     c.loop-d-test.true,
@@ -37,37 +31,14 @@ put_stored-p-requires c = (
         c.requires.1
         (stored_code (chart_of c.args.chart.now))
         c.args.plan.now c.args.at _
-        c.end_below-end.ensures,
+        c.end_below-d-end.ensures,
   ),
-  rising_room c.loop-d.invariant.1 c.loop-d-test.true
+  rising_room c.loop-d.invariant c.loop-d-test.true
       c.requires.2,
 )
 
-pub overflow_add-d-in-loop-d : goal.overflow_add-d-in-loop-d
-overflow_add-d-in-loop-d c =
-    omega (
-      arith,
-      c.loop-d-test.true,
-      end_inside (chart_of c.args.chart.now)
-          (sound c.args.chart.now c.requires.0.ruled)
-          c.args.b c.requires.1
-          (stored_code (chart_of c.args.chart.now)) c.args.plan.now
-          c.args.at _ c.end_below-end.ensures,
-      states_most c.args.chart.now,
-    )
-
-pub loop-d-smaller : goal.loop-d-smaller
-loop-d-smaller c = omega (arith, c.loop-d-test.true)
-
 pub loop-d-preserved : goal.loop-d-preserved
-loop-d-preserved c = (
-  omega (arith, c.loop-d.invariant.0),
-  rising_on c.loop-d.invariant.1 c.loop-d-test.true
-      c.put_stored-p.ensures,
-)
-
-pub shape_of-plan : goal.shape_of-plan
-shape_of-plan c = omega (arith, same_size _ _ _ _ _ _ c.loop-d.invariant.1.owes)
+loop-d-preserved c = rising_on c.loop-d.invariant c.loop-d-test.true c.put_stored-p.ensures
 
 pub returns : goal.returns
-returns c = rising_end c.loop-d.invariant.1 c.loop-d-test.false
+returns c = rising_end c.loop-d.invariant c.loop-d-test.false

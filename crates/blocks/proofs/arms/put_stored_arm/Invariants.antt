@@ -1,13 +1,7 @@
-use Prim.Native.Nat.{◌-◌, ◌<◌}
 use Rattle.meaning.specs.Value.{chart_of}
 use Rattle.meaning.specs.Compile.{stored_code, stored_arm}
 use Rattle.blocks.proofs.Descent.{Rising}
 use Rattle.blocks.proofs.arms.put_stored_arm.Given as goal
 
 abbrev pub invariant-loop-d : goal.invariant-loop-d
-invariant-loop-d l =
-    (l.b < l.d) × Rising (stored_code (chart_of l.chart)) l.initial.plan l.at (stored_arm (chart_of l.chart) l.b) l.end l.d l.plan l.p
-
-abbrev pub decreases-loop-d : goal.decreases-loop-d
-decreases-loop-d l =
-    l.end - l.d
+invariant-loop-d l = Rising (stored_code (chart_of l.chart)) l.initial.plan l.at (stored_arm (chart_of l.chart) l.b) l.d-end l.d l.plan l.p

@@ -8,18 +8,18 @@ use native.Mathlib.Omega.{arith}
 use borrow.Author.Rules.{rules}
 use Rattle.compiler.proofs.heads.put_guard.Goals as goal
 
-pub put_three-requires : goal.put_three-requires
-put_three-requires c = c.requires.1
+pub put_all-requires : goal.put_all-requires
+put_all-requires c = c.requires.1
 
 pub number-requires : goal.number-requires
 number-requires c = let o = rw c.in-Compares.is at c.requires.0 in omega arith
 
-pub put_three-requires-in-Compares : goal.put_three-requires-in-Compares
-put_three-requires-in-Compares c = c.requires.1
+pub put_all-requires-in-Compares : goal.put_all-requires-in-Compares
+put_all-requires-in-Compares c = c.requires.1
 
 pub returns-in-Always : goal.returns-in-Always
 unfolding guard_numbers
-returns-in-Always c = rw c.in-Always.is c.put_three.ensures
+returns-in-Always c = rw c.in-Always.is c.put_all.ensures
 
 pub returns-in-Compares : goal.returns-in-Compares
 unfolding guard_numbers
@@ -32,4 +32,4 @@ returns-in-Compares c =
       back32 c.sign_number.result c.sign_number.type_inv,
       c.sign_number.ensures,
       to_z-of_z fx,
-    ) at c.put_three-in-Compares.ensures)
+    ) at c.put_all-in-Compares.ensures)

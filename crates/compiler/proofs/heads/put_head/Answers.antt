@@ -27,8 +27,8 @@ number-requires-3 c =
     c.args.t c.requires.1 _
     c.trans_row-row.ensures).1
 
-pub put_three-p-requires : goal.put_three-p-requires
-put_three-p-requires c = omega (arith, c.requires.4)
+pub put_all-p-requires : goal.put_all-p-requires
+put_all-p-requires c = omega (arith, c.requires.4)
 
 pub put_guard-q-requires : goal.put_guard-q-requires
 put_guard-q-requires c = (
@@ -38,7 +38,7 @@ put_guard-q-requires c = (
   omega (
     arith,
     c.requires.4,
-    puts_at _ _ _ c.put_three-p.ensures,
+    puts_at _ _ _ c.put_all-p.ensures,
   ),
 )
 
@@ -72,12 +72,12 @@ number-requires-6 c = c.requires.2
 pub number-requires-7 : goal.number-requires-7
 number-requires-7 c = c.requires.3
 
-pub put_four-requires : goal.put_four-requires
-put_four-requires c =
+pub put_all-requires : goal.put_all-requires
+put_all-requires c =
     omega (
       arith,
       c.requires.4,
-      puts_at _ _ _ c.put_three-p.ensures,
+      puts_at _ _ _ c.put_all-p.ensures,
       puts_at _ _ _ c.put_guard-q.ensures,
       guard_three c.trans_row-row.result.guard,
     )
@@ -110,7 +110,7 @@ returns c =
       back32 c.number-3.result
           c.number-3.type_inv,
       c.number-3.ensures,
-    ) at c.put_three-p.ensures)
+    ) at c.put_all-p.ensures)
     c.put_guard-q.ensures
     (rw (
       back32 c.number-4.result
@@ -123,4 +123,4 @@ returns c =
       c.number-6.ensures,
       back32 c.number-7.result c.number-7.type_inv,
       c.number-7.ensures,
-    ) at c.put_four.ensures)
+    ) at c.put_all.ensures)

@@ -1,47 +1,30 @@
 -- `heads_fit` tries each head. Assumes nothing.
-use mathlib.Core.Path.{ap}
-use native.Mathlib.Omega.{arith}
-use lib.ListN.{drop}
+use Rattle.std.proofs.Common.{rules, tests, arith, ◌+◌, ◌*◌, ◌≤◌, length, take, drop, ap, ◌∙◌}
+use Rattle.std.proofs.lemmas.Iterator.{serves_from_Range}
 use Rattle.meaning.specs.Lists.{every, chunks}
 use Rattle.meaning.specs.WellFormed.{HEAD_ROW, head_rows, head_fits}
-use Rattle.rules.proofs.Tests.{refuted, held}
+use Rattle.meaning.proofs.Tried.{all_from}
+use Rattle.plan_rows.specs.Rows.{Sized}
 use Rattle.examiner.proofs.Wholes.{whole_sized, heads_there}
-use Rattle.examiner.proofs.Loops.{each_stop, each_next, each_done}
+use Rattle.examiner.proofs.Loops.{each_row}
 use Rattle.examiner.proofs.heads.heads_fit.Goals as goal
 
-pub heads_at-at-requires : goal.heads_at-at-requires
-heads_at-at-requires c = whole_sized c.args.plan.now c.args.k c.requires
+pub heads_at-base-requires : goal.heads_at-base-requires
+heads_at-base-requires c = whole_sized c.args.plan.now c.args.k c.requires
 
-pub loop-left-init : goal.loop-left-init
-unfolding head_rows
-loop-left-init c =
-    let a = c.args in (
-      ap (λ m. every (head_fits a.k) (chunks a.k.heads HEAD_ROW (drop m a.plan.now))) c.heads_at-at.ensures,
-      omega (arith, heads_there a.plan.now a.k c.requires, c.heads_at-at.ensures),
-    )
-
-pub head_fits-requires : goal.head_fits-requires
-head_fits-requires c =
-    (omega arith, whole_sized c.args.plan.now c.args.k c.requires)
-
-pub returns-then-not-head_fits : goal.returns-then-not-head_fits
-returns-then-not-head_fits c =
+pub all-requires-clause-callable : goal.all-requires-clause-callable
+all-requires-clause-callable c =
     let a = c.args in
-    let w = c.loop-left in
-    each_stop (head_fits a.k) HEAD_ROW w.at w.left a.plan.now (omega arith)
-    (refuted c.head_fits.ensures c.if-not-head_fits.true-raw) w.invariant.0
-
-pub loop-left-preserved : goal.loop-left-preserved
-loop-left-preserved c =
-    let a = c.args in
-    let w = c.loop-left in (
-      each_next (head_fits a.k) HEAD_ROW w.at w.left a.plan.now (omega arith)
-          (held c.head_fits.ensures c.if-not-head_fits.false-raw) w.invariant.0,
-      omega arith,
-    )
+    let s : Sized a.k = whole_sized a.plan.now a.k c.requires in
+    let t : c.heads_at-base.result + a.k.heads * HEAD_ROW ≤ length a.plan.now =
+    omega (arith, heads_there a.plan.now a.k c.requires, c.heads_at-base.ensures) in
+    serves_from_Range (λ x q r. search rules) (λ x low high. search rules)
 
 pub returns : goal.returns
+unfolding head_rows
 returns c =
     let a = c.args in
-    let w = c.loop-left in
-    each_done (head_fits a.k) HEAD_ROW w.at w.left a.plan.now (omega arith) w.invariant.0
+    all_from {b = a.k.heads} (λ h. head_fits a.k (take HEAD_ROW (drop (c.heads_at-base.result + h * HEAD_ROW) a.plan.now))) 0 a.k.heads
+    c.all.ensures.ran (cc) (omega arith) (λ x t q h. search (rules, tests))
+    ∙ each_row HEAD_ROW c.heads_at-base.result a.plan.now (head_fits a.k) a.k.heads
+    ∙ ap (λ m. every (head_fits a.k) (chunks a.k.heads HEAD_ROW (drop m a.plan.now))) c.heads_at-base.ensures

@@ -1,33 +1,13 @@
 -- `block_fits` tries each instruction of a block. Assumes nothing.
-use mathlib.Core.Path.{refl}
-use native.Mathlib.Omega.{arith}
-use Rattle.rules.proofs.Tests.{refuted, held}
-use Rattle.examiner.proofs.Loops.{block_stop, block_next, block_done}
+use Rattle.std.proofs.Common.{rules, tests, arith, ◌+◌, ◌-◌, ◌*◌, drop, ◌∙◌}
+use Rattle.meaning.specs.WellFormed.{INSTR_ROW, instr_fits}
+use Rattle.meaning.proofs.Tried.{all_from}
+use Rattle.examiner.proofs.Loops.{each_instr}
 use Rattle.examiner.proofs.instructions.block_fits.Goals as goal
-
-pub loop-left-init : goal.loop-left-init
-loop-left-init c = (refl, refl, omega arith)
-
-pub instr_fits-requires : goal.instr_fits-requires
-instr_fits-requires c = (c.requires.0, omega arith, omega arith)
-
-pub returns-then-not-instr_fits : goal.returns-then-not-instr_fits
-returns-then-not-instr_fits c =
-    let a = c.args in
-    let w = c.loop-left in
-    block_stop a.k w.at w.left a.plan.now (omega arith) (refuted c.instr_fits.ensures c.if-not-instr_fits.true-raw) w.invariant.0
-
-pub loop-left-preserved : goal.loop-left-preserved
-loop-left-preserved c =
-    let a = c.args in
-    let w = c.loop-left in (
-      block_next a.k w.at w.left a.plan.now (omega arith) (held c.instr_fits.ensures c.if-not-instr_fits.false-raw) w.invariant.0,
-      omega arith,
-      omega arith,
-    )
 
 pub returns : goal.returns
 returns c =
     let a = c.args in
-    let w = c.loop-left in
-    block_done a.k w.at w.left a.plan.now (omega arith) w.invariant.0
+    all_from {b = a.n} (λ i. instr_fits a.k ((a.n - 1) - i) (drop (a.base + i * INSTR_ROW) a.plan.now)) 0 a.n
+    c.all.ensures.ran (cc) (omega arith) (λ x t q h. search (rules, tests))
+    ∙ each_instr a.k a.base a.n a.plan.now

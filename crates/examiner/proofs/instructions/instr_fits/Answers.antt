@@ -1,131 +1,130 @@
 -- `instr_fits` goes by the code, and tests the three numbers as its form says. Assumes nothing.
-use mathlib.Core.Path.{◌≡◌, refl, sym, ◌∙◌}
-use Prim.Native.Nat.{ℕ}
+use Rattle.std.specs.Prelude.{Some}
+use mathlib.Core.Path.{◌≡◌, refl, sym, ap, ◌∙◌}
 use mathlib.Core.Bool.{Bool, ◌&&◌}
-use lib.ListN.{get_or, drop}
+use lib.ListN.{drop}
 use mir.Syntax.{w32}
 use mir.Val.{to_z, of_z}
 use Rattle.meaning.specs.WellFormed.{Operand, a_state, a_parent, a_variable, an_event, a_constant, a_skip, unused}
-use Rattle.meaning.specs.WellFormed.{SHAPES, no_shape, shape, operand_fits, instr_fits}
+use Rattle.meaning.specs.WellFormed.{shape, operand_fits, instr_fits}
+use Rattle.plan_rows.specs.declared.code.Code.{Code}
+use Rattle.plan_rows.specs.declared.code.Code.TheVariants.{In, Out, SkipOut, SkipEmpty, SkipFull, SkipNot, Set, Add, Take, Send, Tell}
+use Rattle.plan_rows.specs.Codes.{code_of}
 use Rattle.chart_rows.proofs.Said.{said_of}
-use Rattle.examiner.proofs.RowTests.{instr_wrong, instr_read, no_code}
+use Rattle.examiner.proofs.RowTests.{instr_wrong, instr_read, shape_by, shaped}
 use Rattle.examiner.proofs.instructions.instr_fits.Goals.{After-read-z}
 use Rattle.examiner.proofs.instructions.instr_fits.Goals as goal
 
 -- the code is n, and the three numbers that were read have been tested as its form says
-tested : (c : After-read-z) (n : ℕ) (f g h : Operand) {p q s r : Bool} → get_or SHAPES n no_shape ≡ shape f g h
-    → c.named-code.result ≡ n
+tested : (c : After-read-z) (s : Code) (f g h : Operand) {p q o r : Bool} → shape_by (Some s) ≡ shape f g h
+    → c.of.result ≡ Some s
     → p ≡ operand_fits c.args.k c.args.left f
     (to_z w32 (of_z w32 c.read-x.result))
     → q ≡ operand_fits c.args.k c.args.left g
     (to_z w32 (of_z w32 c.read-y.result))
-    → s ≡ operand_fits c.args.k c.args.left h
+    → o ≡ operand_fits c.args.k c.args.left h
     (to_z w32 (of_z w32 c.read-z.result))
-    → r ≡ p && (q && s)
+    → r ≡ p && (q && o)
     → r ≡ instr_fits c.args.k c.args.left
     (drop c.args.at c.args.plan.now)
-tested c n f g h t e u v w o =
+tested c s f g h t e u v w all =
     let a = c.args in
     let x = c.read-x in
     let y = c.read-y in
     let z = c.read-z in
-    instr_read a.k a.plan.now a.at a.left n f g h t (sym c.named-code.ensures ∙ e)
+    instr_read a.k a.plan.now a.at a.left (c.named.result) f g h (shaped c.named.result ∙ ap shape_by (sym c.of.ensures ∙ e) ∙ t) (sym c.named.ensures)
     (said_of (operand_fits a.k a.left f) x.type_inv x.ensures u) (said_of (operand_fits a.k a.left g) y.type_inv y.ensures v)
-    (said_of (operand_fits a.k a.left h) z.type_inv z.ensures w) o
+    (said_of (operand_fits a.k a.left h) z.type_inv z.ensures w) all
 
-pub returns-in-1 : goal.returns-in-1
+pub returns-in-In : goal.returns-in-In
 unfolding operand_fits
-returns-in-1 c =
+returns-in-In c =
     let m = c.before.before.before.before in
-    tested m.before 1 a_state unused unused refl c.in-1.is
+    tested m.before In a_state unused unused refl (c.in-Some.is ∙ ap Some c.in-In.is)
     c.one_of.ensures c.same.ensures
-    c.same-in-1.ensures c.all_three.ensures
+    c.same-in-In.ensures c.all_three.ensures
 
-pub returns-in-2 : goal.returns-in-2
+pub returns-in-Out : goal.returns-in-Out
 unfolding operand_fits
-returns-in-2 c =
+returns-in-Out c =
     let m = c.before.before.before.before in
-    tested m.before 2 a_state a_parent unused refl c.in-2.is
-    c.one_of-in-2.ensures c.parent_fits.ensures
-    c.same-in-2.ensures c.all_three-in-2.ensures
+    tested m.before Out a_state a_parent unused refl (c.in-Some.is ∙ ap Some c.in-Out.is)
+    c.one_of-in-Out.ensures c.parent_fits.ensures
+    c.same-in-Out.ensures c.all_three-in-Out.ensures
 
-pub returns-in-3 : goal.returns-in-3
+pub returns-in-SkipOut : goal.returns-in-SkipOut
 unfolding operand_fits
-returns-in-3 c =
+returns-in-SkipOut c =
     let m = c.before.before.before.before in
-    tested m.before 3 a_state a_skip unused refl c.in-3.is
-    c.one_of-in-3.ensures c.skip_fits.ensures
-    c.same-in-3.ensures c.all_three-in-3.ensures
+    tested m.before SkipOut a_state a_skip unused refl (c.in-Some.is ∙ ap Some c.in-SkipOut.is)
+    c.one_of-in-SkipOut.ensures c.skip_fits.ensures
+    c.same-in-SkipOut.ensures c.all_three-in-SkipOut.ensures
 
-pub returns-in-4 : goal.returns-in-4
+pub returns-in-SkipEmpty : goal.returns-in-SkipEmpty
 unfolding operand_fits
-returns-in-4 c =
+returns-in-SkipEmpty c =
     let m = c.before.before.before.before in
-    tested m.before 4 a_state a_skip unused refl c.in-4.is
-    c.one_of-in-4.ensures c.skip_fits-in-4.ensures
-    c.same-in-4.ensures c.all_three-in-4.ensures
+    tested m.before SkipEmpty a_state a_skip unused refl (c.in-Some.is ∙ ap Some c.in-SkipEmpty.is)
+    c.one_of-in-SkipEmpty.ensures c.skip_fits-in-SkipEmpty.ensures
+    c.same-in-SkipEmpty.ensures c.all_three-in-SkipEmpty.ensures
 
-pub returns-in-5 : goal.returns-in-5
+pub returns-in-SkipFull : goal.returns-in-SkipFull
 unfolding operand_fits
-returns-in-5 c =
+returns-in-SkipFull c =
     let m = c.before.before.before.before in
-    tested m.before 5 a_state a_skip unused refl c.in-5.is
-    c.one_of-in-5.ensures c.skip_fits-in-5.ensures
-    c.same-in-5.ensures c.all_three-in-5.ensures
+    tested m.before SkipFull a_state a_skip unused refl (c.in-Some.is ∙ ap Some c.in-SkipFull.is)
+    c.one_of-in-SkipFull.ensures c.skip_fits-in-SkipFull.ensures
+    c.same-in-SkipFull.ensures c.all_three-in-SkipFull.ensures
 
-pub returns-in-6 : goal.returns-in-6
+pub returns-in-SkipNot : goal.returns-in-SkipNot
 unfolding operand_fits
-returns-in-6 c =
+returns-in-SkipNot c =
     let m = c.before.before.before.before in
-    tested m.before 6 a_state a_state a_skip refl c.in-6.is
-    c.one_of-in-6.ensures c.one_of-in-6-2.ensures
-    c.skip_fits-in-6.ensures c.all_three-in-6.ensures
+    tested m.before SkipNot a_state a_state a_skip refl (c.in-Some.is ∙ ap Some c.in-SkipNot.is)
+    c.one_of-in-SkipNot.ensures c.one_of-in-SkipNot-2.ensures
+    c.skip_fits-in-SkipNot.ensures c.all_three-in-SkipNot.ensures
 
-pub returns-in-7 : goal.returns-in-7
+pub returns-in-Set : goal.returns-in-Set
 unfolding operand_fits
-returns-in-7 c =
+returns-in-Set c =
     let m = c.before.before.before.before in
-    tested m.before 7 a_variable a_constant unused refl c.in-7.is
-    c.one_of-in-7.ensures c.in_range.ensures
-    c.same-in-7.ensures c.all_three-in-7.ensures
+    tested m.before Set a_variable a_constant unused refl (c.in-Some.is ∙ ap Some c.in-Set.is)
+    c.one_of-in-Set.ensures c.in_range.ensures
+    c.same-in-Set.ensures c.all_three-in-Set.ensures
 
-pub returns-in-8 : goal.returns-in-8
+pub returns-in-Add : goal.returns-in-Add
 unfolding operand_fits
-returns-in-8 c =
+returns-in-Add c =
     let m = c.before.before.before.before in
-    tested m.before 8 a_variable a_constant unused refl c.in-8.is
-    c.one_of-in-8.ensures c.in_range-in-8.ensures
-    c.same-in-8.ensures c.all_three-in-8.ensures
+    tested m.before Add a_variable a_constant unused refl (c.in-Some.is ∙ ap Some c.in-Add.is)
+    c.one_of-in-Add.ensures c.in_range-in-Add.ensures
+    c.same-in-Add.ensures c.all_three-in-Add.ensures
 
-pub returns-in-9 : goal.returns-in-9
+pub returns-in-Take : goal.returns-in-Take
 unfolding operand_fits
-returns-in-9 c =
+returns-in-Take c =
     let m = c.before.before.before.before in
-    tested m.before 9 a_variable unused unused refl c.in-9.is
-    c.one_of-in-9.ensures c.same-in-9.ensures
-    c.same-in-9-2.ensures c.all_three-in-9.ensures
+    tested m.before Take a_variable unused unused refl (c.in-Some.is ∙ ap Some c.in-Take.is)
+    c.one_of-in-Take.ensures c.same-in-Take.ensures
+    c.same-in-Take-2.ensures c.all_three-in-Take.ensures
 
-pub returns-in-10 : goal.returns-in-10
+pub returns-in-Send : goal.returns-in-Send
 unfolding operand_fits
-returns-in-10 c =
+returns-in-Send c =
     let m = c.before.before.before.before in
-    tested m.before 10 an_event a_constant unused refl c.in-10.is
-    c.count_fits.ensures c.in_range-in-10.ensures
-    c.same-in-10.ensures c.all_three-in-10.ensures
+    tested m.before Send an_event a_constant unused refl (c.in-Some.is ∙ ap Some c.in-Send.is)
+    c.count_fits.ensures c.in_range-in-Send.ensures
+    c.same-in-Send.ensures c.all_three-in-Send.ensures
 
-pub returns-in-11 : goal.returns-in-11
+pub returns-in-Tell : goal.returns-in-Tell
 unfolding operand_fits
-returns-in-11 c =
+returns-in-Tell c =
     let m = c.before.before.before.before in
-    tested m.before 11 a_constant unused unused refl c.in-11.is
-    c.in_range-in-11.ensures c.same-in-11.ensures
-    c.same-in-11-2.ensures c.all_three-in-11.ensures
+    tested m.before Tell a_constant unused unused refl (c.in-Some.is ∙ ap Some c.in-Tell.is)
+    c.in_range-in-Tell.ensures c.same-in-Tell.ensures
+    c.same-in-Tell-2.ensures c.all_three-in-Tell.ensures
 
 pub returns-in_default : goal.returns-in_default
 returns-in_default c =
-    let e = c.named-code.ensures in
-    let r = rw e at c.in_default.in_default-own.rest in
     sym (instr_wrong c.args.k c.args.plan.now c.args.at c.args.left
-    (no_code _ r.0.0.0.0.0.0.0.0.0.0.1 r.0.0.0.0.0.0.0.0.0.1 r.0.0.0.0.0.0.0.0.1
-    r.0.0.0.0.0.0.0.1 r.0.0.0.0.0.0.1 r.0.0.0.0.0.1 r.0.0.0.0.1 r.0.0.0.1 r.0.0.1
-    r.0.1 r.1))
+    (ap shape_by (sym c.in_default.is ∙ c.of.ensures ∙ ap code_of c.named.ensures) ∙ sym (shaped _)))
