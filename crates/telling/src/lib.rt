@@ -46,10 +46,8 @@ pub fn stop(replayed: Replayed, widget: &mut [i32], report: &mut [i32; 3]) -> i3
 {
     let answer = replayed.answer;
     move_on(replayed.state, widget);
-    *report = [
-        small(answer.place),
-        small(replayed.entries),
-        small(replayed.done),
-    ];
+    let entries = small(replayed.entries);
+    let done = small(replayed.done);
+    *report = [small(answer.place), entries, done];
     small(answer.number)
 }
