@@ -6,19 +6,18 @@
 // expected lines; then its name with ` by its plan` and the lines again, those of a case saved_N that begin with P, with R for P.
 #![tactic(auto)]
 
-mod calls;
+mod by_plan;
 mod parse;
 mod saved;
 mod show;
 
-ghost use Rattle.std.specs.Prelude.{◌≡◌, length, IfOk, OnErr};
+ghost use Rattle.std.specs.Prelude.{◌≡◌, ◌≤◌, length, IfOk, OnErr};
 ghost use Rattle.std.specs.Counts.{IsPrefixLen};
 
-use calls::{Call, Made, OverChart, OverPlan};
 use engine::plans::compile;
-use engine::{State, VALUE};
+use engine::{Called, State, VALUE};
 use files::{ARGUMENT, LENT, argument, file_bytes};
-use parse::after_line;
+use parse::{byte_at, line_after, number_from};
 use show::print;
 use std::env::Env;
 use std::io;
@@ -30,48 +29,118 @@ const ROOM: usize = 3000;
 // Room for the plan of each chart of the cases.
 const PLAN: usize = 100000;
 
+// The first letters of the words: start, post, run, discard; and of the cases saved_N.
+pub const S: u8 = 115;
+
+pub const P: u8 = 112;
+
+pub const R: u8 = 114;
+
 // A case's file, by the case's name and how the file's name ends: its length, 0 where it cannot be opened.
 fn load(rt: &impl Files, name: &[u8], ending: &[u8], buffer: &mut [u8]) -> io::Result<usize>
     ensures ok { IfOk result (λ n. IsPrefixLen n buffer.new) }
     ensures err { OnErr result (length buffer.new ≡ length buffer.old) }
 {
     let mut path = [0u8; ARGUMENT];
-    for (to, byte) in path.iter_mut().zip(name.iter().chain(ending)) {
-        *to = *byte;
-    }
-    let n = name.len().saturating_add(ending.len()).min(ARGUMENT);
+    let a = parse::joined(&mut path, 0, name);
+    let b = parse::joined(&mut path, a, ending);
+    let n = parse::within(b, &path);
     let found = file_bytes(rt, &path[..n], buffer)?;
     Ok(found.unwrap_or(0))
+}
+
+// How many numbers a call lends, of those that there are.
+pub fn lent(calls: &[u8], at: usize, trace: &[i32]) -> usize
+    ensures { result ≤ length trace.now }
+{
+    let n = number_from(calls, at);
+    let most = numbers::reference(n.value);
+    if most < trace.len() {
+        most
+    } else {
+        trace.len()
+    }
+}
+
+// A start or a run, on exactly the numbers that the call lends.
+fn traced(chart: &[i32], state: State, calls: &[u8], at: usize, trace: &mut [i32]) -> Called {
+    let n = lent(calls, at, trace);
+    if byte_at(calls, at) == S {
+        return engine::start(chart, state, &mut trace[..n]);
+    }
+    engine::run(chart, state, &mut trace[..n])
+}
+
+// A post or a discard.
+fn untraced(chart: &[i32], state: State, calls: &[u8], at: usize) -> Called {
+    if byte_at(calls, at) == P {
+        let event = number_from(calls, at);
+        let argument = number_from(calls, event.to);
+        return engine::post(chart, state, event.value, argument.value);
+    }
+    engine::discard(chart, state)
+}
+
+// The call at a place, by its first letter, and what it gives; over the plan, or over the chart.
+fn call(
+    chart: &[i32],
+    plan: &[i32],
+    planned: bool,
+    state: State,
+    calls: &[u8],
+    at: usize,
+    trace: &mut [i32],
+) -> Called {
+    if planned {
+        return by_plan::call(plan, state, calls, at, trace);
+    }
+    let b = byte_at(calls, at);
+    if b == S {
+        return traced(chart, state, calls, at, trace);
+    }
+    if b == R {
+        return traced(chart, state, calls, at, trace);
+    }
+    untraced(chart, state, calls, at)
 }
 
 // Calls one after the other, the first on a widget not yet started.
 fn one_after_another(
     rt: &impl Print,
-    over: &impl Made,
+    chart: &[i32],
     plan: &[i32],
+    planned: bool,
     calls: &[u8],
 ) -> io::Result<()> {
     let mut state = engine::unstarted();
     let mut trace = [0i32; ROOM];
-    let mut rest = calls;
-    while !rest.is_empty() {
-        let called = over.call(Call::of(rest), state, &mut trace);
+    let mut at = 0;
+    while at < calls.len() {
+        let called = call(chart, plan, planned, state, calls, at, &mut trace);
         state = called.state;
         show::answer(rt, called)?;
         show::entries(rt, &trace, called.entries)?;
         show::state(rt, plan, state)?;
-        rest = after_line(rest);
+        at = line_after(calls, at);
     }
     Ok(())
 }
 
 // Calls, each on the same state.
-fn each_on(rt: &impl Print, over: &impl Made, state: State, calls: &[u8]) -> io::Result<()> {
+fn each_on(
+    rt: &impl Print,
+    chart: &[i32],
+    plan: &[i32],
+    planned: bool,
+    state: State,
+    calls: &[u8],
+) -> io::Result<()> {
     let mut trace = [0i32; ROOM];
-    let mut rest = calls;
-    while !rest.is_empty() {
-        show::answer(rt, over.call(Call::of(rest), state, &mut trace))?;
-        rest = after_line(rest);
+    let mut at = 0;
+    while at < calls.len() {
+        let called = call(chart, plan, planned, state, calls, at, &mut trace);
+        show::answer(rt, called)?;
+        at = line_after(calls, at);
     }
     Ok(())
 }
@@ -80,17 +149,19 @@ fn each_on(rt: &impl Print, over: &impl Made, state: State, calls: &[u8]) -> io:
 fn run_calls(
     rt: &(impl Files + Print),
     name: &[u8],
-    over: &impl Made,
+    chart: &[i32],
     plan: &[i32],
+    planned: bool,
 ) -> io::Result<()> {
     let mut calls = [0u8; LENT];
     let n = load(rt, name, b"_calls.txt", &mut calls)?;
-    let [b's', ..] = name else {
-        return one_after_another(rt, over, plan, &calls[..n]);
-    };
-    let mut numbers = [0u8; LENT];
-    let m = load(rt, name, b"_state.txt", &mut numbers)?;
-    each_on(rt, over, saved::state_of(&numbers[..m]), &calls[..n])
+    if byte_at(name, 0) == S {
+        let mut numbers = [0u8; LENT];
+        let m = load(rt, name, b"_state.txt", &mut numbers)?;
+        let state = saved::state_of(&numbers[..m]);
+        return each_on(rt, chart, plan, planned, state, &calls[..n]);
+    }
+    one_after_another(rt, chart, plan, planned, &calls[..n])
 }
 
 // One case, by its name.
@@ -106,10 +177,10 @@ fn run(rt: &(impl Files + Print), name: &[u8]) -> io::Result<()> {
     }
     let mut plan = [0i32; PLAN];
     compile(&chart, &mut plan);
-    run_calls(rt, name, &OverChart(&chart), &plan)?;
+    run_calls(rt, name, &chart, &plan, false)?;
     print(rt, name)?;
     print(rt, b" by its plan\n")?;
-    run_calls(rt, name, &OverPlan(&plan), &plan)
+    run_calls(rt, name, &chart, &plan, true)
 }
 
 // The case that an argument names; whether there is such an argument.
