@@ -12,6 +12,11 @@ use lib.IntN.{ℤ, pos, negsuc}
 use lib.Signed.{lt_z}
 use lib.ListN.{length, get_or, take, drop, take-append-drop, length-append, length-map, length-drop}
 use lib.Seq.{take_at, drop_at, get_or_at, take-add, length-take-le, get_or-take, get_or-drop}
+use mir.Syntax.{w32}
+use mir.Val.{SFits}
+use Rattle.std.specs.Prelude.{Result, Ok, Err}
+use Rattle.std.specs.Result.{OkIff, result_unwrap_or}
+use Rattle.std.proofs.lemmas.Grind.{common_steps}
 use Rattle.sizes.specs.Sizes.{STATES, VARIABLES, QUEUE, STATE_NUMBERS}
 use Rattle.numbers.specs.Reference.{ref, NOWHERE}
 use Rattle.queue.specs.declared.Item.{Item}
@@ -44,6 +49,12 @@ flat_back ns h = ap (drop 1) (lent_held 0 ns (omega arith) h)
 pub small_is : (n : ℕ) → n < NOWHERE → small n ≡ pos n
 unfolding small
 small_is n h = rw (lt-ltb n NOWHERE h)
+
+-- a conversion that may fail, and what stands for a failure
+pub small_from : (n : ℕ) {E : Type 0} (r : Result ℤ E) → OkIff r (SFits w32 (pos n)) (pos n) → result_unwrap_or r (negsuc 0) ≡ small n
+unfolding small
+small_from n (Ok x) (f, e) = e ∙ sym (small_is n f.sfits)
+small_from n (Err x) f = rw (le-ltb n NOWHERE (grind (arith, common_steps)))
 
 not_below_0 : (n : ℕ) → lt_z (pos n) (pos 0) ≡ false
 not_below_0 n = le-ltb n 0 (omega arith)

@@ -1,14 +1,14 @@
 -- What the functions that load a state cite: the marks tested and read one by one, numbers that state no widget, a widget part by part.
 -- Assumes nothing.
 use mathlib.Core.Path.{◌≡◌, refl, sym, ap, ◌∙◌}
-use mathlib.Core.Bool.{Bool, true, false, not, ◌&&◌, true≢false}
+use mathlib.Core.Bool.{Bool, true, false, not, ◌&&◌, false≢true}
 use mathlib.Core.List.{List, [], ◌∷◌, ◌++◌, map}
 use Prim.Native.Nat.{ℕ, ◌+◌, ◌<◌, ◌≤◌}
 use native.Mathlib.Numerals.{add-one}
 use native.Mathlib.Omega.{arith}
-use borrow.Author.Tests.{lt-leb, le-leb}
-use lib.IntN.{ℤ, pos}
-use lib.Signed.{lt_z}
+use borrow.Author.Tests.{lt-leb, le-leb, le-ltb}
+use lib.IntN.{ℤ, pos, negsuc}
+use lib.Signed.{lt_z, le_z}
 use lib.ListN.{length, get_or, take, drop, set, replicate, length-drop, length-map, length-replicate, get_or-map}
 use lib.Seq.{paste, take-suc, take_all, length-take-le, get_or-take, get_or-drop}
 use Rattle.sizes.specs.Sizes.{STATES, VARIABLES, STATE_NUMBERS}
@@ -18,7 +18,6 @@ use Rattle.queue.specs.declared.Queue.{Queue}
 use Rattle.queue.specs.Numbers.{QUEUE_NUMBERS, queue_by}
 use Rattle.meaning.specs.declared.State.{State}
 use Rattle.meaning.specs.Lists.{every}
-use Rattle.laws.proofs.Lists.{and_both, every_at, every_append}
 use Rattle.promises.specs.Saved.{MARKS, SLOTS_AT, VARS_AT, LENGTH_AT, part, is_mark, is_set, states_widget, stated, no_widget, widget_of}
 use Rattle.saved.proofs.Pasted.{paste_front, paste_whole}
 
@@ -85,6 +84,15 @@ pub by_marks : (ns : List ℤ) (m : Bool) → STATE_NUMBERS ≤ length ns → lt
 unfolding states_widget
 by_marks ns m h e f = rw (le-leb STATE_NUMBERS (length ns) h, e) f
 
+-- a test for 0 or more, as one for less
+pub not_below : (x : ℤ) → le_z (pos 0) x ≡ true → lt_z x (pos 0) ≡ false
+not_below (pos n) h = le-ltb n 0 (omega arith)
+not_below (negsuc n) h = absurd (false≢true h)
+
+pub below : (x : ℤ) → le_z (pos 0) x ≡ false → lt_z x (pos 0) ≡ true
+below (pos n) h = absurd (false≢true (sym h ∙ le-leb 0 n (omega arith)))
+below (negsuc n) h = refl
+
 -- ---- the widget
 
 pub none_loaded : (ns : List ℤ) (u : State) → states_widget ns ≡ false → length ns ≡ 0 → u ≡ no_widget false → u ≡ widget_of ns
@@ -96,11 +104,6 @@ pub no_widget_loaded : (ns : List ℤ) (u : State) (b : Bool) → states_widget 
     → u ≡ no_widget (not b) → u ≡ widget_of ns
 unfolding widget_of
 no_widget_loaded ns u b h f e = rw (h, ← f) e
-
--- a part that was copied into an array of its size
-pub copied_part : (d ns now : List ℤ) (at n : ℕ) → length d ≡ n → now ≡ paste d 0 (drop at ns) n → now ≡ part at n ns
-unfolding part
-copied_part d ns now at n l e = e ∙ paste_whole d (drop at ns) n l
 
 pub all_loaded : (ns : List ℤ) (s : Bool) (active : List Bool) (slots vars : List ℤ) (q : Queue) → states_widget ns ≡ true
     → s ≡ eq_z (get_or ns 0 (pos 0)) (pos 1) → active ≡ map is_set (part 1 STATES ns) → slots ≡ part SLOTS_AT STATES ns

@@ -9,6 +9,7 @@ use borrow.Author.Tests.{lt-ltb, le-ltb}
 use lib.IntN.{ℤ, pos}
 use lib.ListN.{length, get_or, take, drop, set, length-map, length-append, get_or-map}
 use lib.Seq.{paste, set_at, length-take-le}
+use mir.Val.{bool_byte}
 use Rattle.sizes.specs.Sizes.{STATES, VARIABLES, QUEUE, STATE_NUMBERS}
 use Rattle.queue.specs.declared.Queue.{Queue}
 use Rattle.queue.specs.Numbers.{QUEUE_NUMBERS, item_numbers, told_length, numbers_of}
@@ -17,6 +18,12 @@ use Rattle.meaning.specs.declared.State.{State}
 use Rattle.invariants.specs.Good.{Sized}
 use Rattle.promises.specs.Saved.{MARKS, SLOTS_AT, VARS_AT, LENGTH_AT, mark, small, saved, states_widget, stored, moved_on}
 use Rattle.saved.proofs.Pasted.{paste_more, on, paste_next}
+
+-- a truth value as a number
+pub mark_byte : (b : Bool) → pos (bool_byte b) ≡ mark b
+unfolding mark
+mark_byte true = refl
+mark_byte false = refl
 
 -- one more mark is written
 pub mark_more : (d now : List ℤ) (active : List Bool) (i : ℕ) (x : ℤ) → MARKS ≤ length d → length active ≡ STATES → i < STATES

@@ -32,40 +32,20 @@ const LENGTH_AT: usize = VARS_AT + VARIABLES;
 pub fn small(n: usize) -> i32
     ensures { result ≡ small n }
 {
-    if n < numbers::NOWHERE {
-        return numbers::number(n);
-    }
-    -1
+    i32::try_from(n).unwrap_or(-1)
 }
 
 fn mark(b: bool) -> i32
     ensures { result ≡ mark b }
 {
-    if b { 1 } else { 0 }
+    i32::from(b)
 }
 
 // Sets all of the numbers to 0.
 pub fn clear(lent: &mut [i32])
     ensures { lent.new ≡ replicate (length lent.old) (pos 0) }
 {
-    let mut i: usize = 0;
-    while i < lent.len() {
-        lent[i] = 0;
-        i += 1;
-    }
-}
-
-// Copies some numbers from a place of one slice to a place of another.
-fn copy(from: &[i32], at: usize, to: &mut [i32], place: usize, count: usize)
-    requires { (at + count ≤ length from.now) × (place + count ≤ length to.old) }
-    ensures { to.new ≡ paste to.old place (drop at from.now) count }
-{
-    let mut i: usize = 0;
-    while i < count {
-        let n = from[at + i];
-        to[place + i] = n;
-        i += 1;
-    }
+    lent.fill(0);
 }
 
 // ---- numbers to a state
@@ -77,10 +57,8 @@ fn marked(numbers: &[i32]) -> bool
     ensures { result ≡ every is_mark (take marks numbers.now) }
 {
     let mut fit = true;
-    let mut i: usize = 0;
-    while i < MARKS {
-        fit = fit & numbers::between(0, numbers[i], 1);
-        i += 1;
+    for n in &numbers[..MARKS] {
+        fit &= numbers::between(0, *n, 1);
     }
     fit
 }
@@ -89,27 +67,18 @@ fn marked(numbers: &[i32]) -> bool
 fn states_widget(numbers: &[i32]) -> bool
     ensures { result ≡ states_widget numbers.now }
 {
-    if numbers.len() < STATE_NUMBERS {
-        return false;
-    }
-    if numbers::less(numbers[LENGTH_AT], 0) {
-        return false;
-    }
-    marked(numbers)
+    numbers.len() >= STATE_NUMBERS && numbers[LENGTH_AT] >= 0 && marked(numbers)
 }
 
 // A widget with no state active, started or not: the calls refuse it, with 6 or 7.
 fn no_widget(started: bool) -> State
     ensures { result ≡ no_widget started }
 {
-    let active = [false; STATES];
-    let slots = [-1; STATES];
-    let vars = [0; VARIABLES];
     State {
-        started: started,
-        active: active,
-        slots: slots,
-        vars: vars,
+        started,
+        active: [false; STATES],
+        slots: [-1; STATES],
+        vars: [0; VARIABLES],
         queue: Queue::empty(),
     }
 }
@@ -118,12 +87,9 @@ fn load_active(numbers: &[i32]) -> [bool; STATES]
     requires { marks ≤ length numbers.now }
     ensures { result ≡ map is_set (part 1 states numbers.now) }
 {
-    let mut active: [bool; STATES] = [false; STATES];
-    let mut i: usize = 0;
-    while i < STATES {
-        let set = numbers::same(numbers[1 + i], 1);
-        active[i] = set;
-        i += 1;
+    let mut active = [false; STATES];
+    for (i, on) in active.iter_mut().enumerate() {
+        *on = numbers[1 + i] == 1;
     }
     active
 }
@@ -132,8 +98,8 @@ fn load_queue(numbers: &[i32]) -> Queue
     requires { all ≤ length numbers.now }
     ensures { result ≡ queue_by (part length_at queue_numbers numbers.now) }
 {
-    let mut waiting: [i32; QUEUE_NUMBERS] = [0; QUEUE_NUMBERS];
-    copy(numbers, LENGTH_AT, &mut waiting, 0, QUEUE_NUMBERS);
+    let mut waiting = [0; QUEUE_NUMBERS];
+    waiting.copy_from_slice(&numbers[LENGTH_AT..STATE_NUMBERS]);
     held(&waiting)
 }
 
@@ -142,24 +108,18 @@ pub fn load(numbers: &[i32]) -> State
     ensures { result ≡ widget_of numbers.now }
 {
     if !states_widget(numbers) {
-        if numbers.len() == 0 {
-            return no_widget(false);
-        }
-        return no_widget(!numbers::same(numbers[0], 0));
+        return no_widget(!numbers.is_empty() && numbers[0] != 0);
     }
-    let started = numbers::same(numbers[0], 1);
-    let active = load_active(numbers);
-    let mut slots: [i32; STATES] = [0; STATES];
-    copy(numbers, SLOTS_AT, &mut slots, 0, STATES);
-    let mut vars: [i32; VARIABLES] = [0; VARIABLES];
-    copy(numbers, VARS_AT, &mut vars, 0, VARIABLES);
-    let queue = load_queue(numbers);
+    let mut slots = [0; STATES];
+    slots.copy_from_slice(&numbers[SLOTS_AT..VARS_AT]);
+    let mut vars = [0; VARIABLES];
+    vars.copy_from_slice(&numbers[VARS_AT..LENGTH_AT]);
     State {
-        started: started,
-        active: active,
-        slots: slots,
-        vars: vars,
-        queue: queue,
+        started: numbers[0] == 1,
+        active: load_active(numbers),
+        slots,
+        vars,
+        queue: load_queue(numbers),
     }
 }
 
@@ -169,11 +129,8 @@ fn store_active(active: [bool; STATES], numbers: &mut [i32])
     requires { marks ≤ length numbers.old }
     ensures { numbers.new ≡ paste numbers.old 1 (map mark active) states }
 {
-    let mut i: usize = 0;
-    while i < STATES {
-        let m = mark(active[i]);
-        numbers[1 + i] = m;
-        i += 1;
+    for (i, on) in active.iter().enumerate() {
+        numbers[1 + i] = mark(*on);
     }
 }
 
@@ -184,7 +141,7 @@ fn store_queue(queue: Queue, numbers: &mut [i32])
 {
     let len = small(queue.len);
     let waiting = lend(queue);
-    copy(&waiting, 0, numbers, LENGTH_AT, QUEUE_NUMBERS);
+    numbers[LENGTH_AT..STATE_NUMBERS].copy_from_slice(&waiting);
     numbers[LENGTH_AT] = len;
 }
 
@@ -195,15 +152,17 @@ pub fn store(state: State, numbers: &mut [i32])
     if numbers.len() < STATE_NUMBERS {
         return;
     }
-    let started = mark(state.started);
-    let active = state.active;
-    let slots = state.slots;
-    let vars = state.vars;
-    let queue = state.queue;
-    numbers[0] = started;
+    let State {
+        started,
+        active,
+        slots,
+        vars,
+        queue,
+    } = state;
+    numbers[0] = mark(started);
     store_active(active, numbers);
-    copy(&slots, 0, numbers, SLOTS_AT, STATES);
-    copy(&vars, 0, numbers, VARS_AT, VARIABLES);
+    numbers[SLOTS_AT..VARS_AT].copy_from_slice(&slots);
+    numbers[VARS_AT..LENGTH_AT].copy_from_slice(&vars);
     store_queue(queue, numbers);
 }
 
@@ -211,8 +170,7 @@ pub fn store(state: State, numbers: &mut [i32])
 pub fn move_on(state: State, numbers: &mut [i32])
     ensures { numbers.new ≡ moved_on state numbers.old }
 {
-    if !states_widget(numbers) {
-        return;
+    if states_widget(numbers) {
+        store(state, numbers);
     }
-    store(state, numbers);
 }

@@ -13,9 +13,7 @@ use saved::{move_on, small, store};
 pub fn tell(answer: Answer, count: usize, report: &mut [i32; 2]) -> i32
     ensures { Told answer count result report.new }
 {
-    let place = small(answer.place);
-    let told = small(count);
-    *report = [place, told];
+    *report = [small(answer.place), small(count)];
     small(answer.number)
 }
 
@@ -23,14 +21,10 @@ pub fn tell(answer: Answer, count: usize, report: &mut [i32; 2]) -> i32
 pub fn end(called: Called, widget: &mut [i32], report: &mut [i32; 2]) -> i32
     ensures { Ends called widget.old result report.new widget.new }
 {
-    let answer = called.answer;
-    let entries = called.entries;
-    if answer.number != 0 {
-        return tell(answer, entries, report);
+    if called.answer.number == 0 {
+        store(called.state, widget);
     }
-    let after = called.state;
-    store(after, widget);
-    tell(answer, entries, report)
+    tell(called.answer, called.entries, report)
 }
 
 // The answer where too few numbers are lent to store a widget: what the chart or plan is refused for comes first.
@@ -51,11 +45,9 @@ pub fn stop(replayed: Replayed, widget: &mut [i32], report: &mut [i32; 3]) -> i3
     ensures { Stops replayed widget.old result report.new widget.new }
 {
     let answer = replayed.answer;
-    let after = replayed.state;
-    move_on(after, widget);
-    let place = small(answer.place);
+    move_on(replayed.state, widget);
     let entries = small(replayed.entries);
     let done = small(replayed.done);
-    *report = [place, entries, done];
+    *report = [small(answer.place), entries, done];
     small(answer.number)
 }

@@ -1,11 +1,8 @@
 -- `mark` says 1 for true and 0 for false. Assumes nothing.
-use Rattle.promises.specs.Saved.{mark}
+use mathlib.Core.Path.{◌∙◌}
+use Rattle.numbers.proofs.Laws.{back32}
+use Rattle.saved.proofs.Storing.{mark_byte}
 use Rattle.saved.proofs.mark.Goals as goal
 
-pub returns-then-b : goal.returns-then-b
-unfolding mark
-returns-then-b c = rw c.if-b.true
-
-pub returns-else-b : goal.returns-else-b
-unfolding mark
-returns-else-b c = rw c.if-b.false
+pub returns : goal.returns
+returns c = back32 _ c.from.type_inv ∙ c.from.ensures ∙ mark_byte c.args.b

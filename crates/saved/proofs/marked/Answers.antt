@@ -1,29 +1,28 @@
 -- `marked` tests mark by mark. Assumes nothing.
-use mathlib.Core.Path.{◌≡◌, refl}
-use Prim.Native.Nat.{◌<◌, ◌^◌}
-use borrow.Author.Rules.{rules}
-use lib.IntN.{pos}
-use lib.ListN.{get_or}
+use Rattle.std.proofs.Common.{rules, refl, ◌<◌, ◌^◌, ◌≡◌, get_or, pos, take, arith}
 use lib.Signed.{mag}
-use native.Mathlib.Omega.{arith}
+use lib.Seq.{length-take-le, get_or-take}
 use Rattle.numbers.proofs.Laws.{back32}
 use Rattle.meaning.specs.Lists.{every}
 use Rattle.promises.specs.Saved.{MARKS}
 use Rattle.saved.proofs.Loading.{marked_more}
 use Rattle.saved.proofs.marked.Goals as goal
 
-pub loop-i-init : goal.loop-i-init
+pub loop-n-init : goal.loop-n-init
 unfolding every
-loop-i-init c = (omega arith, refl)
+loop-n-init c = refl
 
-pub loop-i-preserved : goal.loop-i-preserved
-loop-i-preserved c =
-    let f : mag (get_or c.args.numbers.now c.loop-i.i (pos 0)) < 2 ^ 31 = search rules in (
-      omega arith,
-      marked_more c.args.numbers.now c.loop-i.i (omega arith) c.loop-i.invariant.1 (rw (back32 _ f) at c.between-fit.ensures),
-    )
+pub loop-n-preserved : goal.loop-n-preserved
+loop-n-preserved c =
+    let ns = c.args.numbers.now in
+    let i = c.loop-n.n-index in
+    let k = length-take-le MARKS ns c.requires in
+    let f : mag (get_or (take MARKS ns) i (pos 0)) < 2 ^ 31 = search rules in
+    marked_more ns i (omega arith) c.loop-n.invariant
+    (rw (back32 _ f, get_or-take MARKS ns i (pos 0) (omega arith)) at c.between-fit.ensures)
 
 pub returns : goal.returns
 returns c =
-    let e : c.loop-i.i ≡ MARKS = omega arith in
-    rw e at c.loop-i.invariant.1
+    let k = length-take-le MARKS c.args.numbers.now c.requires in
+    let e : c.loop-n.n-index ≡ MARKS = omega arith in
+    rw e at c.loop-n.invariant

@@ -5,13 +5,9 @@ use Rattle.telling.proofs.Told.{three}
 use Rattle.telling.proofs.stop.Goals as goal
 
 pub returns : goal.returns
-returns c =
-    let small3 = c.small-done in
-    let small2 = c.small-entries in
-    let small1 = c.small-place in
-    record {
-      answer = back32 _ c.small.type_inv ∙ c.small.ensures;
-      told = three (back32 _ small1.type_inv ∙ small1.ensures) (back32 _ small2.type_inv ∙ small2.ensures)
-          (back32 _ small3.type_inv ∙ small3.ensures);
-      widget = c.move_on.ensures;
-    }
+returns c = record {
+  answer = back32 _ c.small-2.type_inv ∙ c.small-2.ensures;
+  told = three (back32 _ c.small.type_inv ∙ c.small.ensures) (back32 _ c.small-entries.type_inv ∙ c.small-entries.ensures)
+      (back32 _ c.small-done.type_inv ∙ c.small-done.ensures);
+  widget = c.move_on.ensures;
+}
