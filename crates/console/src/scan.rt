@@ -136,7 +136,8 @@ fn posts(event: Result<i32, Fault>, argument: Result<i32, Fault>) -> Input
     Some(Item { event, arg })
 }
 
-// The line after what a part of the input has of it from a place on: up to its LF, or to the part's end.
+// The line after what a part of the input has of it from a place on: up to its LF, or to the part's end. A sub-slice in place of the place
+// would be no plainer: the walk over a part goes on from the place that is found, and would have to add the two up each time.
 pub fn collect(part: &[u8], from: usize, scan: Scan) -> Collected
     requires { from ≤ length part.now }
     ensures { Collects part.now from scan result }

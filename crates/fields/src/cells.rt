@@ -92,6 +92,7 @@ fn letter_said(letter: u8, letters: &[u8]) -> Result<Said, Fault>
 }
 
 // h and a number.
+#[tactic(auto, using(crate::proofs::CellLaws::history_empty, crate::proofs::CellLaws::history_is, crate::proofs::CellLaws::history_not))]
 fn history_said(s: &[u8]) -> Result<Said, Fault>
     ensures { said result ≡ read_field target_history 0 s.now }
 {
@@ -106,6 +107,7 @@ fn history_said(s: &[u8]) -> Result<Said, Fault>
 }
 
 // A field of record n.
+#[tactic(auto, unfolding(meaning::specs::Line::read_field, forms::specs::Table::field_of, meaning::specs::Lists::has))]
 pub fn read_field(s: &[u8], field: u8, n: usize) -> Result<Said, Fault>
     ensures { said result ≡ read_field (field_of field) n s.now }
 {

@@ -37,6 +37,7 @@ pub fn with_digit(n: u64, b: u8) -> Option<u64>
 }
 
 // Digits alone.
+#[tactic(auto, using(crate::proofs::ReadLaws::value_none, crate::proofs::ReadLaws::value_more, crate::proofs::ReadLaws::value_done), unfolding(meaning::specs::Number::capped))]
 fn digits_of(s: &[u8]) -> Result<u64, Fault>
     ensures { result ≡ capped (value 0 s.now) }
 {
@@ -52,23 +53,19 @@ fn digits_of(s: &[u8]) -> Result<u64, Fault>
 }
 
 // A number without a sign: 0 alone, or digits that do not start with 0.
+#[tactic(auto, using(crate::proofs::ReadLaws::nat_empty, crate::proofs::ReadLaws::nat_zero, crate::proofs::ReadLaws::nat_lead, crate::proofs::ReadLaws::nat_plain))]
 pub fn natural(s: &[u8]) -> Result<u64, Fault>
     ensures { result ≡ natural_of s.now }
 {
-    let [first, rest @ ..] = s else {
-        return Err(Fault::Wrong);
-    };
-    if *first != b'0' {
-        return digits_of(s);
-    }
-    if rest.is_empty() {
-        Ok(0)
-    } else {
-        Err(Fault::Wrong)
+    match s {
+        [b'0'] => Ok(0),
+        [] | [b'0', ..] => Err(Fault::Wrong),
+        _ => digits_of(s),
     }
 }
 
 // A value as a number with no sign.
+#[tactic(auto, unfolding(meaning::specs::Number::capped))]
 pub fn plain(n: u64) -> Result<i32, Fault>
     ensures { result ≡ with_no_sign (capped (Some n)) }
 {
@@ -80,6 +77,7 @@ pub fn plain(n: u64) -> Result<i32, Fault>
 }
 
 // Behind a minus: there is no minus zero.
+#[tactic(auto, unfolding(meaning::specs::Number::capped))]
 pub fn negative(n: u64) -> Result<i32, Fault>
     ensures { result ≡ minus (capped (Some n)) }
 {
@@ -90,6 +88,7 @@ pub fn negative(n: u64) -> Result<i32, Fault>
 }
 
 // A field as a number.
+#[tactic(auto, using(crate::proofs::ReadLaws::num_empty, crate::proofs::ReadLaws::minus_is, crate::proofs::ReadLaws::minus_not, crate::proofs::ReadLaws::plain_is, crate::proofs::ReadLaws::plain_not))]
 pub fn number(s: &[u8]) -> Result<i32, Fault>
     ensures { result ≡ number_of s.now }
 {
