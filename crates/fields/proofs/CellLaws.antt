@@ -45,3 +45,6 @@ history_is [] h e v l n g = absurd (omega arith)
 history_is (b ∷ bs) h e v l n g =
     let k : suc (length bs) - 1 ≡ length bs = omega arith in
     rw (e, g, n, k, take-length bs)
+
+-- what the function cites of these
+pub ruleset of_history = (history_empty, history_is, history_not)

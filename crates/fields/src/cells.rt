@@ -92,7 +92,7 @@ fn letter_said(letter: u8, letters: &[u8]) -> Result<Said, Fault>
 }
 
 // h and a number.
-#[tactic(auto, using(crate::proofs::CellLaws::history_empty, crate::proofs::CellLaws::history_is, crate::proofs::CellLaws::history_not))]
+#[tactic(auto, using(crate::proofs::CellLaws::of_history))]
 fn history_said(s: &[u8]) -> Result<Said, Fault>
     ensures { said result ≡ read_field target_history 0 s.now }
 {

@@ -26,7 +26,7 @@ pub struct Cut<'a> {
 }
 
 // A part cut at its first separator.
-#[tactic(auto, using(crate::proofs::SplitLaws::cut_some, crate::proofs::SplitLaws::cut_none))]
+#[tactic(auto, using(crate::proofs::SplitLaws::of_cut))]
 pub fn cut_at(s: &[u8], sep: u8) -> Cut<'_>
     ensures { split sep s.now ≡ cut_of sep result.first.now result.rest }
 {
@@ -43,7 +43,7 @@ pub fn cut_at(s: &[u8], sep: u8) -> Cut<'_>
 }
 
 // Field k of a line; an empty part where there is none.
-#[tactic(auto, using(crate::proofs::SplitLaws::field_first, crate::proofs::SplitLaws::field_none, crate::proofs::SplitLaws::field_next))]
+#[tactic(auto, using(crate::proofs::SplitLaws::of_field))]
 pub fn field(s: &[u8], k: usize) -> &[u8]
     ensures { result.now ≡ field_of (fields s.now) k }
 {

@@ -118,3 +118,10 @@ pub num_empty : (s : List ℕ) → length s < 1 → Err Wrong ≡ number_of s
 unfolding number_of
 num_empty [] h = refl
 num_empty (b ∷ bs) h = absurd (omega arith)
+
+-- what each function cites of these
+pub ruleset of_digits = (value_none, value_more, value_done)
+
+pub ruleset of_natural = (nat_empty, nat_zero, nat_lead, nat_plain)
+
+pub ruleset of_number = (num_empty, minus_is, minus_not, plain_is, plain_not)

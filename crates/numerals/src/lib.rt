@@ -37,23 +37,23 @@ pub fn with_digit(n: u64, b: u8) -> Option<u64>
 }
 
 // Digits alone.
-#[tactic(auto, using(crate::proofs::ReadLaws::value_none, crate::proofs::ReadLaws::value_more, crate::proofs::ReadLaws::value_done), unfolding(meaning::specs::Number::capped))]
+#[tactic(auto, using(crate::proofs::ReadLaws::of_digits), unfolding(meaning::specs::Number::capped))]
 fn digits_of(s: &[u8]) -> Result<u64, Fault>
     ensures { result ≡ capped (value 0 s.now) }
 {
-    let mut n = 0;
+    let mut so_far = 0;
     for b in s {
-        n = with_digit(n, *b).ok_or(Fault::Wrong)?;
+        so_far = with_digit(so_far, *b).ok_or(Fault::Wrong)?;
     }
-    if n < BEYOND {
-        Ok(n)
+    if so_far < BEYOND {
+        Ok(so_far)
     } else {
         Err(Fault::Beyond)
     }
 }
 
 // A number without a sign: 0 alone, or digits that do not start with 0.
-#[tactic(auto, using(crate::proofs::ReadLaws::nat_empty, crate::proofs::ReadLaws::nat_zero, crate::proofs::ReadLaws::nat_lead, crate::proofs::ReadLaws::nat_plain))]
+#[tactic(auto, using(crate::proofs::ReadLaws::of_natural))]
 pub fn natural(s: &[u8]) -> Result<u64, Fault>
     ensures { result ≡ natural_of s.now }
 {
@@ -88,7 +88,7 @@ pub fn negative(n: u64) -> Result<i32, Fault>
 }
 
 // A field as a number.
-#[tactic(auto, using(crate::proofs::ReadLaws::num_empty, crate::proofs::ReadLaws::minus_is, crate::proofs::ReadLaws::minus_not, crate::proofs::ReadLaws::plain_is, crate::proofs::ReadLaws::plain_not))]
+#[tactic(auto, using(crate::proofs::ReadLaws::of_number))]
 pub fn number(s: &[u8]) -> Result<i32, Fault>
     ensures { result ≡ number_of s.now }
 {
