@@ -1,4 +1,3 @@
-pub mod ScanLaws
 pub mod Lines
 pub mod ReportLaws
 pub mod Room

@@ -3,16 +3,14 @@
 use mathlib.Core.Path.{◌≡◌, refl, sym, ◌∙◌}
 use mathlib.Core.Bool.{Bool, true, false, cond}
 use mathlib.Core.List.{List, [], ◌∷◌}
-use mathlib.Core.Option.{Option, none}
+use Rattle.std.proofs.Common.{ℤ, Option, None, Some, Result, Ok, Err}
 use Prim.Native.Nat.{ℕ, zero}
 use lib.Dec.{ltb, eqb}
-use Rattle.meaning.specs.declared.Num.{Num}
-use Rattle.meaning.specs.declared.Num.TheVariants as num
-use Rattle.meaning.specs.declared.Input.{Input}
-use Rattle.meaning.specs.declared.Input.TheVariants.{Wrong}
+use Rattle.meaning.specs.declared.Fault.{Fault}
+use Rattle.meaning.specs.declared.Fault.TheVariants as fault
 use Rattle.meaning.specs.Number.{value, natural, capped, natural_of, with_no_sign, minus, number_of, alone, unless_zero, signed}
 use Rattle.meaning.specs.Split.{TAB, Parts, all, cut, split, fields}
-use Rattle.meaning.specs.Program.{input_by, input_of}
+use Rattle.meaning.specs.Program.{Input, another_form, input_by, input_of}
 use Rattle.console.specs.declared.scan.Digits.{Digits}
 use Rattle.console.specs.declared.scan.Digits.TheVariants.{Start, Minus, Zero, Plain, Negative, Broken}
 use Rattle.console.specs.declared.scan.Scan.{Scan}
@@ -28,17 +26,17 @@ digits_on p [] = p
 digits_on p (b ∷ bs) = digits_on (digits_fed p b) bs
 
 -- the number of a field that went on from p over these bytes
-abbrev read : Digits → List ℕ → Num
+abbrev read : Digits → List ℕ → Result ℤ Fault
 read p bs = digits_number (digits_on p bs)
 
-broken : (bs : List ℕ) → read Broken bs ≡ num.Not
+broken : (bs : List ℕ) → read Broken bs ≡ Err fault.Wrong
 unfolding digits_on digits_fed digits_number
 broken [] = refl
 broken (b ∷ bs) = broken bs
 
 -- one byte after digits of a value: the field and the value agree where they do so after one more digit
-module _ (b w : ℕ) (bs : List ℕ) (p : Digits) (f : Option ℕ → Num) (n : f none ≡ num.Not) (ih : read p bs ≡ f (value w bs)) where
-  digit_on : (s t : Bool) → read (cond s Broken (cond t Broken p)) bs ≡ f (cond s none (cond t none (value w bs)))
+module _ (b w : ℕ) (bs : List ℕ) (p : Digits) (f : Option ℕ → Result ℤ Fault) (n : f None ≡ Err fault.Wrong) (ih : read p bs ≡ f (value w bs)) where
+  digit_on : (s t : Bool) → read (cond s Broken (cond t Broken p)) bs ≡ f (cond s None (cond t None (value w bs)))
   digit_on true t = broken bs ∙ sym n
   digit_on false true = broken bs ∙ sym n
   digit_on false false = ih
@@ -63,7 +61,7 @@ zero_on [] = refl
 zero_on (b ∷ bs) = broken bs
 
 -- behind a minus there is no zero at all
-zero_behind : (bs : List ℕ) → num.Not ≡ minus (capped (alone bs))
+zero_behind : (bs : List ℕ) → Err fault.Wrong ≡ minus (capped (alone bs))
 unfolding capped
 zero_behind [] = refl
 zero_behind (b ∷ bs) = refl
@@ -97,7 +95,7 @@ digits_reads (b ∷ bs) = go (eqb b MINUS)
 
 -- ---- the fields of a line
 
-more_on : (bs : List ℕ) → line_at (scan_on More bs) ≡ Wrong
+more_on : (bs : List ℕ) → line_at (scan_on More bs) ≡ another_form
 unfolding scan_on fed line_at
 more_on [] = refl
 more_on (b ∷ bs) = more_on bs
@@ -105,7 +103,7 @@ more_on (b ∷ bs) = more_on bs
 -- in the argument: a further field makes the line wrong
 abbrev unless_more : List (List ℕ) → Input → Input
 unless_more [] l = l
-unless_more (x ∷ xs) l = Wrong
+unless_more (x ∷ xs) l = another_form
 
 argument_on : (e p : Digits) (bs : List ℕ) → line_at (scan_on (Argument e p) bs)
     ≡ unless_more (split TAB bs).rest (input_by (digits_number e) (read p (split TAB bs).first))
@@ -122,9 +120,9 @@ argument_on e p (b ∷ bs) = go (eqb b TAB) (split TAB bs) (argument_on e (digit
 
 -- in the event: the argument is the one further field
 abbrev with_fields : Digits → List (List ℕ) → Input
-with_fields e [] = Wrong
+with_fields e [] = another_form
 with_fields e (a ∷ []) = input_by (digits_number e) (number_of a)
-with_fields e (a ∷ b ∷ more) = Wrong
+with_fields e (a ∷ b ∷ more) = another_form
 
 from_tab : (e : Digits) (x : List ℕ) (r : List (List ℕ)) → unless_more r (input_by (digits_number e) (read Start x)) ≡ with_fields e (x ∷ r)
 from_tab e x [] = rw (digits_reads x)

@@ -5,10 +5,9 @@ use mathlib.Core.List.{List, [], ◌∷◌, ◌++◌, append_assoc, append-nil}
 use Prim.Native.Nat.{ℕ}
 use lib.Dec.{eqb}
 use Rattle.meaning.specs.declared.State.{State}
-use Rattle.meaning.specs.declared.Input.{Input}
 use Rattle.meaning.specs.Chart.{Chart}
 use Rattle.meaning.specs.Split.{LF, Parts, all, onto, cut, split, lines, fields}
-use Rattle.meaning.specs.Program.{Turn, do_line, turns, session, input_of, input_lines}
+use Rattle.meaning.specs.Program.{Input, Turn, do_line, turns, session, input_of, input_lines}
 use Rattle.console.specs.declared.scan.Scan.{Scan}
 use Rattle.console.specs.Scan.{empty, fed, line_at, began, scan_on, scan_of}
 use Rattle.console.specs.Session.{Turns, Under, by_end, passed, passed_all, finished, all_printed}

@@ -89,9 +89,10 @@ module _ (part : List ℕ) (from : ℕ) (s : Scan) where
     }
 
     -- at the part's end, and at LF
-    pub collects_all : length part ≤ i → Collects part from s (record { upto = i; scan = here })
+    pub collects_all : length part ≤ i → Collects part from s (record { upto = length part; scan = here })
     collects_all h =
-        record { order = w.order; within = w.within; none = w.none; line = w.line; stop = λ k. absurd (omega arith) }
+        let e : length part ≡ i = omega (arith, w.within) in
+        rw e (record { order = w.order; within = w.within; none = w.none; line = w.line; stop = λ k. absurd (omega arith) })
 
     pub collects_line : get_or part i 0 ≡ LF → Collects part from s (record { upto = i; scan = here })
     collects_line e = record { order = w.order; within = w.within; none = w.none; line = w.line; stop = λ k. e }

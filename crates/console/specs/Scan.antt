@@ -1,14 +1,11 @@
 -- The input line under way (01, the end of "Checked by example"): what it is after each byte, and what line it is at the end.
 -- That this is `Line-of (fields bs)` for every list of bytes is proved in proofs/Lines. Assumes nothing.
-use Rattle.std.specs.Prelude.{ℕ, Bool, true, false, cond, List, [], ◌∷◌, ltb, eqb}
-use Rattle.std.proofs.Math.Option.{some}
-use Rattle.meaning.specs.declared.Num.{Num}
-use Rattle.meaning.specs.declared.Num.TheVariants as num
-use Rattle.meaning.specs.Number.{capped, with_no_sign, minus}
+use Rattle.std.specs.Prelude.{ℕ, Bool, true, false, cond, List, [], ◌∷◌, ltb, eqb, ℤ, pos, Option, None, Some, Result, Ok, Err}
+use Rattle.meaning.specs.declared.Fault.{Fault}
+use Rattle.meaning.specs.declared.Fault.TheVariants as fault
+use Rattle.meaning.specs.Number.{BEYOND, capped, with_no_sign, minus}
 use Rattle.meaning.specs.Split.{TAB}
-use Rattle.meaning.specs.declared.Input.{Input}
-use Rattle.meaning.specs.declared.Input.TheVariants.{Wrong}
-use Rattle.meaning.specs.Program.{input_by}
+use Rattle.meaning.specs.Program.{Input, another_form, input_by}
 use Rattle.numerals.specs.Small.{grown}
 use Rattle.console.specs.declared.scan.Digits.{Digits}
 use Rattle.console.specs.declared.scan.Digits.TheVariants.{Start, Minus, Zero, Plain, Negative, Broken}
@@ -41,13 +38,19 @@ digits_fed (Negative v) b = if_digit b (Negative (grown v b))
 digits_fed Broken b = Broken
 
 -- the number that the field is, if it ends here
-unfoldable pub digits_number : Digits → Num
-digits_number Start = num.Not
-digits_number Minus = num.Not
-digits_number Zero = with_no_sign (capped (some 0))
-digits_number (Plain v) = with_no_sign (capped (some v))
-digits_number (Negative v) = minus (capped (some v))
-digits_number Broken = num.Not
+unfoldable pub digits_number : Digits → Result ℤ Fault
+digits_number Start = Err fault.Wrong
+digits_number Minus = Err fault.Wrong
+digits_number Zero = with_no_sign (capped (Some 0))
+digits_number (Plain v) = with_no_sign (capped (Some v))
+digits_number (Negative v) = minus (capped (Some v))
+digits_number Broken = Err fault.Wrong
+
+-- what is posted for a number: "a number past ±1,000,000,000 is posted as 1,000,000,001"
+abbrev pub posted : Result ℤ Fault → Option ℤ
+posted (Ok n) = Some n
+posted (Err fault.Beyond) = Some (pos BEYOND)
+posted (Err fault.Wrong) = None
 
 -- ---- a line under way
 
@@ -74,9 +77,9 @@ fed More b = More
 
 -- the line, if it ends here
 unfoldable pub line_at : Scan → Input
-line_at (Event p) = Wrong
+line_at (Event p) = another_form
 line_at (Argument e a) = input_by (digits_number e) (digits_number a)
-line_at More = Wrong
+line_at More = another_form
 
 -- ---- a list of bytes, fed one after the other
 

@@ -3,9 +3,8 @@
 -- is proved in proofs/Session. Assumes nothing.
 use Rattle.std.specs.Prelude.{ℕ, Bool, true, false, List, [], ◌∷◌, ◌++◌, eqb}
 use Rattle.meaning.specs.declared.State.{State}
-use Rattle.meaning.specs.declared.Input.{Input}
 use Rattle.meaning.specs.Split.{LF}
-use Rattle.meaning.specs.Program.{Turn}
+use Rattle.meaning.specs.Program.{Input, Turn}
 use Rattle.console.specs.declared.scan.Scan.{Scan}
 use Rattle.console.specs.Scan.{empty, fed, line_at, began}
 

@@ -1,5 +1,5 @@
 // What is printed of a call (01: "R, answer, entry count, then the entries, one a line, single spaces"), written into a lent slice.
-ghost use Rattle.std.specs.Prelude.{◌≡◌, ◌+◌, ◌*◌, ◌/◌, ◌≤◌, min, length, take};
+ghost use Rattle.std.specs.Prelude.{◌≡◌, ◌+◌, ◌*◌, ◌≤◌, length, take};
 ghost use Rattle.pen.specs.Pen.{pen, put_all};
 ghost use Rattle.meaning.specs.Widget.{ENTRY as Entry};
 ghost use Rattle.meaning.specs.Program.{entry_lines, report as printed};
@@ -14,9 +14,9 @@ pub const HEAD: usize = 48;
 
 pub const LINE: usize = 36;
 
-const R: u8 = 82;
+const R: u8 = b'R';
 
-const SPACE: u8 = 32;
+const SPACE: u8 = b' ';
 
 // One entry, one line.
 fn put_entry(out: &mut [u8], at: usize, first: i32, second: i32, third: i32) -> usize
@@ -38,21 +38,11 @@ fn put_entries(out: &mut [u8], at: usize, trace: &[i32], n: usize) -> usize
         (pen out.old at)) × (at + Line * n ≤ length out.old → result ≤ at + Line * n) }
 {
     let mut p = at;
-    let mut k: usize = 0;
-    while k < n {
+    for k in 0..n {
         let i = ENTRY * k;
         p = put_entry(out, p, trace[i], trace[i + 1], trace[i + 2]);
-        k += 1;
     }
     p
-}
-
-// How many of so many entries a trace holds.
-fn held_of(entries: usize, numbers: usize) -> usize
-    ensures { result ≡ min entries (numbers / Entry) }
-{
-    let room = numbers / ENTRY;
-    if entries < room { entries } else { room }
 }
 
 // The report of an answer and of the first entries of a trace; of a trace too short for so many, those that it holds. Where the slice
@@ -61,7 +51,7 @@ pub fn report(out: &mut [u8], at: usize, number: usize, trace: &[i32], entries: 
     ensures { (pen out.new result ≡ put_all (printed number (shown entries trace.now)) (pen out.old at))
         × (at + largest trace.now ≤ length out.old → result ≤ at + largest trace.now) }
 {
-    let n = held_of(entries, trace.len());
+    let n = entries.min(trace.len() / ENTRY);
     let a = put(out, at, R);
     let b = put(out, a, SPACE);
     let c = put_digits(out, b, number);

@@ -45,39 +45,5 @@ history_is (b ∷ bs) h e v l n g =
     let k : suc (length bs) - 1 ≡ length bs = omega arith in
     rw (e, g, n, k, take-length bs)
 
--- ---- a field
-
-module _ (n : ℕ) (x : List ℕ) (l : Line) where
-  module _ (v : Result ℤ Fault) (ev : v ≡ number_of x) where
-    pub said_turn : (t : Bool) → t ≡ is_turn v n → l ≡ right_if t [] → l ≡ read_field turn n x
-    unfolding read_field
-    said_turn t et el = rw (el, et, ev)
-
-    pub said_number : l ≡ number_line [] v → l ≡ read_field number n x
-    unfolding read_field
-    said_number el = rw (el, ev)
-
-    pub said_state : l ≡ number_line (pos 0 ∷ []) v → l ≡ read_field target_state n x
-    unfolding read_field
-    said_state el = rw (el, ev)
-
-    pub said_count : (low high : ℕ) → l ≡ count_line low high v → l ≡ read_field (count low high) n x
-    unfolding read_field
-    said_count low high el = rw (el, ev)
-
-  pub said_history : l ≡ read_field target_history 0 x → l ≡ read_field target_history n x
-  unfolding read_field
-  said_history el = el
-
-  module _ (b : ℕ) (eb : b ≡ letter_of x) where
-    pub said_dash : l ≡ right_if (eqb b 45) (ABSENT ∷ []) → l ≡ read_field dash n x
-    unfolding read_field
-    said_dash el = rw (el, eb)
-
-    pub said_in_place : l ≡ right_if (eqb b 45) (ABSENT ∷ ABSENT ∷ []) → l ≡ read_field target_none n x
-    unfolding read_field
-    said_in_place el = rw (el, eb)
-
-    pub said_letter : (ls ms : List ℕ) → ms ≡ ls → l ≡ right_if (has b ms) (pos b ∷ []) → l ≡ read_field (letter ls) n x
-    unfolding read_field
-    said_letter ls ms e el = rw (el, e, eb)
+-- what the function cites of these
+pub ruleset of_history = (history_empty, history_is, history_not)

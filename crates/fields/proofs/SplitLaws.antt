@@ -68,3 +68,8 @@ module _ (first : List ℕ) (rest : Option (Bor (List ℕ))) (s : List ℕ) (e :
   unfolding fields
   field_next zero r n z = absurd (n refl)
   field_next (suc k) r n z = let m : suc k - 1 ≡ k = omega arith in rw (e, z, m)
+
+-- what each function cites of these
+pub ruleset of_cut = (cut_some, cut_none)
+
+pub ruleset of_field = (field_first, field_none, field_next)

@@ -90,6 +90,7 @@ fn letter_said(letter: u8, letters: &[u8]) -> Result<Said, Fault>
 }
 
 // h and a number.
+#[tactic(auto, using(crate::proofs::CellLaws::of_history))]
 fn history_said(s: &[u8]) -> Result<Said, Fault>
     ensures { said result ≡ read_field target_history 0 s.now }
 {
@@ -104,6 +105,7 @@ fn history_said(s: &[u8]) -> Result<Said, Fault>
 }
 
 // A field of record n.
+#[tactic(auto, unfolding(meaning::specs::Line::read_field, forms::specs::Table::field_of, meaning::specs::Lists::has))]
 pub fn read_field(s: &[u8], field: Field, n: usize) -> Result<Said, Fault>
     ensures { said result ≡ read_field (field_of field) n s.now }
 {

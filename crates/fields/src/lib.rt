@@ -26,6 +26,7 @@ pub struct Cut<'a> {
 }
 
 // A part cut at its first separator.
+#[tactic(auto, using(crate::proofs::SplitLaws::of_cut))]
 pub fn cut_at(s: &[u8], sep: u8) -> Cut<'_>
     ensures { split sep s.now ≡ cut_of sep result.first.now result.rest }
 {
@@ -42,6 +43,7 @@ pub fn cut_at(s: &[u8], sep: u8) -> Cut<'_>
 }
 
 // Field k of a line; an empty part where there is none.
+#[tactic(auto, using(crate::proofs::SplitLaws::of_field))]
 pub fn field(s: &[u8], k: usize) -> &[u8]
     ensures { result.now ≡ field_of (fields s.now) k }
 {
@@ -55,7 +57,7 @@ pub fn field(s: &[u8], k: usize) -> &[u8]
     field(rest, k - 1)
 }
 
-// The letter that is the whole of a part, else 0.
+// The letter that is the whole of a part, else 0: a number and no Option, since the definition (`letter_of`) and the forms' letters are numbers.
 pub fn whole(s: &[u8]) -> u8
     ensures { result ≡ letter_of s.now }
 {

@@ -17,7 +17,8 @@ use forms::{ENTRIES, Entry, entry_at};
 use marks::{put_said, room};
 use meaning::Fault;
 
-// The fields of a part, of record n, by the form at entry i of the table.
+// The fields of a part, of record n, by the form at entry i of the table. The place stands beside the numbers, and not in a sub-slice from it
+// on: too few numbers may be lent, so it may lie past their end, which no sub-slice can say.
 pub fn line_by(s: &[u8], i: usize, n: usize, chart: &mut [i32], at: usize) -> Result<(), Fault>
     requires { at + 2 * (entries - i) ≤ nowhere }
     ensures { Taken (read_by (form_at i) n (fields s.now)) at chart.old (mark_of result) chart.new }

@@ -8,6 +8,7 @@ use fields::cells::Said;
 use meaning::Fault;
 
 // Room for a record of number n among at most so many.
+#[tactic(auto, unfolding(meaning::specs::Line::room))]
 pub fn room(n: usize, most: usize) -> Result<(), Fault>
     ensures { mark_of result ≡ room n most }
 {

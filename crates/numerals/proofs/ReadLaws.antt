@@ -37,14 +37,6 @@ module _ (s : List ℕ) (i n : ℕ) where
   unfolding value
   value_done e = rw (e, drop-length s)
 
-pub capped_is : (n : ℕ) → n < BEYOND → Ok n ≡ capped (Some n)
-unfolding capped
-capped_is n h = rw (le-ltb MOST n (omega arith))
-
-pub capped_past : (n : ℕ) → BEYOND ≤ n → Err Beyond ≡ capped (Some n)
-unfolding capped
-capped_past n h = rw (lt-ltb MOST n (omega arith))
-
 -- a natural number that was read is in the range
 pub nat_small : (bs : List ℕ) → Small (natural_of bs)
 unfolding natural_of capped
@@ -68,21 +60,17 @@ unfolding natural_of natural capped
 nat_empty [] h = refl
 nat_empty (b ∷ bs) h = absurd (omega arith)
 
-pub nat_zero : (s : List ℕ) → 1 ≤ length s → true ≡ eqb (length (behind s)) 0 → get_or s 0 0 ≡ 48 → Ok 0 ≡ natural_of s
+pub nat_zero : (s : List ℕ) → 1 ≤ length s → length s < 2 → get_or s 0 0 ≡ 48 → Ok 0 ≡ natural_of s
 unfolding natural_of natural capped
 nat_zero [] g h e = absurd (omega arith)
 nat_zero (b ∷ []) g h e = rw e
-nat_zero (b ∷ c ∷ bs) g h e =
-    let k : suc (suc (length bs)) - 1 ≡ suc (length bs) = omega arith in
-    let z = rw (k, take-length bs) at h in
-    let y = eqb-true (suc (length bs)) 0 (sym z) in
-    absurd (omega arith)
+nat_zero (b ∷ c ∷ bs) g h e = absurd (omega arith)
 
-pub nat_lead : (s : List ℕ) → 1 ≤ length s → false ≡ eqb (length (behind s)) 0 → get_or s 0 0 ≡ 48 → Err Wrong ≡ natural_of s
+pub nat_lead : (s : List ℕ) → 2 ≤ length s → get_or s 0 0 ≡ 48 → Err Wrong ≡ natural_of s
 unfolding natural_of natural capped
-nat_lead [] g h e = absurd (omega arith)
-nat_lead (b ∷ []) g h e = cc
-nat_lead (b ∷ c ∷ bs) g h e = rw e
+nat_lead [] h e = absurd (omega arith)
+nat_lead (b ∷ []) h e = absurd (omega arith)
+nat_lead (b ∷ c ∷ bs) h e = rw e
 
 pub nat_plain : (s : List ℕ) → 1 ≤ length s → (get_or s 0 0 ≡ 48 → ⊥) → capped (value 0 s) ≡ natural_of s
 unfolding natural_of natural
@@ -130,3 +118,10 @@ pub num_empty : (s : List ℕ) → length s < 1 → Err Wrong ≡ number_of s
 unfolding number_of
 num_empty [] h = refl
 num_empty (b ∷ bs) h = absurd (omega arith)
+
+-- what each function cites of these
+pub ruleset of_digits = (value_none, value_more, value_done)
+
+pub ruleset of_natural = (nat_empty, nat_zero, nat_lead, nat_plain)
+
+pub ruleset of_number = (num_empty, minus_is, minus_not, plain_is, plain_not)

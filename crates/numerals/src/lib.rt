@@ -37,38 +37,35 @@ pub fn with_digit(n: u64, b: u8) -> Option<u64>
 }
 
 // Digits alone.
+#[tactic(auto, using(crate::proofs::ReadLaws::of_digits), unfolding(meaning::specs::Number::capped))]
 fn digits_of(s: &[u8]) -> Result<u64, Fault>
     ensures { result ≡ capped (value 0 s.now) }
 {
-    let mut n = 0;
+    let mut so_far = 0;
     for b in s {
-        n = with_digit(n, *b).ok_or(Fault::Wrong)?;
+        so_far = with_digit(so_far, *b).ok_or(Fault::Wrong)?;
     }
-    if n < BEYOND {
-        Ok(n)
+    if so_far < BEYOND {
+        Ok(so_far)
     } else {
         Err(Fault::Beyond)
     }
 }
 
 // A number without a sign: 0 alone, or digits that do not start with 0.
+#[tactic(auto, using(crate::proofs::ReadLaws::of_natural))]
 pub fn natural(s: &[u8]) -> Result<u64, Fault>
     ensures { result ≡ natural_of s.now }
 {
-    let [first, rest @ ..] = s else {
-        return Err(Fault::Wrong);
-    };
-    if *first != b'0' {
-        return digits_of(s);
-    }
-    if rest.is_empty() {
-        Ok(0)
-    } else {
-        Err(Fault::Wrong)
+    match s {
+        [b'0'] => Ok(0),
+        [] | [b'0', ..] => Err(Fault::Wrong),
+        _ => digits_of(s),
     }
 }
 
 // A value as a number with no sign.
+#[tactic(auto, unfolding(meaning::specs::Number::capped))]
 pub fn plain(n: u64) -> Result<i32, Fault>
     ensures { result ≡ with_no_sign (capped (Some n)) }
 {
@@ -80,6 +77,7 @@ pub fn plain(n: u64) -> Result<i32, Fault>
 }
 
 // Behind a minus: there is no minus zero.
+#[tactic(auto, unfolding(meaning::specs::Number::capped))]
 pub fn negative(n: u64) -> Result<i32, Fault>
     ensures { result ≡ minus (capped (Some n)) }
 {
@@ -90,6 +88,7 @@ pub fn negative(n: u64) -> Result<i32, Fault>
 }
 
 // A field as a number.
+#[tactic(auto, using(crate::proofs::ReadLaws::of_number))]
 pub fn number(s: &[u8]) -> Result<i32, Fault>
     ensures { result ≡ number_of s.now }
 {

@@ -13,7 +13,7 @@ use lib.Seq.{set_out}
 use mir.Syntax.{w32}
 use mir.Val.{to_z, of_z}
 use Rattle.numbers.specs.Reference.{NOWHERE}
-use Rattle.numerals.proofs.Signed.{back32}
+use Rattle.numbers.proofs.Laws.{back32}
 use borrow.Author.Tests.{eqb-true, eq-eqb, ne_eqb}
 use Rattle.laws.proofs.Lists.{and_left, and_right, and_both}
 use Rattle.meaning.specs.Lists.{every, exists}
