@@ -23,7 +23,7 @@ use plan_rows::{counts, plan_end};
 use sizes::{EVENTS, INSTRUCTIONS, LEAST_STATES, STATES, TRANSITIONS, VARIABLES};
 use variables::vars_keep;
 
-// The counts keep their sizes.
+// The counts keep their sizes. In brackets, as the definition has it: of five tests in a row the search finds no proof.
 #[tactic(auto, unfolding(meaning::specs::WellFormed::counts_keep))]
 fn counts_keep(plan: &[i32]) -> bool
     ensures { result ≡ counts_keep plan.now }
