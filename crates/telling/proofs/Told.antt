@@ -32,10 +32,16 @@ pub ends_done : (c : Called) {ns after : List ℤ} {r s : ℤ} {rep : List ℤ} 
 unfolding kept
 ends_done c z e i t = record { tells = told_as i refl refl t; widget = e ∙ sym (rw (eq-eqb c.answer.number 0 z)) }
 
-pub ends_refused : (c : Called) {ns after : List ℤ} {r s : ℤ} {rep : List ℤ} → (c.answer.number ≡ 0 → ⊥) → after ≡ ns → s ≡ r
+pub ends_refused : (c : Called) {ns : List ℤ} {r s : ℤ} {rep : List ℤ} → (c.answer.number ≡ 0 → ⊥) → s ≡ r
+    → Told c.answer c.entries r rep → Ends c ns s rep ns
+unfolding kept
+ends_refused c z i t = record { tells = told_as i refl refl t; widget = sym (rw (ne_eqb c.answer.number 0 z)) }
+
+-- the same of numbers that a branch left as they were
+pub ends_left : (c : Called) {ns after : List ℤ} {r s : ℤ} {rep : List ℤ} → (c.answer.number ≡ 0 → ⊥) → after ≡ ns → s ≡ r
     → Told c.answer c.entries r rep → Ends c ns s rep after
 unfolding kept
-ends_refused c z e i t = record { tells = told_as i refl refl t; widget = e ∙ sym (rw (ne_eqb c.answer.number 0 z)) }
+ends_left c z e i t = record { tells = told_as i refl refl t; widget = e ∙ sym (rw (ne_eqb c.answer.number 0 z)) }
 
 -- the answer where too few numbers are lent
 pub too_few_6 : (a : Answer) → a.number ≡ 0 → ◌≡◌ {A = Answer} (record { number = FOREIGN; place = 0 }) (too_few a)

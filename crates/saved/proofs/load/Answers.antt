@@ -20,13 +20,13 @@ returns-then-not-states_widget c =
     let ns = c.args.numbers.now in
     let h = sym c.states_widget.ensures ∙ c.if-not-states_widget.true in
     elim c.if-not-is_empty.branch [
-    | then-not-is_empty w ↦
-        let f : mag (get_or ns 0 (pos 0)) < 2 ^ 31 = search rules in
-        no_widget_loaded ns _ _ h (test_bits (get_or ns 0 (pos 0)) (pos 0) f (omega arith))
-        (c.no_widget.ensures ∙ ap no_widget w.no_widget-is)
-    | else-not-is_empty w ↦
-        none_loaded ns _ h (eqb-true (length ns) 0 (sym c.is_empty.ensures ∙ w.if-not-is_empty.false))
-        (c.no_widget.ensures ∙ ap no_widget (w.no_widget-is ∙ ap not w.if-not-is_empty.false))
+      | then-not-is_empty w ↦
+          let f : mag (get_or ns 0 (pos 0)) < 2 ^ 31 = search rules in
+          no_widget_loaded ns _ _ h (test_bits (get_or ns 0 (pos 0)) (pos 0) f (omega arith))
+          (c.no_widget.ensures ∙ ap no_widget w.no_widget-is)
+      | else-not-is_empty w ↦
+          none_loaded ns _ h (eqb-true (length ns) 0 (sym c.is_empty.ensures ∙ w.if-not-is_empty.false))
+          (c.no_widget.ensures ∙ ap no_widget (w.no_widget-is ∙ ap not w.if-not-is_empty.false))
     ]
 
 pub slice_bounds-copy_from_slice-end-2 : goal.slice_bounds-copy_from_slice-end-2
