@@ -44,7 +44,7 @@ use Rattle.numbers.proofs.Laws.{eq_z_refl}
 use Rattle.numbers.specs.Equal.{eq_z}
 use Rattle.numbers.specs.Reference.{ref}
 use Rattle.queue.specs.Queue.{removed}
-use Rattle.queue.specs.declared.Removed.{Removed}
+use Rattle.queue.specs.Queue.{Removed}
 
 -- ---- what passes the chart's test for 6 passes the plan machine's
 

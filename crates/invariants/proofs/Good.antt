@@ -48,7 +48,7 @@ use Rattle.queue.proofs.Tidy.{appended_long}
 use Rattle.queue.proofs.Waiting.{appended_full}
 use Rattle.queue.specs.Queue.{appended}
 use Rattle.queue.specs.declared.Queue.{Queue}
-use Rattle.queue.specs.declared.Queued.{Queued}
+use Rattle.queue.specs.Queue.{Queued}
 use Rattle.sizes.specs.Sizes.{QUEUE}
 
 traced_more : (c : Chart) (out : List ℤ) (e : Entry) → EntryOk c e → Traced c out → Traced c (out ++ numbers e)

@@ -23,7 +23,7 @@ use Rattle.meaning.specs.declared.chart.Owner.TheVariants.{DefaultOf as default_
 use Rattle.meaning.specs.declared.chart.VarRow.{VarRow}
 use Rattle.queue.specs.Queue.{appended}
 use Rattle.queue.specs.declared.Queue.{Queue}
-use Rattle.queue.specs.declared.Queued.{Queued}
+use Rattle.queue.specs.Queue.{Queued}
 
 -- no refusal of a started state that is its chart's own: 6, 14, or 0, which is no refusal
 abbrev pub Fine : ℕ → Type 0

@@ -28,7 +28,7 @@ use Rattle.meaning.specs.declared.chart.Owner.TheVariants.{TransitionOf as trans
 use Rattle.meaning.specs.declared.chart.Target.{Target}
 use Rattle.meaning.specs.declared.chart.Target.TheVariants.{History as history, InPlace as in_place, To as to}
 use Rattle.meaning.specs.declared.chart.VarRow.{VarRow}
-use Rattle.queue.specs.declared.Removed.{Removed}
+use Rattle.queue.specs.Queue.{Removed}
 use Rattle.sizes.specs.Sizes.{NULL_STEPS}
 
 abbrev pub Stays : (Ctx → Type 0) → Step Ctx → Type 0

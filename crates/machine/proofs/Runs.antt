@@ -13,7 +13,7 @@ use Rattle.numbers.specs.Reference.{ref}
 use Rattle.queue.specs.Queue.{no_item, shifted, removed}
 use Rattle.queue.specs.Numbers.{QUEUE_NUMBERS, queue_by, numbers_of}
 use Rattle.queue.specs.declared.Queue.{Queue}
-use Rattle.queue.specs.declared.Removed.{Removed}
+use Rattle.queue.specs.Queue.{Removed}
 use Rattle.queue.proofs.Tidy.{removed_long}
 use Rattle.queue.proofs.Numbers.{held_lent, numbers_long}
 use Rattle.meaning.specs.declared.State.{State}

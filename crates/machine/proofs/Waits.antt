@@ -3,8 +3,8 @@ use mathlib.Core.Path.{◌≡◌, sym, ap, ◌∙◌}
 use mathlib.Core.Bool.{true, false}
 use Prim.Native.Nat.{ℕ}
 use lib.IntN.{ℤ}
-use Rattle.queue.specs.declared.Queued.{Queued}
-use Rattle.queue.specs.declared.Removed.{Removed}
+use Rattle.queue.specs.Queue.{Queued}
+use Rattle.queue.specs.Queue.{Removed}
 use Rattle.queue.specs.Queue.{appended, removed}
 use Rattle.meaning.specs.declared.State.{State}
 use Rattle.meaning.specs.Plan.{Plan}

@@ -6,7 +6,7 @@ use Rattle.std.proofs.Math.Option.{Option, none, some}
 use Rattle.sizes.specs.Sizes.{STATES, VARIABLES}
 use Rattle.numbers.specs.Reference.{ref}
 use Rattle.queue.specs.Queue.{empty_queue, removed}
-use Rattle.queue.specs.declared.Removed.{Removed}
+use Rattle.queue.specs.Queue.{Removed}
 use Rattle.meaning.specs.Answers.{RULE_FAILS, FOREIGN, NOT_STARTED, QUEUE_EMPTY, NO_SUCH_EVENT}
 use Rattle.meaning.specs.declared.State.{State}
 use Rattle.meaning.specs.declared.Answer.{Answer}

@@ -3,7 +3,7 @@
 use Rattle.std.specs.Prelude.{ℕ, zero, suc, Bool, true, false, cond, List, [], ◌∷◌, ℤ, pos, ◌+ℤ◌, eqb, Option, None, Some}
 use Rattle.numbers.specs.Hold.{hold_z}
 use Rattle.queue.specs.Queue.{appended}
-use Rattle.queue.specs.declared.Queued.{Queued}
+use Rattle.queue.specs.Queue.{Queued}
 use Rattle.meaning.specs.Answers.{QUEUE_FULL}
 use Rattle.meaning.specs.declared.State.{State}
 use Rattle.meaning.specs.Steps.{Res, ok, refuse, Step, ◌then◌, require, look, each}

@@ -2,7 +2,7 @@
 -- first over a plan that is well formed, then over any list of numbers. The effects are those of the reaction. Assumes nothing.
 use Rattle.std.specs.Prelude.{ℕ, zero, suc, Bool, true, false, ◌&&◌, List, [], ◌∷◌, take, drop, ℤ, pos, negsuc, eqb, leb, ltb, Option, None, Some}
 use Rattle.numbers.specs.Equal.{eq_z}
-use Rattle.queue.specs.declared.Removed.{Removed}
+use Rattle.queue.specs.Queue.{Removed}
 use Rattle.meaning.specs.Answers.{NOT_A_PLAN}
 use Rattle.meaning.specs.declared.State.{State}
 use Rattle.meaning.specs.Steps.{Res, ok, refuse, Step, ◌then◌, each}

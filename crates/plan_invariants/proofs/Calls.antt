@@ -35,7 +35,7 @@ use Rattle.plan_invariants.specs.Names.{of_plan}
 use Rattle.queue.proofs.Tidy.{removed_long}
 use Rattle.queue.proofs.Waiting.{removed_front, removed_none}
 use Rattle.queue.specs.Queue.{empty_queue, no_item as none_item, removed}
-use Rattle.queue.specs.declared.Removed.{Removed}
+use Rattle.queue.specs.Queue.{Removed}
 use Rattle.sizes.specs.Sizes.{QUEUE, STATES, VARIABLES}
 
 -- what a call from the state u gives

@@ -49,7 +49,7 @@ use Rattle.queue.proofs.Tidy.{appended_long}
 use Rattle.queue.proofs.Waiting.{appended_full}
 use Rattle.queue.specs.Queue.{appended}
 use Rattle.queue.specs.declared.Queue.{Queue}
-use Rattle.queue.specs.declared.Queued.{Queued}
+use Rattle.queue.specs.Queue.{Queued}
 use Rattle.sizes.specs.Sizes.{QUEUE}
 
 -- ---- what is kept

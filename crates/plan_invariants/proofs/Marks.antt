@@ -29,7 +29,7 @@ use Rattle.numbers.specs.Reference.{ref}
 use Rattle.plan_invariants.proofs.Walk.{Effects, Ends, Runs, either_way, gone_on, look_runs, settle_runs, step_runs, then_runs}
 use Rattle.queue.specs.Queue.{appended}
 use Rattle.queue.specs.declared.Queue.{Queue}
-use Rattle.queue.specs.declared.Removed.{Removed}
+use Rattle.queue.specs.Queue.{Removed}
 
 -- M of the marks
 abbrev pub On : (List Bool → Type 0) → Ctx → Type 0

@@ -35,8 +35,8 @@ use Rattle.promises.specs.Replay.{Course, course, or_stop, replay, replay_by}
 use Rattle.queue.proofs.Waiting.{appended_full, appended_room, removed_front}
 use Rattle.queue.specs.Queue.{appended, removed}
 use Rattle.queue.specs.declared.Item.{Item}
-use Rattle.queue.specs.declared.Queued.{Queued}
-use Rattle.queue.specs.declared.Removed.{Removed}
+use Rattle.queue.specs.Queue.{Queued}
+use Rattle.queue.specs.Queue.{Removed}
 use Rattle.sizes.specs.Sizes.{QUEUE}
 
 -- ---- after a post that is done something waits

@@ -39,7 +39,7 @@ use Rattle.plan_invariants.proofs.Marks.{react_marked}
 use Rattle.plan_invariants.proofs.Walk.{Ends, Refusal, Runs, code_ends, code_runs, each_taken, ends_bind, gone_on, settle_runs}
 use Rattle.plan_invariants.specs.Root.{begins_in_root, enters_root, leaves_root, never_leaves_root, starts_in_root}
 use Rattle.queue.specs.Queue.{removed}
-use Rattle.queue.specs.declared.Removed.{Removed}
+use Rattle.queue.specs.Queue.{Removed}
 use Rattle.sizes.specs.Sizes.{STATES}
 
 -- the marks have the root

@@ -1,12 +1,12 @@
 -- A loop that copies a list onto another from the front: what stands after j turns, and after one more.
-use mathlib.Core.Path.{◌≡◌, refl, sym, ap, ◌∙◌}
-use mathlib.Core.List.{List, [], ◌∷◌, ◌++◌, append-nil}
-use Prim.Native.Nat.{ℕ, suc, ◌+◌, ◌-◌, ◌<◌, ◌≤◌}
+use mathlib.Core.Path.{◌≡◌, ◌∙◌}
+use mathlib.Core.List.{List, ◌++◌}
+use Prim.Native.Nat.{ℕ, suc, ◌+◌, ◌<◌}
 use native.Mathlib.Nat.{le_of_lt, add_comm}
 use native.Mathlib.Numerals.{add-one}
 use native.Mathlib.Omega.{arith}
 use lib.ListN.{length, take, drop, get_or, set, length-drop}
-use lib.Seq.{drop-cons, take-suc, set_at, append_snoc, length-take-le, take_all, get_or-drop}
+use lib.Seq.{drop-cons, take-suc, set_at, append_snoc, length-take-le, get_or-drop}
 
 -- the first j elements of s, and then d's own
 abbrev pub copied {ℓ} : {A : Type ℓ} → List A → List A → ℕ → List A

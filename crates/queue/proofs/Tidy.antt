@@ -1,15 +1,14 @@
 -- The queue whose places not in use hold 0 with 0: it is known by what waits, and append and remove keep it so.
 -- The array's length is kept on every queue. Assumes nothing.
-use mathlib.Core.Path.{◌≡◌, refl, sym, ap, ◌∙◌}
+use mathlib.Core.Path.{◌≡◌, refl, sym, ◌∙◌}
 use mathlib.Core.Bool.{Bool, true, false}
 use mathlib.Core.List.{List, [], ◌∷◌, ◌++◌, append_assoc}
-use Prim.Native.Nat.{ℕ, zero, suc, ◌+◌, ◌-◌, ◌<◌, ◌≤◌}
-use native.Mathlib.Numerals.{add-one}
+use Prim.Native.Nat.{ℕ, suc, ◌+◌, ◌-◌, ◌<◌, ◌≤◌}
 use native.Mathlib.Omega.{arith}
 use borrow.Author.Tests.{ltb-true, ltb-false}
 use lib.Dec.{ltb, eqb}
 use lib.IntN.{ℤ}
-use lib.ListN.{length, take, drop, get_or, set, replicate, length-drop, length-append, length-set, length-replicate}
+use lib.ListN.{length, drop, set, replicate, length-drop, length-append, length-set, length-replicate}
 use lib.ListN.{replicate-append-replicate, take-append-drop}
 use lib.Seq.{set-append_seam, append_snoc, take-append_seam, length-take-le}
 use Rattle.sizes.specs.Sizes.{QUEUE}

@@ -1,5 +1,5 @@
 -- The queue as the list of what waits: append puts last, remove takes the first. Assumes nothing.
-use mathlib.Core.Path.{◌≡◌, refl, sym, ap, ◌∙◌}
+use mathlib.Core.Path.{◌≡◌, refl, ◌∙◌}
 use mathlib.Core.Bool.{true, false}
 use mathlib.Core.List.{List, [], ◌∷◌, ◌++◌}
 use Prim.Native.Nat.{ℕ, zero, suc, ◌+◌, ◌-◌, ◌<◌, ◌≤◌}
@@ -7,7 +7,7 @@ use native.Mathlib.Numerals.{add-one}
 use native.Mathlib.Omega.{arith}
 use borrow.Author.Tests.{lt-ltb, le-ltb, ne_eqb, eq-eqb}
 use lib.IntN.{ℤ}
-use lib.ListN.{length, take, drop, get_or, set, length-drop, length-append, length-set}
+use lib.ListN.{length, take, drop, get_or, set, length-drop}
 use lib.Seq.{take-suc-set, take-append-le, take-nil}
 use Rattle.queue.specs.declared.Item.{Item}
 use Rattle.queue.specs.declared.Queue.{Queue}

@@ -4,8 +4,8 @@ use mathlib.Core.Bool.{Bool, true, false}
 use Prim.Native.Nat.{ℕ}
 use lib.IntN.{ℤ}
 use Rattle.queue.specs.declared.Queue.{Queue}
-use Rattle.queue.specs.declared.Queued.{Queued}
-use Rattle.queue.specs.declared.Removed.{Removed}
+use Rattle.queue.specs.Queue.{Queued}
+use Rattle.queue.specs.Queue.{Removed}
 use Rattle.queue.specs.Queue.{appended, removed}
 use Rattle.meaning.specs.declared.State.{State}
 use Rattle.meaning.specs.Chart.{Chart}

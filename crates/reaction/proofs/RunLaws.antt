@@ -14,7 +14,7 @@ use Rattle.sizes.specs.Sizes.{QUEUE}
 use Rattle.numbers.specs.Reference.{ref}
 use Rattle.queue.specs.Queue.{removed}
 use Rattle.queue.specs.declared.Queue.{Queue}
-use Rattle.queue.specs.declared.Removed.{Removed}
+use Rattle.queue.specs.Queue.{Removed}
 use Rattle.queue.specs.Numbers.{QUEUE_NUMBERS, queue_by, numbers_of}
 use Rattle.queue.proofs.Waiting.{removed_none}
 use Rattle.queue.proofs.Numbers.{held_lent, numbers_long}

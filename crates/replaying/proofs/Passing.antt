@@ -15,7 +15,7 @@ use Rattle.queue.specs.Queue.{appended, item, no_item, removed}
 use Rattle.queue.specs.Numbers.{QUEUE_NUMBERS, numbers_of, queue_by}
 use Rattle.queue.specs.declared.Item.{Item}
 use Rattle.queue.specs.declared.Queue.{Queue}
-use Rattle.queue.specs.declared.Removed.{Removed}
+use Rattle.queue.specs.Queue.{Removed}
 use Rattle.queue.proofs.Copy.{copied, copied_suc}
 use Rattle.queue.proofs.Numbers.{held_lent, numbers_long, places_long}
 use Rattle.queue.proofs.Tidy.{appended_long, removed_long}

@@ -13,7 +13,7 @@ use Rattle.queue.specs.Queue.{appended, removed}
 use Rattle.queue.specs.Numbers.{queue_by}
 use Rattle.queue.specs.declared.Item.{Item}
 use Rattle.queue.specs.declared.Queue.{Queue}
-use Rattle.queue.specs.declared.Removed.{Removed}
+use Rattle.queue.specs.Queue.{Removed}
 use Rattle.queue.proofs.Waiting.{appended_full}
 use Rattle.laws.proofs.Lists.{le_or_lt}
 use Rattle.meaning.specs.Calls.{outcome, as_found, take_front}

@@ -1,50 +1,33 @@
 -- A whole call on a lent slice (01, "Answer numbers"): it begins with nothing written, and what its steps leave behind is its outcome; the
 -- slice past the last entry, or the whole of it on a refusal, is 0. Assumes nothing.
-use mathlib.Core.Path.{◌≡◌, refl, sym, ap, ◌∙◌}
-use Prim.Native.Nat.{ℕ, zero, suc, ◌-◌, ◌/◌, ◌≤◌}
-use mathlib.Core.List.{List, ◌++◌}
-use native.Mathlib.Omega.{arith}
-use lib.ListN.{length, take, replicate}
+use Rattle.std.proofs.Common.{◌≡◌, sym, ap, ◌∙◌, ℕ, ◌-◌, ◌/◌, ◌≤◌, List, ◌++◌, length, take, replicate, ℤ, pos, Ok, Err, arith}
 use lib.Seq.{length-take-le}
-use lib.IntN.{ℤ, pos}
+use Rattle.meaning.specs.Answers.{number_by}
+use Rattle.meaning.specs.declared.answers.Refusal.{Refusal}
 use Rattle.meaning.specs.declared.State.{State}
 use Rattle.meaning.specs.Steps.{Step}
 use Rattle.meaning.specs.Lists.{padded}
 use Rattle.meaning.specs.Widget.{Ctx, begin, ENTRY}
 use Rattle.meaning.specs.Calls.{Outcome, as_found, outcome, lent}
-use Rattle.widget.specs.declared.Went.{Went}
-use Rattle.widget.specs.View.{Lent, Whole, tracing, widget, ctx, said, went, Did}
+use Rattle.widget.specs.View.{ctx, went, Did}
 
 -- at the place 0 nothing is written, and the whole slice is room
-pub begins : (k : Lent) → ctx k 0 ≡ begin (widget k) (length k.trace)
-unfolding ctx tracing begin
-begins k = let z : length k.trace - 0 ≡ length k.trace = omega arith in rw z
+pub begins : (u : State) (t : List ℤ) → ctx u t 0 ≡ begin u (length t)
+unfolding ctx begin
+begins u t = let z : length t - 0 ≡ length t = omega arith in rw z
 
 -- the outcome of steps that went to the end
 abbrev pub ended : State → List ℤ → Outcome
 ended u out = record { number = 0; place = 0; after = u; trace = out }
 
-said_done : (u : State) (n : ℕ) (k : Ctx) → n ≡ 0 → outcome u (said n k) ≡ ended k.state k.out
-unfolding said outcome
-said_done u zero k z = refl
-said_done u (suc n) k z = absurd (omega arith)
+module _ (v : State) {D : Step Ctx} {u : State} {t : List ℤ} {u' : State} {t' : List ℤ} where
+  pub ends_done : {n : ℕ} → Did D u t 0 (Ok n) u' t' → outcome v (D (begin u (length t))) ≡ ended u' (take n t')
+  unfolding went ctx outcome
+  ends_done d = ap (λ k. outcome v (D k)) (sym (begins u t)) ∙ ap (outcome v) (sym d.does)
 
-said_refused : (u : State) (n : ℕ) (k : Ctx) → (n ≡ 0 → ⊥) → outcome u (said n k) ≡ as_found n 0 u
-unfolding said outcome
-said_refused u zero k z = absurd (z refl)
-said_refused u (suc n) k z = refl
-
-module _ (u : State) {D : Step Ctx} {k : Lent} {r : Went} {k' : Lent} (d : Did D k 0 r k') (l : Whole k) where
-  goes_to : D (begin (widget k) (length k.trace)) ≡ said r.number (ctx k' r.at)
-  unfolding went
-  goes_to = ap D (sym (begins k)) ∙ sym (d.does l)
-
-  pub ends_done : r.number ≡ 0 → outcome u (D (begin (widget k) (length k.trace))) ≡ ended (widget k') (take r.at k'.trace)
-  unfolding ctx tracing
-  ends_done z = ap (outcome u) goes_to ∙ said_done u r.number (ctx k' r.at) z
-
-  pub ends_refused : (r.number ≡ 0 → ⊥) → outcome u (D (begin (widget k) (length k.trace))) ≡ as_found r.number 0 u
-  ends_refused z = ap (outcome u) goes_to ∙ said_refused u r.number (ctx k' r.at) z
+  pub ends_refused : {r : Refusal} → Did D u t 0 (Err r) u' t' → outcome v (D (begin u (length t))) ≡ as_found (number_by r) 0 v
+  unfolding went outcome
+  ends_refused d = ap (λ k. outcome v (D k)) (sym (begins u t)) ∙ ap (outcome v) (sym d.does)
 
 -- ---- the lent slice after the call, as `clear_from` leaves it
 

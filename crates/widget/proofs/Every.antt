@@ -1,14 +1,14 @@
 -- A loop that tests every element of a list from i on, and the list laws by which tests of the places in use and of the others become
 -- such loops. In each, g is what the whole test says. Assumes nothing.
 use mathlib.Core.Path.{◌≡◌, refl, sym, ap, ◌∙◌}
-use Prim.Native.Nat.{ℕ, zero, suc, ◌+◌, ◌-◌, ◌≤◌, ◌<◌}
-use mathlib.Core.Bool.{Bool, true, false, not, cond, ◌&&◌}
-use mathlib.Core.List.{List, [], ◌∷◌}
+use Prim.Native.Nat.{ℕ, zero, suc, ◌+◌, ◌≤◌, ◌<◌}
+use mathlib.Core.Bool.{Bool, true, false, ◌&&◌}
+use mathlib.Core.List.{List}
 use native.Mathlib.Omega.{arith}
 use native.Mathlib.Numerals.{add-one}
-use lib.ListN.{length, get_or, take, drop, drop_of_length-le}
+use lib.ListN.{length, get_or, drop, drop_of_length-le}
 use lib.Seq.{drop-cons}
-use Rattle.meaning.specs.Lists.{every, keep, from}
+use Rattle.meaning.specs.Lists.{every, from}
 
 module _ {A : Type 0} (p : A → Bool) (xs : List A) (i : ℕ) where
   every_at : (d : A) → i < length xs → every p (drop i xs) ≡ (p (get_or xs i d) && every p (drop (i + 1) xs))

@@ -1,33 +1,18 @@
 -- The laws by which a caller of step functions meets its own promise: one step after another, a step for each of a list, a step under a
 -- test, a step chosen by the state. Each is over plain variables, so that a need is one citation. Assumes nothing.
-use mathlib.Core.Path.{◌≡◌, refl, sym, ap, ◌∙◌}
-use Prim.Native.Nat.{ℕ, zero, suc, ◌+◌, ◌-◌, ◌≤◌, ◌<◌}
-use mathlib.Core.List.{List, ◌∷◌}
-use native.Mathlib.Omega.{arith}
+use Rattle.std.proofs.Common.{◌≡◌, refl, sym, ap, ◌∙◌, ℕ, suc, ◌+◌, ◌≤◌, ◌<◌, List, ◌∷◌, length, get_or, drop, ℤ, Ok, Err}
 use native.Mathlib.Numerals.{add-one}
-use lib.ListN.{length, get_or, drop, drop_of_length-le}
+use lib.ListN.{drop_of_length-le}
 use lib.Seq.{drop-cons}
-use Rattle.meaning.specs.Steps.{Res, ok, Step, bind, ◌then◌, each}
+use Rattle.meaning.specs.Answers.{number_by}
+use Rattle.meaning.specs.declared.answers.Refusal.{Refusal}
+use Rattle.meaning.specs.declared.State.{State}
+use Rattle.meaning.specs.Steps.{ok, refuse, Step, bind, ◌then◌, each}
 use Rattle.meaning.specs.Widget.{Ctx}
-use Rattle.widget.specs.declared.Went.{Went}
-use Rattle.widget.specs.View.{Lent, ctx, said, went, Did, Owes}
+use Rattle.std.specs.Prelude.{Result}
+use Rattle.widget.specs.View.{ctx, went, Did, Owes}
 
 -- ---- steps as functions
-
-pub said_on : {A : Type 0} (n : ℕ) (k : Ctx) (E : Ctx → Res A) → n ≡ 0 → bind (said n k) E ≡ E k
-unfolding said bind
-said_on zero k E z = refl
-said_on (suc n) k E z = absurd (omega arith)
-
-pub said_no : (n : ℕ) (k : Ctx) (E : Step Ctx) → (n ≡ 0 → ⊥) → bind (said n k) E ≡ said n k
-unfolding said bind
-said_no zero k E z = absurd (z refl)
-said_no (suc n) k E z = refl
-
-pub said_ok : (n : ℕ) (k : Ctx) → n ≡ 0 → said n k ≡ ok k
-unfolding said
-said_ok zero k z = refl
-said_ok (suc n) k z = absurd (omega arith)
 
 pub each_one : {A : Type 0} (f : A → Step Ctx) (x : A) (xs : List A) (k : Ctx) → each f (x ∷ xs) k ≡ (f x then each f xs) k
 unfolding each ◌then◌
@@ -43,87 +28,64 @@ each_end f xs i k h = rw (drop_of_length-le xs h)
 
 -- ---- what is owed
 
-module _ {D : Step Ctx} {k : Lent} {at : ℕ} where
+module _ {D : Step Ctx} {u : State} {t : List ℤ} {at : ℕ} where
   -- at the start all of it is owed
-  pub owes_all : at ≤ length k.trace → Owes D k at D k at
-  owes_all h = record { gives = λ l. refl; fits = h; kept = refl; whole = refl }
+  pub owes_all : at ≤ length t → Owes D u t at D u t at
+  owes_all h = record { gives = refl; fits = h; kept = refl }
 
-  module _ {k₁ : Lent} {at₁ : ℕ} where
+  module _ {u₁ : State} {t₁ : List ℤ} {at₁ : ℕ} where
     -- the same step in other words
-    pub owes_as : {E : Step Ctx} (F : Step Ctx) → Owes D k at E k₁ at₁ → F (ctx k₁ at₁) ≡ E (ctx k₁ at₁) → Owes D k at F k₁ at₁
-    owes_as F o e = record { gives = λ l. e ∙ o.gives l; fits = o.fits; kept = o.kept; whole = o.whole }
+    pub owes_as : {E : Step Ctx} (F : Step Ctx) → Owes D u t at E u₁ t₁ at₁ → F (ctx u₁ t₁ at₁) ≡ E (ctx u₁ t₁ at₁)
+        → Owes D u t at F u₁ t₁ at₁
+    owes_as F o e = record { gives = e ∙ o.gives; fits = o.fits; kept = o.kept }
 
     -- nothing more is owed
-    pub owes_none : {E : Step Ctx} → Owes D k at E k₁ at₁ → E (ctx k₁ at₁) ≡ ok (ctx k₁ at₁)
-        → Did D k at (record { number = 0; at = at₁ }) k₁
-    unfolding went said
-    owes_none o e = record { does = λ l. sym e ∙ o.gives l; fits = o.fits; kept = o.kept; whole = o.whole }
+    pub owes_none : {E : Step Ctx} → Owes D u t at E u₁ t₁ at₁ → E (ctx u₁ t₁ at₁) ≡ ok (ctx u₁ t₁ at₁) → Did D u t at (Ok at₁) u₁ t₁
+    unfolding went
+    owes_none o e = record { does = sym e ∙ o.gives; fits = o.fits; kept = o.kept }
 
-    module _ {r : Went} {k₂ : Lent} where
+    -- the rest is refused
+    pub owes_refused : {E : Step Ctx} (r : Refusal) → Owes D u t at E u₁ t₁ at₁ → E (ctx u₁ t₁ at₁) ≡ refuse (number_by r)
+        → Did D u t at (Err r) u₁ t₁
+    unfolding went
+    owes_refused r o e = record { does = sym e ∙ o.gives; fits = tt; kept = o.kept }
+
+    module _ {u₂ : State} {t₂ : List ℤ} where
       -- all that was owed is done by one function
-      pub owes_last : {E : Step Ctx} → Owes D k at E k₁ at₁ → Did E k₁ at₁ r k₂ → Did D k at r k₂
-      owes_last o d = record {
-        does = λ l. d.does (o.whole ∙ l) ∙ o.gives l;
-        fits = d.fits;
-        kept = d.kept ∙ o.kept;
-        whole = d.whole ∙ o.whole;
-      }
+      pub owes_last : {E : Step Ctx} {r : Result ℕ Refusal} → Owes D u t at E u₁ t₁ at₁ → Did E u₁ t₁ at₁ r u₂ t₂ → Did D u t at r u₂ t₂
+      owes_last o d = record { does = d.does ∙ o.gives; fits = d.fits; kept = d.kept ∙ o.kept }
 
       -- the first step goes on, and the rest is owed
-      pub owes_on : {F : Step Ctx} (E : Step Ctx) → Owes D k at (F then E) k₁ at₁ → Did F k₁ at₁ r k₂ → r.number ≡ 0
-          → Owes D k at E k₂ r.at
-      unfolding ◌then◌ went
-      owes_on E o d z = record {
-        gives = λ l. sym (said_on r.number (ctx k₂ r.at) E z) ∙ ap (λ x. bind x E) (d.does (o.whole ∙ l)) ∙ o.gives l;
-        fits = d.fits;
-        kept = d.kept ∙ o.kept;
-        whole = d.whole ∙ o.whole;
-      }
+      pub owes_on : {F : Step Ctx} {n : ℕ} (E : Step Ctx) → Owes D u t at (F then E) u₁ t₁ at₁ → Did F u₁ t₁ at₁ (Ok n) u₂ t₂
+          → Owes D u t at E u₂ t₂ n
+      unfolding ◌then◌ went bind
+      owes_on E o d = record { gives = ap (λ x. bind x E) d.does ∙ o.gives; fits = d.fits; kept = d.kept ∙ o.kept }
 
       -- the first step refuses
-      pub owes_stop : {F : Step Ctx} (E : Step Ctx) → Owes D k at (F then E) k₁ at₁ → Did F k₁ at₁ r k₂ → (r.number ≡ 0 → ⊥)
-          → Did D k at r k₂
-      unfolding ◌then◌ went
-      owes_stop E o d z = record {
-        does = λ l. sym (said_no r.number (ctx k₂ r.at) E z) ∙ ap (λ x. bind x E) (d.does (o.whole ∙ l)) ∙ o.gives l;
-        fits = d.fits;
-        kept = d.kept ∙ o.kept;
-        whole = d.whole ∙ o.whole;
-      }
+      pub owes_stop : {F : Step Ctx} {r : Refusal} (E : Step Ctx) → Owes D u t at (F then E) u₁ t₁ at₁ → Did F u₁ t₁ at₁ (Err r) u₂ t₂
+          → Did D u t at (Err r) u₂ t₂
+      unfolding ◌then◌ went bind
+      owes_stop E o d = record { does = ap (λ x. bind x E) d.does ∙ o.gives; fits = tt; kept = d.kept ∙ o.kept }
 
 -- ---- one step after another
 
-module _ {k : Lent} {at : ℕ} {r : Went} {k₁ : Lent} {F : Step Ctx} where
-  pub then_on : {E : Step Ctx} {x : Went} {k₂ : Lent} → Did F k at r k₁ → r.number ≡ 0 → Did E k₁ r.at x k₂ → Did (F then E) k at x k₂
-  unfolding ◌then◌ went
-  then_on {E} d z g = record {
-    does = λ l. g.does (d.whole ∙ l) ∙ sym (said_on r.number (ctx k₁ r.at) E z) ∙ ap (λ x. bind x E) (d.does l);
-    fits = g.fits;
-    kept = g.kept ∙ d.kept;
-    whole = g.whole ∙ d.whole;
-  }
+module _ {u : State} {t : List ℤ} {at : ℕ} {u₁ : State} {t₁ : List ℤ} {F : Step Ctx} where
+  pub then_on : {E : Step Ctx} {n : ℕ} {r : Result ℕ Refusal} {u₂ : State} {t₂ : List ℤ}
+      → Did F u t at (Ok n) u₁ t₁ → Did E u₁ t₁ n r u₂ t₂ → Did (F then E) u t at r u₂ t₂
+  unfolding ◌then◌ went bind
+  then_on {E} d g = record { does = g.does ∙ ap (λ x. bind x E) d.does; fits = g.fits; kept = g.kept ∙ d.kept }
 
-  pub then_stop : (E : Step Ctx) → Did F k at r k₁ → (r.number ≡ 0 → ⊥) → Did (F then E) k at r k₁
-  unfolding ◌then◌ went
-  then_stop E d z = record {
-    does = λ l. sym (said_no r.number (ctx k₁ r.at) E z) ∙ ap (λ x. bind x E) (d.does l);
-    fits = d.fits;
-    kept = d.kept;
-    whole = d.whole;
-  }
+  pub then_stop : {r : Refusal} (E : Step Ctx) → Did F u t at (Err r) u₁ t₁ → Did (F then E) u t at (Err r) u₁ t₁
+  unfolding ◌then◌ went bind
+  then_stop E d = record { does = ap (λ x. bind x E) d.does; fits = tt; kept = d.kept }
 
   -- a second step that leaves everything as it is
-  pub then_none : (E : Step Ctx) → Did F k at r k₁ → r.number ≡ 0 → E (ctx k₁ r.at) ≡ ok (ctx k₁ r.at) → Did (F then E) k at r k₁
-  unfolding ◌then◌ went
-  then_none E d z e = record {
-    does = λ l. said_ok r.number (ctx k₁ r.at) z ∙ sym e ∙ sym (said_on r.number (ctx k₁ r.at) E z)
-        ∙ ap (λ x. bind x E) (d.does l);
-    fits = d.fits;
-    kept = d.kept;
-    whole = d.whole;
-  }
+  pub then_none : {n : ℕ} (E : Step Ctx) → Did F u t at (Ok n) u₁ t₁ → E (ctx u₁ t₁ n) ≡ ok (ctx u₁ t₁ n)
+      → Did (F then E) u t at (Ok n) u₁ t₁
+  unfolding ◌then◌ went bind
+  then_none E d e = record { does = sym e ∙ ap (λ x. bind x E) d.does; fits = d.fits; kept = d.kept }
 
 -- a step by another name
-pub same_step : {D : Step Ctx} (E : Step Ctx) {k : Lent} {at : ℕ} {r : Went} {k₁ : Lent} → D (ctx k at) ≡ E (ctx k at)
-    → Did D k at r k₁ → Did E k at r k₁
-same_step E e d = record { does = λ l. d.does l ∙ e; fits = d.fits; kept = d.kept; whole = d.whole }
+pub same_step : {D : Step Ctx} (E : Step Ctx) {u : State} {t : List ℤ} {at : ℕ} {r : Result ℕ Refusal} {u₁ : State} {t₁ : List ℤ}
+    → D (ctx u t at) ≡ E (ctx u t at) → Did D u t at r u₁ t₁ → Did E u t at r u₁ t₁
+same_step E e d = record { does = d.does ∙ e; fits = d.fits; kept = d.kept }

@@ -1,6 +1,6 @@
 -- What the tests of the code say in the words of the test for answer 6: an event, a free place. Assumes nothing.
 use Rattle.std.specs.Prelude.{Option, None, Some}
-use mathlib.Core.Path.{◌≡◌, refl, sym, ap, ◌∙◌}
+use mathlib.Core.Path.{◌≡◌, refl, sym, ap}
 use Prim.Native.Nat.{ℕ, zero, suc, ◌≤◌, ◌<◌}
 use mathlib.Core.Bool.{Bool, true, false, ◌&&◌}
 use native.Mathlib.Omega.{arith}

@@ -9,7 +9,9 @@ use Rattle.meaning.specs.declared.chart.VarRow.{VarRow}
 use Rattle.meaning.specs.declared.chart.Act.{Act}
 use Rattle.meaning.specs.declared.chart.Act.TheVariants.{SetTo as set_to, AddTo as add_to, TakeTo as take_to, Send as send, Tell as tell}
 use Rattle.meaning.specs.Widget.{Ctx, emit, change, set_value, value_at}
-use Rattle.meaning.specs.declared.Entry.TheVariants.{Changed as changed, Sent as sent}
+use Rattle.meaning.specs.declared.Entry.{Entry}
+use Rattle.meaning.specs.declared.Entry.TheVariants.{Taken as taken, Left as left, Entered as entered, Changed as changed}
+use Rattle.meaning.specs.declared.Entry.TheVariants.{Sent as sent, Told as told}
 use Rattle.meaning.specs.Effects.{assign, enqueue}
 
 -- the variable v takes the value x: "written before the effect goes on"
@@ -23,6 +25,15 @@ adding r v x = look (λ k. assign r v (value_at k.state v +ℤ x))
 -- the event e is sent with the argument x: "at a send 11 before 9"
 unfoldable pub sending : ℕ → ℤ → Step Ctx
 sending e x = emit (sent e x) then enqueue (pos e) x
+
+-- the numbers of an entry that name something have an i32
+abbrev pub Small : Entry → Type 0
+Small (taken t) = t < NOWHERE
+Small (left s) = s < NOWHERE
+Small (entered s) = s < NOWHERE
+Small (changed v x) = v < NOWHERE
+Small (sent e x) = e < NOWHERE
+Small (told x) = Unit {0}
 
 -- R7: "variables and events of actions exist"; of an event only that it is a number at all
 abbrev pub Named : Act → Type 0

@@ -1,50 +1,54 @@
-// The effects of a reaction on a widget's lent arrays (01, "One reaction"): the trace buffer, the acts, leaving and
-// entering one state. The chart's runner and the plan machine share these functions, and each is promised in one form:
-// what it leaves behind is what the definition's step gives. What a function does not touch may be anything.
+// The effects of a reaction on a widget's state (01, "One reaction"), which is lent and changed where it stands: the trace, the acts,
+// leaving and entering one state. The chart's runner and the plan machine share these functions, and each is promised in one form:
+// what it leaves behind is what the definition's step gives. A step gives the trace's next free place, or the refusal met.
 #![tactic(auto)]
 
 pub mod fits;
 
-ghost use Rattle.std.specs.Prelude.{◌≡◌, [], ◌∷◌, ◌++◌, ◌-◌, ◌≤◌, ◌<◌, length, take, replicate, pos};
+ghost use Rattle.std.specs.Prelude.{◌≡◌, ◌++◌, ◌-◌, ◌≤◌, ◌<◌, length, take, replicate, pos};
 ghost use Rattle.sizes.specs.Sizes.{STATES as states, VARIABLES as variables};
 ghost use Rattle.numbers.specs.Reference.{NOWHERE};
-ghost use Rattle.meaning.specs.Widget.{emit as emits};
+ghost use Rattle.meaning.specs.declared.State.{State as Widget};
 ghost use Rattle.meaning.specs.declared.Entry.TheVariants.{Taken as taken, Told as told};
+ghost use Rattle.meaning.specs.Widget.{emit as emits, numbers};
 ghost use Rattle.meaning.specs.Effects.{assign as assigns, act_on, mark_left, mark_entered};
-ghost use Rattle.widget.specs.View.{Lent, with_active, with_slots, with_vars, with_queue, with_trace, Noted, Within, Did};
-ghost use Rattle.widget.specs.Acts.{stored, adding, sending, Named, Below};
+ghost use Rattle.widget.specs.View.{Noted, Did};
+ghost use Rattle.widget.specs.Acts.{stored, adding, sending, Small, Named, Below};
 
-use meaning::answers::{NO_ROOM, QUEUE_FULL};
+use meaning::answers::Refusal;
 use meaning::chart::{Act, VarRow};
-use numbers::{add_held, hold, number, wide};
-use queue::lent::{QUEUE_NUMBERS, append};
-use sizes::{ENTRY, STATES, VARIABLES};
+use meaning::{Entry, State};
+use numbers::{add_held, hold, number};
+use sizes::ENTRY;
 
-// How a step went: 0 to go on, else the refusal met; and the trace's next free place.
-#[derive(Drop)]
-pub struct Went {
-    pub number: usize,
-    pub at: usize,
+// 01, "Trace": an entry's three numbers; "an unused third is 0".
+fn numbers_of(entry: Entry) -> [i32; ENTRY]
+    requires { Small entry }
+    ensures { result ≡ numbers entry }
+{
+    match entry {
+        Entry::Taken(t) => [1, number(t), 0],
+        Entry::Left(s) => [2, number(s), 0],
+        Entry::Entered(s) => [3, number(s), 0],
+        Entry::Changed(v, x) => [4, number(v), x],
+        Entry::Sent(e, x) => [5, number(e), x],
+        Entry::Told(x) => [6, x, 0],
+    }
 }
 
 // 01, "Trace": three numbers an entry; 11, no room for the next trace entry.
-pub fn emit(trace: &mut [i32], at: usize, a: i32, b: i32, c: i32) -> Went
-    requires { at ≤ length trace.old }
-    ensures { Noted (a ∷ b ∷ c ∷ []) trace.old at result trace.new }
+pub fn emit(entry: Entry, trace: &mut [i32], at: usize) -> Result<usize, Refusal>
+    requires { Small entry × (at ≤ length trace.old) }
+    ensures { Noted (numbers entry) trace.old at result trace.new }
 {
     if trace.len() - at < ENTRY {
-        return Went {
-            number: NO_ROOM,
-            at: at,
-        };
+        return Err(Refusal::NoRoom);
     }
-    trace[at] = a;
-    trace[at + 1] = b;
-    trace[at + 2] = c;
-    Went {
-        number: 0,
-        at: at + ENTRY,
-    }
+    let [what, first, second] = numbers_of(entry);
+    trace[at] = what;
+    trace[at + 1] = first;
+    trace[at + 2] = second;
+    Ok(at + ENTRY)
 }
 
 // 01, "Trace": the lent slice past the last entry is 0.
@@ -52,79 +56,58 @@ pub fn clear_from(trace: &mut [i32], at: usize)
     requires { at ≤ length trace.old }
     ensures { trace.new ≡ take at trace.old ++ replicate (length trace.old - at) (pos 0) }
 {
-    let mut i = at;
-    while i < trace.len() {
-        trace[i] = 0;
-        i += 1;
-    }
+    trace[at..].fill(0);
 }
 
-// 01, "Trace": 1, transition taken.
-pub fn mark_taken(t: usize, trace: &mut [i32], at: usize) -> Went
+// 01, "Trace": 1, transition taken. No state is asked for: it may be any.
+pub fn mark_taken(t: usize, trace: &mut [i32], at: usize) -> Result<usize, Refusal>
     requires { (t < NOWHERE) × (at ≤ length trace.old) }
-    ensures { Within trace.old result trace.new
-        × ((k : Lent) → Did (emits (taken t)) (with_trace trace.old k) at result (with_trace trace.new k)) }
+    ensures { (u : Widget) → Did (emits (taken t)) u trace.old at result u trace.new }
 {
-    let named = number(t);
-    emit(trace, at, 1, named, 0)
+    emit(Entry::Taken(t), trace, at)
 }
 
 // 01, "Trace": 6, number told.
-pub fn tell(x: i32, trace: &mut [i32], at: usize) -> Went
+pub fn tell(x: i32, trace: &mut [i32], at: usize) -> Result<usize, Refusal>
     requires { at ≤ length trace.old }
-    ensures { Within trace.old result trace.new
-        × ((k : Lent) → Did (emits (told x)) (with_trace trace.old k) at result (with_trace trace.new k)) }
+    ensures { (u : Widget) → Did (emits (told x)) u trace.old at result u trace.new }
 {
-    emit(trace, at, 6, x, 0)
+    emit(Entry::Told(x), trace, at)
 }
 
 // 01, "Trace": 4, variable and its new value, written before the effect goes on.
 pub fn store(
     v: usize,
     value: i32,
-    vars: &mut [i32; VARIABLES],
+    widget: &mut State,
     trace: &mut [i32],
     at: usize,
-) -> Went
+) -> Result<usize, Refusal>
     requires { (v < variables) × (at ≤ length trace.old) }
-    ensures { Within trace.old result trace.new
-        × ((k : Lent) → Did (stored v value) (with_vars vars.old (with_trace trace.old k)) at result
-        (with_vars vars.new (with_trace trace.new k))) }
+    ensures { Did (stored v value) widget.old trace.old at result widget.new trace.new }
 {
-    let named = number(v);
-    let wrote = emit(trace, at, 4, named, value);
-    if wrote.number != 0 {
-        return wrote;
-    }
-    vars[v] = value;
-    wrote
+    let next = emit(Entry::Changed(v, value), trace, at)?;
+    widget.vars[v] = value;
+    Ok(next)
 }
 
 // 01, "Trace": 5, event sent and its argument; at a send 11 before 9.
 pub fn send(
     e: usize,
     x: i32,
-    queue: &mut [i32; QUEUE_NUMBERS],
+    widget: &mut State,
     trace: &mut [i32],
     at: usize,
-) -> Went
+) -> Result<usize, Refusal>
     requires { (e < NOWHERE) × (at ≤ length trace.old) }
-    ensures { Within trace.old result trace.new
-        × ((k : Lent) → Did (sending e x) (with_queue queue.old (with_trace trace.old k)) at result
-        (with_queue queue.new (with_trace trace.new k))) }
+    ensures { Did (sending e x) widget.old trace.old at result widget.new trace.new }
 {
-    let event = number(e);
-    let wrote = emit(trace, at, 5, event, x);
-    if wrote.number != 0 {
-        return wrote;
-    }
-    if !append(queue, event, x) {
-        return Went {
-            number: QUEUE_FULL,
-            at: wrote.at,
-        };
-    }
-    wrote
+    let next = emit(Entry::Sent(e, x), trace, at)?;
+    let Ok(queue) = widget.queue.append(number(e), x) else {
+        return Err(Refusal::QueueFull);
+    };
+    widget.queue = queue;
+    Ok(next)
 }
 
 // 01, acts s and k: the variable takes the value, held at the nearer end of its range.
@@ -132,17 +115,15 @@ pub fn assign(
     row: VarRow,
     v: usize,
     x: i32,
-    vars: &mut [i32; VARIABLES],
+    widget: &mut State,
     trace: &mut [i32],
     at: usize,
-) -> Went
+) -> Result<usize, Refusal>
     requires { (v < variables) × (at ≤ length trace.old) }
-    ensures { Within trace.old result trace.new
-        × ((k : Lent) → Did (assigns row v x) (with_vars vars.old (with_trace trace.old k)) at result
-        (with_vars vars.new (with_trace trace.new k))) }
+    ensures { Did (assigns row v x) widget.old trace.old at result widget.new trace.new }
 {
-    let value = hold(wide(x), row.low, row.high);
-    store(v, value, vars, trace, at)
+    let value = hold(i64::from(x), row.low, row.high);
+    store(v, value, widget, trace, at)
 }
 
 // 01, act a: the same with the sum of its value and x.
@@ -150,17 +131,15 @@ pub fn add(
     row: VarRow,
     v: usize,
     x: i32,
-    vars: &mut [i32; VARIABLES],
+    widget: &mut State,
     trace: &mut [i32],
     at: usize,
-) -> Went
+) -> Result<usize, Refusal>
     requires { (v < variables) × (at ≤ length trace.old) }
-    ensures { Within trace.old result trace.new
-        × ((k : Lent) → Did (adding row v x) (with_vars vars.old (with_trace trace.old k)) at result
-        (with_vars vars.new (with_trace trace.new k))) }
+    ensures { Did (adding row v x) widget.old trace.old at result widget.new trace.new }
 {
-    let value = add_held(vars[v], x, row.low, row.high);
-    store(v, value, vars, trace, at)
+    let value = add_held(widget.vars[v], x, row.low, row.high);
+    store(v, value, widget, trace, at)
 }
 
 // 01, acts s, a, k, q, o, with the row of the act's variable and the event's argument.
@@ -168,21 +147,18 @@ pub fn perform(
     row: VarRow,
     arg: i32,
     act: Act,
-    vars: &mut [i32; VARIABLES],
-    queue: &mut [i32; QUEUE_NUMBERS],
+    widget: &mut State,
     trace: &mut [i32],
     at: usize,
-) -> Went
+) -> Result<usize, Refusal>
     requires { Named act × (at ≤ length trace.old) }
-    ensures { Within trace.old result trace.new × ((k : Lent) → Did (act_on row arg act)
-        (with_vars vars.old (with_queue queue.old (with_trace trace.old k))) at result
-        (with_vars vars.new (with_queue queue.new (with_trace trace.new k)))) }
+    ensures { Did (act_on row arg act) widget.old trace.old at result widget.new trace.new }
 {
     match act {
-        Act::SetTo(v, x) => assign(row, v, x, vars, trace, at),
-        Act::AddTo(v, x) => add(row, v, x, vars, trace, at),
-        Act::TakeTo(v) => assign(row, v, arg, vars, trace, at),
-        Act::Send(e, x) => send(e, x, queue, trace, at),
+        Act::SetTo(v, x) => assign(row, v, x, widget, trace, at),
+        Act::AddTo(v, x) => add(row, v, x, widget, trace, at),
+        Act::TakeTo(v) => assign(row, v, arg, widget, trace, at),
+        Act::Send(e, x) => send(e, x, widget, trace, at),
         Act::Tell(x) => tell(x, trace, at),
     }
 }
@@ -191,41 +167,32 @@ pub fn perform(
 pub fn mark_left(
     p: Option<usize>,
     s: usize,
-    active: &mut [bool; STATES],
-    slots: &mut [i32; STATES],
+    widget: &mut State,
     trace: &mut [i32],
     at: usize,
-) -> Went
+) -> Result<usize, Refusal>
     requires { Below states p × (s < states) × (at ≤ length trace.old) }
-    ensures { Within trace.old result trace.new × ((k : Lent) → Did (mark_left p s)
-        (with_active active.old (with_slots slots.old (with_trace trace.old k))) at result
-        (with_active active.new (with_slots slots.new (with_trace trace.new k)))) }
+    ensures { Did (mark_left p s) widget.old trace.old at result widget.new trace.new }
 {
-    let named = number(s);
-    let went = emit(trace, at, 2, named, 0);
-    if went.number != 0 {
-        return went;
+    let next = emit(Entry::Left(s), trace, at)?;
+    widget.active[s] = false;
+    if let Some(parent) = p {
+        widget.slots[parent] = number(s);
     }
-    active[s] = false;
-    let Some(parent) = p else {
-        return went;
-    };
-    slots[parent] = named;
-    went
+    Ok(next)
 }
 
 // 01, "Trace": 3, state entered.
-pub fn mark_entered(s: usize, active: &mut [bool; STATES], trace: &mut [i32], at: usize) -> Went
+pub fn mark_entered(
+    s: usize,
+    widget: &mut State,
+    trace: &mut [i32],
+    at: usize,
+) -> Result<usize, Refusal>
     requires { (s < states) × (at ≤ length trace.old) }
-    ensures { Within trace.old result trace.new
-        × ((k : Lent) → Did (mark_entered s) (with_active active.old (with_trace trace.old k)) at result
-        (with_active active.new (with_trace trace.new k))) }
+    ensures { Did (mark_entered s) widget.old trace.old at result widget.new trace.new }
 {
-    let named = number(s);
-    let went = emit(trace, at, 3, named, 0);
-    if went.number != 0 {
-        return went;
-    }
-    active[s] = true;
-    went
+    let next = emit(Entry::Entered(s), trace, at)?;
+    widget.active[s] = true;
+    Ok(next)
 }

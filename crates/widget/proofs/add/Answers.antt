@@ -1,28 +1,24 @@
 -- `add` stores the sum, held in the range of the row. Assumes nothing.
-use lib.IntN.{pos}
-use lib.ListN.{get_or}
+use Rattle.std.proofs.Common.{rules, get_or, pos}
 use Rattle.numbers.proofs.Laws.{back32}
-use mir.Facts.{to_z-of_z}
 use mir.Syntax.{w32}
 use mir.Val.{SFits}
+use mir.Facts.{to_z-of_z}
 use Rattle.widget.proofs.Effects.{added}
-use borrow.Author.Rules.{rules}
 use Rattle.widget.proofs.add.Goals as goal
 
 pub returns : goal.returns
 returns c =
-    let h = c.before.before.before.before in
-    let fv : SFits w32 (get_or c.args.vars.now c.args.v (pos 0)) = search rules in
-    let fl : SFits w32 c.args.row.low = search rules in
-    let fh : SFits w32 c.args.row.high = search rules in (
-      search rules,
-      λ k. added c.args.row c.args.v c.args.x
-          (rw (
-            back32 c.add_held-value.result c.add_held-value.type_inv,
-            c.add_held-value.ensures,
-            to_z-of_z fv,
-            to_z-of_z c.ranges.x,
-            to_z-of_z fl,
-            to_z-of_z fh,
-          ) at (c.store.ensures.1 k)),
-    )
+    let h = c.add_held-value in
+    let value : SFits w32 (get_or c.args.widget.now.vars c.args.v (pos 0)) = search rules in
+    let low : SFits w32 c.args.row.low = search rules in
+    let high : SFits w32 c.args.row.high = search rules in
+    added c.args.row c.args.v c.args.x
+    (rw (
+      back32 h.result h.type_inv,
+      h.ensures,
+      to_z-of_z value,
+      to_z-of_z c.ranges.x,
+      to_z-of_z low,
+      to_z-of_z high,
+    ) at c.store.ensures)

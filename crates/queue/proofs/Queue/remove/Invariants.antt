@@ -1,7 +1,4 @@
-use mathlib.Core.Path.{◌≡◌}
-use mathlib.Core.List.{List}
-use Prim.Native.Nat.{◌≤◌, ◌-◌}
-use lib.ListN.{drop, replicate}
+use Rattle.std.proofs.Common.{◌≡◌, List, drop, replicate}
 use Rattle.queue.proofs.Copy.{copied}
 use Rattle.queue.specs.Queue.{no_item}
 use Rattle.sizes.specs.Sizes.{QUEUE}
@@ -12,7 +9,4 @@ abbrev pub free : List Item
 free = replicate QUEUE no_item
 
 abbrev pub invariant-loop-i : goal.invariant-loop-i
-invariant-loop-i l = (l.i ≤ QUEUE - 1) × (l.rest ≡ copied free (drop 1 l.self.items) l.i)
-
-abbrev pub decreases-loop-i : goal.decreases-loop-i
-decreases-loop-i l = QUEUE - 1 - l.i
+invariant-loop-i l = l.rest ≡ copied free (drop 1 l.self.items) l.i

@@ -1,14 +1,9 @@
 use mathlib.Core.Path.{◌≡◌}
-use Prim.Native.Nat.{◌≤◌, ◌-◌}
 use lib.ListN.{drop}
-use Rattle.sizes.specs.Sizes.{QUEUE}
 use Rattle.queue.specs.Numbers.{places as says}
 use Rattle.queue.proofs.Copy.{copied}
 use Rattle.queue.proofs.Numbers.{free}
 use Rattle.queue.proofs.lent.held.Given as goal
 
 abbrev pub invariant-loop-i : goal.invariant-loop-i
-invariant-loop-i l = (l.i ≤ QUEUE) × (l.places ≡ copied free (says (drop 1 l.numbers)) l.i)
-
-abbrev pub decreases-loop-i : goal.decreases-loop-i
-decreases-loop-i l = QUEUE - l.i
+invariant-loop-i l = l.items ≡ copied free (says (drop 1 l.numbers)) l.i

@@ -1,13 +1,9 @@
 use mathlib.Core.Path.{◌≡◌}
-use Prim.Native.Nat.{◌≤◌, ◌-◌, ◌+◌, ◌*◌}
-use Rattle.sizes.specs.Sizes.{QUEUE}
+use Prim.Native.Nat.{◌+◌, ◌*◌}
 use Rattle.queue.specs.Numbers.{numbers_of}
 use Rattle.queue.proofs.Copy.{copied}
 use Rattle.queue.proofs.Numbers.{zeros}
 use Rattle.queue.proofs.lent.lend.Given as goal
 
 abbrev pub invariant-loop-i : goal.invariant-loop-i
-invariant-loop-i l = (l.i ≤ QUEUE) × (l.numbers ≡ copied zeros (numbers_of l.queue) (2 * l.i + 1))
-
-abbrev pub decreases-loop-i : goal.decreases-loop-i
-decreases-loop-i l = QUEUE - l.i
+invariant-loop-i l = l.numbers ≡ copied zeros (numbers_of l.queue) (2 * l.i + 1)

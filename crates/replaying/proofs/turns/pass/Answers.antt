@@ -7,7 +7,7 @@ use mir.Facts.{to_z-of_z}
 use Rattle.numbers.proofs.Laws.{back32}
 use Rattle.numbers.specs.Reference.{ref}
 use Rattle.queue.specs.Queue.{appended, removed}
-use Rattle.queue.specs.declared.Queued.{Queued}
+use Rattle.queue.specs.Queue.{Queued}
 use Rattle.replaying.proofs.Passing.{pass_full, pass_empty, pass_on}
 use Rattle.replaying.proofs.turns.pass.Goals as goal
 
