@@ -6,11 +6,11 @@ use mathlib.Core.Bool.{Bool, true, false, false≢true, cond}
 use mathlib.Core.List.{List, [], ◌∷◌}
 use mathlib.Core.Logic.{◌⊎◌, inl, inr, ⊎_elim}
 use native.Mathlib.Omega.{arith}
-use lib.ListN.{length, get_or, set, drop, replicate, get_or-replicate, length-replicate, length-set, length-drop, drop_of_length-le}
+use lib.ListN.{length, get_or, set, drop, replicate, get_or-replicate, length-replicate, length-set, length-drop}
 use lib.Seq.{drop-cons, drop-drop, get_or-set_same, get_or-set_other}
 use lib.IntN.{ℤ, pos}
 use borrow.Author.Tests.{eqb-true, eq-eqb}
-use Rattle.sizes.specs.Sizes.{STATES, TRANSITIONS, ACTIONS}
+use Rattle.sizes.specs.Sizes.{ACTIONS}
 use Rattle.laws.proofs.Lists.{same_or}
 use Rattle.laws.proofs.Rules.{OwnerFacts}
 use Rattle.chart_rows.proofs.Rows.{action_at, num_first, num_at, states_most, transitions_most, actions_most}

@@ -1,5 +1,5 @@
 -- The index of a chart's actions: an owner's place in it, the next row of an owner, and what the index says. Assumes nothing.
-use Rattle.std.specs.Prelude.{◌≡◌, ℕ, zero, suc, ◌+◌, ◌-◌, ◌*◌, ◌<◌, cond, List, [], ◌∷◌, length, get_or, drop, ℤ}
+use Rattle.std.specs.Prelude.{◌≡◌, ℕ, suc, ◌+◌, ◌-◌, ◌*◌, ◌<◌, cond, List, [], ◌∷◌, length, get_or, drop, ℤ}
 use Rattle.sizes.specs.Sizes.{STATES, TRANSITIONS, ACTIONS}
 use Rattle.meaning.specs.Chart.{Chart, no_action}
 use Rattle.meaning.specs.declared.chart.Owner.{Owner}

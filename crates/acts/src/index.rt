@@ -2,6 +2,7 @@
 // for each row from the next one of the same owner on; 0 where there is none. Made once a call, it lets an owner's actions be found without
 // a look at the others'.
 ghost use Rattle.std.specs.Prelude.{◌≡◌, suc, ◌<◌, length, get_or};
+ghost use Rattle.std.proofs.Props.{props};
 ghost use Rattle.meaning.specs.Chart.{no_action};
 ghost use Rattle.meaning.specs.Value.{chart_of};
 ghost use Rattle.meaning.specs.Rules.{Ruled};
@@ -33,6 +34,7 @@ fn key_of(owner: Owner) -> usize
 }
 
 // The owner of row i: the two numbers that name it, read where they stand.
+#[tactic(auto, using(chart_rows::proofs::Rows::actions_most))]
 fn owner_at(chart: &[i32], i: usize) -> Owner
     requires { i < length (chart_of chart.now).actions }
     ensures { result ≡ (get_or (chart_of chart.now).actions i no_action).owner }
@@ -42,15 +44,14 @@ fn owner_at(chart: &[i32], i: usize) -> Owner
 }
 
 // From the last row up: the row's next one is its owner's first so far, and it becomes the first.
-pub fn index_of(chart: &[i32]) -> [u16; INDEX]
+#[tactic(auto, using(chart_rows::proofs::Rows::actions_most))]
+fn index_of(chart: &[i32]) -> [u16; INDEX]
     requires { Ruled chart.now }
     ensures { Indexed (chart_of chart.now) result }
 {
     let n = action_count(chart);
     let mut index = [0u16; INDEX];
-    let mut i = n;
-    while 0 < i {
-        i -= 1;
+    for i in (0..n).rev() {
         let at = key_of(owner_at(chart, i));
         let first = index[at];
         index[OWNERS + i] = first;
@@ -60,24 +61,42 @@ pub fn index_of(chart: &[i32]) -> [u16; INDEX]
     index
 }
 
-// The owner's first row; one past the rows where there is none.
-pub fn first_row(chart: &[i32], index: &[u16; INDEX], owner: Owner) -> usize
-    requires { Prepared chart.now index.now × Fits owner }
-    ensures { result ≡ row_from (chart_of chart.now) owner 0 }
-{
-    let at = key_of(owner);
-    let n = action_count(chart);
-    let rows = index[at] as usize;
-    n - rows
+// A chart that passes the rules, with the index of its actions: what the functions that run a chart's actions take.
+pub struct Runnable<'a> {
+    pub chart: &'a [i32],
+    pub index: [u16; INDEX],
+    pub ghost prepared: { Prepared chart.now index } by { Prim.hlevel props },
 }
 
-// The next row of the same owner after row i.
-pub fn next_row(chart: &[i32], index: &[u16; INDEX], i: usize) -> usize
-    requires { Prepared chart.now index.now × (i < length (chart_of chart.now).actions) }
-    ensures { result ≡ row_from (chart_of chart.now)
-        (get_or (chart_of chart.now).actions i no_action).owner (suc i) }
-{
-    let n = action_count(chart);
-    let rows = index[OWNERS + i] as usize;
-    n - rows
+impl<'a> Runnable<'a> {
+    // The chart with the index made for it.
+    pub fn new(chart: &'a [i32]) -> Runnable<'a>
+        requires { Ruled chart.now }
+        ensures { result.chart.now ≡ chart.now }
+    {
+        Runnable {
+            chart,
+            index: index_of(chart),
+        }
+    }
+
+    // The owner's first row; one past the rows where there is none.
+    pub fn first_row(&self, owner: Owner) -> usize
+        requires { Fits owner }
+        ensures { result ≡ row_from (chart_of self.now.chart.now) owner 0 }
+    {
+        let rows = self.index[key_of(owner)] as usize;
+        action_count(self.chart) - rows
+    }
+
+    // The next row of the same owner after row i.
+    #[tactic(auto, using(chart_rows::proofs::Rows::actions_most))]
+    pub fn next_row(&self, i: usize) -> usize
+        requires { i < length (chart_of self.now.chart.now).actions }
+        ensures { result ≡ row_from (chart_of self.now.chart.now)
+            (get_or (chart_of self.now.chart.now).actions i no_action).owner (suc i) }
+    {
+        let rows = self.index[OWNERS + i] as usize;
+        action_count(self.chart) - rows
+    }
 }

@@ -1,4 +1,5 @@
 pub mod Falling
+pub mod Keeping
 pub mod Visiting
 pub mod Arriving
 pub mod Descending

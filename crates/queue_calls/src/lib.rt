@@ -29,12 +29,9 @@ pub fn post_ruled(chart: &[i32], state: State, event: i32, arg: i32) -> Called
     if !event_fits(event_count(chart), event, arg) {
         return refused(NO_SUCH_EVENT, 0, state);
     }
-    let queue = state.queue;
-    let queued = queue.append(event, arg);
-    if !queued.done {
+    let Ok(after) = state.queue.append(event, arg) else {
         return refused(QUEUE_FULL, 0, state);
-    }
-    let after = queued.queue;
+    };
     done(with_queue(state, after))
 }
 
@@ -48,11 +45,9 @@ pub fn discard_ruled(chart: &[i32], state: State) -> Called
     if !own(chart, state) {
         return refused(FOREIGN, 0, state);
     }
-    let queue = state.queue;
-    let removed = queue.remove();
-    if !removed.done {
+    let (front, after) = state.queue.remove();
+    let Some(_) = front else {
         return refused(QUEUE_EMPTY, 0, state);
-    }
-    let after = removed.queue;
+    };
     done(with_queue(state, after))
 }

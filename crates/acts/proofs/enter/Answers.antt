@@ -1,14 +1,16 @@
 -- `enter` marks a state as entered, then performs its entry actions. Assumes nothing.
+use Rattle.std.proofs.Common.{◌≡◌, Err, rules}
 use mir.Facts.{to_z-of_z}
-use Rattle.acts.proofs.Marking.{entered_stop, entered_on}
+use Rattle.meaning.specs.Effects.{enter}
+use Rattle.widget.proofs.Going.{then_on, then_stop}
 use Rattle.acts.proofs.enter.Goals as goal
 
-pub returns-then-marked-ne0 : goal.returns-then-marked-ne0
-returns-then-marked-ne0 c = entered_stop _ _ _ c.mark_entered-marked.ensures c.if-marked-ne0.true
+pub returns-in_err-next : goal.returns-in_err-next
+unfolding enter
+returns-in_err-next c =
+    let q : c.from_residual.result ≡ Err c.in_err-next.field-0.0 = search rules in
+    rw q (then_stop _ c.in_err-next.ensures)
 
 pub returns : goal.returns
-returns c =
-    entered_on _ _ _ c.mark_entered-marked.ensures
-    c.if-marked-ne0.false
-    (rw (to_z-of_z c.ranges.arg) at
-    c.perform_all.ensures)
+unfolding enter
+returns c = then_on c.in_ok-next.ensures (rw (to_z-of_z c.ranges.arg) at c.perform_all.ensures)

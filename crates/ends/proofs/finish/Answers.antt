@@ -3,10 +3,10 @@ use mathlib.Core.Path.{refl}
 use Rattle.ends.proofs.Ending.{ends_no, ends_on}
 use Rattle.ends.proofs.finish.Goals as goal
 
-pub returns-then-went-ne0 : goal.returns-then-went-ne0
-returns-then-went-ne0 c = ends_no _ _ _ _ _ c.if-went-ne0.true c.refuse.ensures
+pub returns-in-Err : goal.returns-in-Err
+returns-in-Err c =
+    rw c.in-Err.is (ends_no _ _ _ _ _ _ (rw c.number.ensures at c.refused.ensures) c.clear_from.ensures)
 
-pub returns : goal.returns
-returns c =
-    ends_on _ _ _ _ _ c.if-went-ne0.false c.requires _
-    c.held-waiting.ensures refl c.clear_from.ensures
+pub returns-in-Ok : goal.returns-in-Ok
+returns-in-Ok c =
+    rw c.in-Ok.is (ends_on _ _ _ _ _ _ (rw c.in-Ok.is at c.requires) refl c.clear_from-in-Ok.ensures)

@@ -1,5 +1,5 @@
 -- `discard_ruled` makes the tests in their order and removes. Assumes nothing.
-use mathlib.Core.Path.{sym, ◌∙◌}
+use mathlib.Core.Path.{refl, sym, ◌∙◌}
 use borrow.Author.Tests.{not-true, not-false}
 use Rattle.meaning.specs.Value.{chart_of}
 use Rattle.queue_calls.proofs.Answering.{discard_7, discard_6, discard_8, discard_0}
@@ -14,11 +14,11 @@ returns-then-not-own c = c.refused-then-not-own.ensures ∙ discard_6 (chart_of 
     c.args.state (not-false _ c.if-not-state.false)
     (sym c.own.ensures ∙ not-true _ c.if-not-own.true-raw)
 
-pub returns-then-not-removed : goal.returns-then-not-removed
-returns-then-not-removed c = c.refused-then-not-removed.ensures ∙ discard_8 (chart_of c.args.chart.now)
+pub returns-in_default : goal.returns-in_default
+returns-in_default c = c.refused-in_default.ensures ∙ discard_8 (chart_of c.args.chart.now)
     c.args.state (not-false _ c.if-not-state.false)
     (sym c.own.ensures ∙ not-false _ c.if-not-own.false-raw)
-    c.remove-removed.ensures (not-true _ c.if-not-removed.true)
+    (rw c.in_default.is at c.remove-front.ensures) refl
 
 pub returns : goal.returns
 returns c = (rw c.with_queue.ensures at c.done.ensures) ∙ discard_0
@@ -27,4 +27,4 @@ returns c = (rw c.with_queue.ensures at c.done.ensures) ∙ discard_0
     (not-false _ c.if-not-state.false)
     (sym c.own.ensures
     ∙ not-false _ c.if-not-own.false-raw)
-    c.remove-removed.ensures (not-false _ c.if-not-removed.false)
+    (rw c.in-Some.is at c.remove-front.ensures) refl

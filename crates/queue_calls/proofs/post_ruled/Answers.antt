@@ -1,5 +1,5 @@
 -- `post_ruled` makes the tests in their order and appends. Assumes nothing.
-use mathlib.Core.Path.{sym, ◌∙◌}
+use mathlib.Core.Path.{refl, sym, ◌∙◌}
 use borrow.Author.Tests.{not-true, not-false}
 use Rattle.meaning.specs.Value.{chart_of}
 use mir.Facts.{to_z-of_z}
@@ -24,8 +24,8 @@ returns-then-not-event_fits c = c.refused-then-not-event_fits.ensures ∙ post_1
     (sym (rw (to_z-of_z c.ranges.event, to_z-of_z c.ranges.arg) at
     c.event_fits.ensures) ∙ not-true _ c.if-not-event_fits.true-raw)
 
-pub returns-then-not-queued : goal.returns-then-not-queued
-returns-then-not-queued c = c.refused-then-not-queued.ensures
+pub returns-in_default : goal.returns-in_default
+returns-in_default c = c.refused-in_default.ensures
     ∙ post_9 (chart_of c.args.chart.now) c.args.state
     c.args.event c.args.arg (not-false _ c.if-not-state.false)
     (sym c.own.ensures ∙ not-false _ c.if-not-own.false-raw)
@@ -33,7 +33,7 @@ returns-then-not-queued c = c.refused-then-not-queued.ensures
     (sym (rw (to_z-of_z c.ranges.event, to_z-of_z c.ranges.arg) at
     c.event_fits.ensures) ∙ not-false _ c.if-not-event_fits.false-raw)
     (rw (to_z-of_z c.ranges.event, to_z-of_z c.ranges.arg) at
-    c.append-queued.ensures) (not-true _ c.if-not-queued.true)
+    c.in_default.ensures) refl
 
 pub returns : goal.returns
 returns c = (rw c.with_queue.ensures at c.done.ensures) ∙ post_0 (chart_of
@@ -57,4 +57,4 @@ returns c = (rw c.with_queue.ensures at c.done.ensures) ∙ post_0 (chart_of
       to_z-of_z
           c.ranges.arg,
     )
-    at c.append-queued.ensures) (not-false _ c.if-not-queued.false)
+    at c.in-Ok.ensures) refl

@@ -4,6 +4,3 @@ use Rattle.acts.proofs.index.index_of.Given as goal
 
 abbrev pub invariant-loop-i : goal.invariant-loop-i
 invariant-loop-i l = Building (chart_of l.chart) l.i l.index
-
-abbrev pub decreases-loop-i : goal.decreases-loop-i
-decreases-loop-i l = l.i

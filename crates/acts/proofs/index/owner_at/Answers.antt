@@ -1,9 +1,7 @@
 -- `owner_at` reads the owner of a row where it stands. Assumes nothing.
 use mathlib.Core.Path.{◌∙◌}
-use native.Mathlib.Omega.{arith}
 use Rattle.meaning.specs.Value.{owner_by}
 use Rattle.chart_rows.proofs.Said.{said_of2}
-use Rattle.chart_rows.proofs.Rows.{actions_most}
 use Rattle.acts.proofs.Finding.{owner_said}
 use Rattle.acts.proofs.index.owner_at.Goals as goal
 
@@ -13,12 +11,3 @@ returns c =
     let m = c.number_at in
     said_of2 owner_by m.type_inv m.ensures n.type_inv n.ensures c.owner_by.ensures
     ∙ owner_said c.args.chart.now c.args.i c.requires
-
-pub overflow_mul-at : goal.overflow_mul-at
-overflow_mul-at c = omega (arith, actions_most c.args.chart.now)
-
-pub overflow_add-at : goal.overflow_add-at
-overflow_add-at c = omega (arith, actions_most c.args.chart.now)
-
-pub overflow_add-at-2 : goal.overflow_add-at-2
-overflow_add-at-2 c = omega (arith, actions_most c.args.chart.now)
