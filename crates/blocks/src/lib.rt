@@ -36,9 +36,7 @@ fn put_exits(c: &Runnable, s: usize, plan: &mut [i32], at: usize) -> usize
         (descendants (chart_of c.now.chart.now) s)) (pen plan.old at) }
 {
     let mut p = at;
-    let mut d = end_below(c.chart, s);
-    while s + 1 < d {
-        d -= 1;
+    for d in (s + 1..end_below(c.chart, s)).rev() {
         p = put_exit(c, d, plan, p);
     }
     p

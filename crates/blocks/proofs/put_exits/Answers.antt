@@ -8,9 +8,6 @@ use Rattle.blocks.proofs.Descent.{falling_begin, falling_room, falling_on, falli
 use native.Mathlib.Omega.{arith}
 use Rattle.blocks.proofs.put_exits.Goals as goal
 
-pub end_below-d-requires : goal.end_below-d-requires
-end_below-d-requires c = (c.args.c.now.prepared.ruled, c.requires.0)
-
 pub loop-d-init : goal.loop-d-init
 unfolding exits_code
 loop-d-init c = (
@@ -21,8 +18,8 @@ loop-d-init c = (
       c.end_below-d.ensures,
 )
 
-pub overflow_add-s : goal.overflow_add-s
-overflow_add-s c = omega (arith, c.requires.0, states_most c.args.c.now.chart.now)
+pub overflow_add-d-start : goal.overflow_add-d-start
+overflow_add-d-start c = omega (arith, c.requires.0, states_most c.args.c.now.chart.now)
 
 pub put_exit-p-requires : goal.put_exit-p-requires
 put_exit-p-requires c = (
@@ -40,9 +37,6 @@ put_exit-p-requires c = (
   ),
   falling_room c.loop-d.invariant.1 (omega arith) c.requires.1,
 )
-
-pub loop-d-smaller : goal.loop-d-smaller
-loop-d-smaller c = omega (arith, c.loop-d-test.true)
 
 pub loop-d-preserved : goal.loop-d-preserved
 loop-d-preserved c = (
