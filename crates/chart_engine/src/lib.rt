@@ -50,10 +50,11 @@ pub fn read(text: &[u8], chart: &mut [i32]) -> Answer
 pub fn write(chart: &[i32], out: &mut [u8]) -> Written
     ensures { Wrote chart.now out.old result out.new }
 {
-    if let Err(refusal) = check(chart) { // before 13
+    let verdict = check(chart);
+    if verdict.is_err() { // before 13
         out.fill(0);
         return Written {
-            answer: Answer::from(Err::<(), Refusal>(refusal)),
+            answer: Answer::from(verdict),
             length: 0,
         };
     }
