@@ -35,6 +35,10 @@ accepted {v} {r} c z = passed (failing_rule_of v) r c.result z
 pub rejected : {v : List ℤ} {r : Answer} → Checked v r → (r.number ≡ 0 → ⊥) → failing_rule_of v ≡ some r.place
 rejected {v} {r} c z = failed (failing_rule_of v) r c.result z
 
+-- which is answer 3
+as_told : {v : List ℤ} {r : Answer} (u : State) → Checked v r → (r.number ≡ 0 → ⊥) → as_found 3 r.place u ≡ as_found r.number r.place u
+as_told {v} {r} u c z = ap (λ n. as_found n r.place u) (sym (third (failing_rule_of v) r c.result z))
+
 -- ---- a call by the verdict: x where no rule fails
 
 abbrev by_rules : State → Outcome → Option ℕ → Outcome
@@ -93,23 +97,20 @@ module _ {v : List ℤ} {u : State} where
     pub discards : {r : Called} → r ≡ called (discard (chart_of v) u) → Discarded v u r
     discards d = record { result = d ∙ ap called (sym (discard_on v u h)) }
 
-  -- ---- on a chart that fails a rule: the check's answer, which is 3 with the rule
+  -- ---- on a chart that fails a rule: the check's answer
   module _ {c : Answer} (k : Checked v c) (z : c.number ≡ 0 → ⊥) where
-    ruled_out : as_found 3 c.place u ≡ as_found c.number c.place u
-    ruled_out = ap (λ n. as_found n c.place u) (sym (third (failing_rule_of v) c k.result z))
-
     pub start_3 : {t : List ℤ} {r : Called} {t₁ : List ℤ} → Ends (as_found c.number c.place u) t r t₁ → Started v u t r t₁
     start_3 {t} d =
-        let e = sym (start_by v u (some c.place) (rejected k z) (length t) ∙ ruled_out) in
+        let e = sym (start_by v u (some c.place) (rejected k z) (length t) ∙ as_told u k z) in
         record { result = d.0 ∙ ap called e; lent = d.1 ∙ ap (lent (length t)) e }
 
     pub run_3 : {t : List ℤ} {r : Called} {t₁ : List ℤ} → Ends (as_found c.number c.place u) t r t₁ → Ran v u t r t₁
     run_3 {t} d =
-        let e = sym (run_by v u (some c.place) (rejected k z) (length t) ∙ ruled_out) in
+        let e = sym (run_by v u (some c.place) (rejected k z) (length t) ∙ as_told u k z) in
         record { result = d.0 ∙ ap called e; lent = d.1 ∙ ap (lent (length t)) e }
 
     pub post_3 : {x a : ℤ} {r : Called} → r ≡ called (as_found c.number c.place u) → Posted v u x a r
-    post_3 {x} {a} d = record { result = d ∙ ap called (sym (post_by v u (some c.place) (rejected k z) x a ∙ ruled_out)) }
+    post_3 {x} {a} d = record { result = d ∙ ap called (sym (post_by v u (some c.place) (rejected k z) x a ∙ as_told u k z)) }
 
     pub discard_3 : {r : Called} → r ≡ called (as_found c.number c.place u) → Discarded v u r
-    discard_3 d = record { result = d ∙ ap called (sym (discard_by v u (some c.place) (rejected k z) ∙ ruled_out)) }
+    discard_3 d = record { result = d ∙ ap called (sym (discard_by v u (some c.place) (rejected k z) ∙ as_told u k z)) }

@@ -11,7 +11,7 @@ ghost use Rattle.promises.specs.Promises.{Checked, Read, Wrote, Unstarted, Start
 
 use checked::{discard_checked, post_checked, run_checked, start_checked};
 use ends::refuse;
-use meaning::answers::Refusal;
+use meaning::answers::{DONE, Refusal};
 use meaning::{Answer, Called, State, Written};
 use queue::Queue;
 use queue_calls::answers::refused;
@@ -39,22 +39,30 @@ pub fn read(text: &[u8], chart: &mut [i32]) -> Answer
     if lines.number != 0 {
         return lines;
     }
-    let ruled = check_rows(chart);
-    if ruled.is_err() {
+    if let Err(refusal) = check_rows(chart) {
         chart.fill(0);
+        return Answer {
+            number: refusal.number(),
+            place: refusal.place(),
+        };
     }
-    Answer::from(ruled)
+    Answer {
+        number: DONE,
+        place: 0,
+    }
 }
 
 // A chart written as text into lent bytes: 3 where it fails a rule, 13 where the text is longer. A refusal leaves all of the bytes 0.
 pub fn write(chart: &[i32], out: &mut [u8]) -> Written
     ensures { Wrote chart.now out.old result out.new }
 {
-    let verdict = check(chart);
-    if verdict.is_err() { // before 13
+    if let Err(refusal) = check(chart) { // before 13
         out.fill(0);
         return Written {
-            answer: Answer::from(verdict),
+            answer: Answer {
+                number: refusal.number(),
+                place: refusal.place(),
+            },
             length: 0,
         };
     }

@@ -6,11 +6,11 @@ use Rattle.chart_engine.proofs.start.Goals as goal
 
 pub returns-in-Err : goal.returns-in-Err
 returns-in-Err c =
-    start_3 (c.in-Err.ensures tt) (not_done c.in-Err.refusal)
+    start_3 c.in-Err.ensures (not_done c.in-Err.refusal)
     c.refuse.ensures
 
 pub start_checked-requires : goal.start_checked-requires
-start_checked-requires c = accepted (c.in_default.ensures tt) refl
+start_checked-requires c = accepted c.in_default.ensures refl
 
 pub returns : goal.returns
 returns c = c.start_checked.ensures
