@@ -20,7 +20,7 @@ pub fn qh_check(chart: &[i32], report: &mut [i32; 2]) -> i32
     ensures { HostChecked chart.now result report.new }
 {
     let checked = engine::check(chart);
-    tell(checked, 0, report)
+    tell(Answer::from(checked), 0, report)
 }
 
 // Reads a chart's text into a chart's numbers.
@@ -95,7 +95,7 @@ pub fn qh_start(chart: &[i32], widget: &mut [i32], trace: &mut [i32], report: &m
 {
     if widget.len() < STATE_NUMBERS { // 3 first, then 6
         let verdict = engine::check(chart);
-        let answer = too_few(verdict);
+        let answer = too_few(Answer::from(verdict));
         clear(trace);
         return tell(answer, 0, report);
     }

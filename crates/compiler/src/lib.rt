@@ -152,13 +152,13 @@ fn compile_passed(chart: &[i32], plan: &mut [i32]) -> Compiled
 pub fn compile(chart: &[i32], plan: &mut [i32]) -> Compiled
     ensures { Compiles chart.now plan.old result plan.new }
 {
-    let verdict = rules::check(chart);
-    if verdict.number == 0 {
-        return compile_passed(chart, plan);
+    if let Err(refusal) = rules::check(chart) {
+        clear_from(plan, 0);
+        let answer = Answer {
+            number: refusal.number(),
+            place: refusal.place(),
+        };
+        return Compiled { answer, length: 0 };
     }
-    clear_from(plan, 0);
-    Compiled {
-        answer: verdict,
-        length: 0,
-    }
+    compile_passed(chart, plan)
 }
