@@ -79,7 +79,7 @@ coursing_begin {p} {xs} {u} h z = record { so_far = refl; fit = own_fit p u z h.
 module _ {p : Plan} (w : Well p) {xs : List Item} {u : State} {t : List ℤ} {d : ℕ} {u₁ : State} {t₁ : List ℤ} {at : ℕ}
     (c : Coursing p xs u t d u₁ t₁ at) where
   pub coursing_free : Free u₁.queue
-  coursing_free = fits_free p.events u₁.queue c.fit.queue
+  coursing_free = record { none = fits_free p.events u₁.queue c.fit.queue; whole = c.fit.sized.items }
 
   pub coursing_end : length xs ≡ d → GoneThrough p xs u t (Ok at) u₁ t₁
   coursing_end l = (
@@ -97,7 +97,10 @@ module _ {p : Plan} (w : Well p) {xs : List Item} {u : State} {t : List ℤ} {d 
         ≡ replay_by (post_on p) (run_on p (length t)) d u₁ (take at t₁) zs
     from_here zs = replay_on (post_on p) (run_on p (length t)) (take d xs) 0 u [] zs c.so_far
 
-    module _ {u₂ : State} {t₂ : List ℤ} where
+    after_is : (through p (length t) u (take d xs)).after ≡ u₁
+    after_is = ap (λ (y : Course). y.after) c.so_far
+
+    module _ (u₂ : State) (t₂ : List ℤ) where
       pub coursing_more : {n : ℕ} → Turned p x u₁ t₁ (Ok n) u₂ t₂ → Coursing p xs u t (d + 1) u₂ t₂ n
       unfolding replay_by
       coursing_more {n} r =
@@ -113,9 +116,6 @@ module _ {p : Plan} (w : Well p) {xs : List Item} {u : State} {t : List ℤ} {d 
             fits = r.2;
             kept = r.3 ∙ c.kept;
           }
-
-      after_is : (through p (length t) u (take d xs)).after ≡ u₁
-      after_is = ap (λ (y : Course). y.after) c.so_far
 
       pub coursing_stop : (s : Stopped) → Turned p x u₁ t₁ (Err s) u₂ t₂
           → GoneThrough p xs u t (Err (record { done = d; why = s; at = at })) u₂ t₂

@@ -67,13 +67,13 @@ module _ (q : Queue) (e a : ℤ) where
   pub pass_full : {f : Queue} → appended_by (Err f) ≡ appended q e a → Passes q e a None q
   pass_full g = (sym (ap (λ y. y.done) g), refl)
 
-  pub pass_empty : q.len ≡ 0 → length q.items ≡ QUEUE → Free q → Passes q e a (Some (item e a)) q
-  pass_empty z l f =
+  pub pass_empty : q.len ≡ 0 → Free q → Passes q e a (Some (item e a)) q
+  pass_empty z f =
       let t = through_empty q.len q.items e a z none_there in
       (ap (λ y. y.done) (appended_room q e a (omega (arith, z))), sym (ap (λ x. x.front) t), sym (ap (λ x. x.queue) t))
     where
       none_there : q.items ≡ replicate QUEUE no_item
-      none_there = all_free q.items (subst (λ m. every is_none (drop m q.items) ≡ true) z f) ∙ ap (λ m. replicate m no_item) l
+      none_there = all_free q.items (subst (λ m. every is_none (drop m q.items) ≡ true) z f.none) ∙ ap (λ m. replicate m no_item) f.whole
 
   pub pass_on : {n : Queue} → appended_by (Ok n) ≡ appended q e a → (r : Option Item) (left : Queue) → removed_by r left ≡ removed n
       → Passes q e a r left

@@ -8,7 +8,7 @@ use lib.ListN.{length, get_or, replicate, take}
 use lib.Seq.{length-take-le}
 use lib.IntN.{ℤ, pos}
 use Rattle.std.specs.Prelude.{Result, Ok, Err}
-use Rattle.queue.specs.Queue.{appended, appended_by, no_item}
+use Rattle.queue.specs.Queue.{appended, no_item}
 use Rattle.queue.specs.declared.Item.{Item}
 use Rattle.queue.specs.declared.Queue.{Queue}
 use Rattle.meaning.specs.Calls.{Outcome, outcome, as_found}
@@ -101,41 +101,34 @@ module _ {p : Plan} {u : State} (h : Starts p u) {t t' : List ℤ} (l : length t
       told_as (ap (λ zs. replay_examined p u zs (length t)) (sym e) ∙ once_on p u xs (length t) h ∙ y) (sym l) f
 
 -- a run is refused, seen from the state that it began with
-pub broken_here : {p : Plan} {u : State} {t t' : List ℤ} → length t' ≡ length t → {xs ys : List Item} → xs ≡ ys → {d m : ℕ}
+pub broken_here : {p : Plan} {u : State} (t t' : List ℤ) → length t' ≡ length t → {xs ys : List Item} → xs ≡ ys → {d m : ℕ}
     → Broken p (length t) xs u d m → Broken p (length t') ys u d m
-broken_here {p} {u} {t} l {xs} e {d} {m} b =
+broken_here {p} {u} t t' l {xs} e {d} {m} b =
     subst (λ n. Broken p n _ u d m) (sym l) (subst (λ zs. Broken p (length t) zs u d m) e b)
 
 -- the events before a refused run, once more, are not refused: what is lent says the state after them, and the trace keeps its length
-again_by : {p : Plan} {u : State} {t : List ℤ} {xs : List Item} {d m : ℕ} → Broken p (length t) xs u d m → (e at : ℕ) (s : Stopped)
-    {u' : State} {t' : List ℤ} → Halted p (take d xs) u t e at s u' t' → (through p (length t) u (take d xs)).after ≡ u'
-again_by b e at (AtPost r) w = ap (λ (c : Course). c.after) w.0
-again_by b e at (AtRun r) w = absurd (w.refused (ap (λ (c : Course). c.number) (sym w.ends) ∙ b.done))
+again_by : {p : Plan} {u : State} (t : List ℤ) {xs : List Item} {d m : ℕ} → Broken p (length t) xs u d m → (e at : ℕ) (s : Stopped)
+    (u' : State) (t' : List ℤ) → Halted p (take d xs) u t e at s u' t' → (through p (length t) u (take d xs)).after ≡ u'
+again_by t b e at (AtPost r) u' t' w = ap (λ (c : Course). c.after) w.0
+again_by t b e at (AtRun r) u' t' w = absurd (w.refused (ap (λ (c : Course). c.number) (sym w.ends) ∙ b.done))
 
-again : {p : Plan} {u : State} {t : List ℤ} {xs : List Item} {d m : ℕ} → Broken p (length t) xs u d m → (r : Result ℕ Halt)
-    {u' : State} {t' : List ℤ} → GoneThrough p (take d xs) u t r u' t'
+again : {p : Plan} {u : State} (t : List ℤ) {xs : List Item} {d m : ℕ} → Broken p (length t) xs u d m → (r : Result ℕ Halt)
+    (u' : State) (t' : List ℤ) → GoneThrough p (take d xs) u t r u' t'
     → ((through p (length t) u (take d xs)).after ≡ u') × (length t' ≡ length t)
-again b (Ok at) w = (ap (λ (c : Course). c.after) w.0, w.2)
-again b (Err g) w = (again_by b g.done g.at g.why w.0, w.1)
+again t b (Ok at) u' t' w = (ap (λ (c : Course). c.after) w.0, w.2)
+again t b (Err g) u' t' w = (again_by t b g.done g.at g.why u' t' w.0, w.1)
 
-module _ {p : Plan} {u : State} (h : Starts p u) {t : List ℤ} {xs : List Item} {d m : ℕ} (b : Broken p (length t) xs u d m)
-    (r : Result ℕ Halt) {u' : State} {t' : List ℤ} (w : GoneThrough p (take d xs) u t r u' t') where
+module _ {p : Plan} {u : State} (h : Starts p u) (t : List ℤ) {xs : List Item} {d m : ℕ} (b : Broken p (length t) xs u d m)
+    (r : Result ℕ Halt) (u' : State) (t' : List ℤ) (w : GoneThrough p (take d xs) u t r u' t') where
   pub broken_told : {x : Item} → get_or xs d no_item ≡ x → {q : Queue} → q ≡ (appended u'.queue x.event x.arg).queue
       → {s : Replayed} {t₁ : List ℤ} → Told (course d m (queued q u') (take 0 t')) t' s t₁
       → Told (replay_examined p u xs (length t)) t s t₁
   broken_told {x} i {q} j f =
       let a : post_on p (get_or xs d no_item) (through p (length t) u (take d xs)).after ≡ post_on p x u' =
-      ap (λ y. post_on p y (through p (length t) u (take d xs)).after) i ∙ ap (post_on p x) (again b r w).0 in
+      ap (λ y. post_on p y (through p (length t) u (take d xs)).after) i ∙ ap (post_on p x) (again t b r u' t' w).0 in
       let n : (post_on p (get_or xs d no_item) (through p (length t) u (take d xs)).after).after ≡ queued q u' =
       ap (λ (o : Outcome). o.after) a
       ∙ posted_after p x u' (ap (λ (o : Outcome). o.number) (sym a) ∙ b.posted)
       ∙ queued_is (appended u'.queue x.event x.arg).queue u'
       ∙ ap (λ y. queued y u') (sym j) in
-      told_as (once_on p u xs (length t) h ∙ b.ends ∙ ap (λ v. course d m v []) n) (sym (again b r w).1) f
-
--- the queue after an event, in both ways of the code
-pub with_room : {q f : Queue} (e a : ℤ) → appended_by (Ok f) ≡ appended q e a → f ≡ (appended q e a).queue
-with_room e a g = ap (λ y. y.queue) g
-
-pub with_none : {q f : Queue} (e a : ℤ) → appended_by (Err f) ≡ appended q e a → f ≡ (appended q e a).queue
-with_none e a g = ap (λ y. y.queue) g
+      told_as (once_on p u xs (length t) h ∙ b.ends ∙ ap (λ v. course d m v []) n) (sym (again t b r u' t' w).1) f

@@ -1,6 +1,7 @@
 -- What one event of a replay asks and says over the widget's state, which is lent: its way through the queue, its post, its run.
 -- Assumes nothing.
 use Rattle.std.specs.Prelude.{◌≡◌, ℕ, ◌≤◌, true, false, List, length, take, drop, ℤ, Option, None, Some, Result, Ok, Err}
+use Rattle.sizes.specs.Sizes.{QUEUE}
 use Rattle.queue.specs.Queue.{appended, removed}
 use Rattle.queue.specs.declared.Item.{Item}
 use Rattle.queue.specs.declared.Queue.{Queue}
@@ -14,9 +15,10 @@ use Rattle.plan_invariants.specs.Replay.{post_on, run_on}
 use Rattle.replaying.specs.declared.turns.Stopped.{Stopped}
 use Rattle.replaying.specs.declared.turns.Stopped.TheVariants.{AtPost, AtRun}
 
--- "Places not in use hold .. 0 with 0"
-abbrev pub Free : Queue → Type 0
-Free q = every is_none (drop q.len q.items) ≡ true
+-- "Places not in use hold .. 0 with 0", and there are as many places as a queue has
+pub record Free (q : Queue) : Type 0 where
+  pub none : every is_none (drop q.len q.items) ≡ true
+  pub whole : length q.items ≡ QUEUE
 
 -- an event is appended, and the front is removed; where there is no room nothing is touched
 abbrev pub Passes : Queue → ℤ → ℤ → Option Item → Queue → Type 0
