@@ -15,7 +15,6 @@ use Rattle.meaning.specs.Machine.{plan_post, plan_run}
 use Rattle.meaning.specs.Plan.{Plan}
 use Rattle.meaning.specs.declared.State.{State}
 use Rattle.std.specs.Prelude.{Ok, Err}
-use Rattle.invariants.specs.Good.{Sized}
 use Rattle.meaning.specs.Answers.{number_by}
 use Rattle.meaning.specs.declared.answers.Refusal.{Refusal}
 use Rattle.meaning.specs.declared.answers.Refusal.TheVariants.{WrongLine, OutsideSize, RuleFails, PlanTooLong, NotAPlan, Foreign, NotStarted}
@@ -72,9 +71,9 @@ pub record Coursing (p : Plan) (xs : List Item) (u : State) (t : List ℤ) (d : 
   pub fits : at ≤ length t₁
   pub kept : length t₁ ≡ length t
 
-pub coursing_begin : {p : Plan} {xs : List Item} {u : State} {t : List ℤ} → Starts p u → Sized u → Coursing p xs u t 0 u t 0
+pub coursing_begin : {p : Plan} {xs : List Item} {u : State} {t : List ℤ} → Starts p u → Coursing p xs u t 0 u t 0
 unfolding replay_by
-coursing_begin {p} {xs} {u} h z = record { so_far = refl; fit = own_fit p u z h.started h.own; fits = omega arith; kept = refl }
+coursing_begin {p} {xs} {u} h = record { so_far = refl; fit = own_fit p u h.sized h.started h.own; fits = omega arith; kept = refl }
 
 module _ {p : Plan} (w : Well p) {xs : List Item} {u : State} {t : List ℤ} {d : ℕ} {u₁ : State} {t₁ : List ℤ} {at : ℕ}
     (c : Coursing p xs u t d u₁ t₁ at) where

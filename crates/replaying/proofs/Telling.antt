@@ -103,8 +103,8 @@ module _ {p : Plan} {u : State} (h : Starts p u) {t t' : List ℤ} (l : length t
 -- a run is refused, seen from the state that it began with
 pub broken_here : {p : Plan} {u : State} (t t' : List ℤ) → length t' ≡ length t → {xs ys : List Item} → xs ≡ ys → {d m : ℕ}
     → Broken p (length t) xs u d m → Broken p (length t') ys u d m
-broken_here {p} {u} t t' l {xs} e {d} {m} b =
-    subst (λ n. Broken p n _ u d m) (sym l) (subst (λ zs. Broken p (length t) zs u d m) e b)
+broken_here {p} {u} t t' l {xs} {ys} e {d} {m} b =
+    subst (λ n. Broken p n ys u d m) (sym l) (subst (λ zs. Broken p (length t) zs u d m) e b)
 
 -- the events before a refused run, once more, are not refused: what is lent says the state after them, and the trace keeps its length
 again_by : {p : Plan} {u : State} (t : List ℤ) {xs : List Item} {d m : ℕ} → Broken p (length t) xs u d m → (e at : ℕ) (s : Stopped)

@@ -3,6 +3,7 @@
 use Rattle.std.specs.Prelude.{◌≡◌, ℕ, ◌<◌, ◌≤◌, true, Result, Ok, Err, List, [], length, get_or, take, ℤ, pos}
 use Rattle.queue.specs.Queue.{no_item}
 use Rattle.queue.specs.declared.Item.{Item}
+use Rattle.invariants.specs.Good.{Sized}
 use Rattle.meaning.specs.Machine.{plan_own}
 use Rattle.meaning.specs.Lists.{padded}
 use Rattle.meaning.specs.Plan.{Plan}
@@ -15,8 +16,9 @@ use Rattle.replaying.specs.declared.course.Halt.{Halt}
 use Rattle.replaying.specs.declared.turns.Stopped.{Stopped}
 use Rattle.replaying.specs.declared.turns.Stopped.TheVariants.{AtPost, AtRun}
 
--- a started state that passes the plan machine's test for 6
+-- a started state, its arrays of 01's size, that passes the plan machine's test for 6
 pub record Starts (p : Plan) (u : State) : Type 0 where
+  pub sized : Sized u
   pub started : u.started ≡ true
   pub own : plan_own p.states p.vars p.events u ≡ true
 
