@@ -14,7 +14,7 @@ use meaning::answers::{RULE_FAILS, Refusal};
 use meaning::{Answer, Called, State, Written};
 use queue::Queue;
 use queue_calls::answers::refused;
-use reader::read::{clear, read_rows};
+use reader::read::read_rows;
 use rules::check_rows;
 use rules::value::rule_0;
 use sizes::{STATES, VARIABLES};
@@ -43,7 +43,7 @@ pub fn read(text: &[u8], chart: &mut [i32]) -> Answer
     }
     let ruled = check_rows(chart);
     if ruled.number != 0 {
-        clear(chart);
+        chart.fill(0);
     }
     ruled
 }
@@ -54,7 +54,7 @@ pub fn write(chart: &[i32], out: &mut [u8]) -> Written
 {
     let verdict = check(chart);
     if verdict.number != 0 { // before 13
-        writer::clear(out);
+        out.fill(0);
         return Written {
             answer: verdict,
             length: 0,

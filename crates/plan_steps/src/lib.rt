@@ -94,6 +94,7 @@ pub fn settle(
 {
     let mut next = at;
     let mut turns: usize = 0;
+    // the form that 01 names: a loop that yields the settled widget or the refusal
     loop {
         let count = choose(plan, 0, &widget.active, &widget.vars, picks);
         if count == 0 {

@@ -4,7 +4,7 @@ use native.Mathlib.Omega.{arith}
 use Rattle.blocks.proofs.block_length.Goals as goal
 
 pub put_block-end-requires : goal.put_block-end-requires
-put_block-end-requires c = (c.requires.0, c.requires.1, c.requires.2)
+put_block-end-requires c = (c.requires.0, c.requires.1)
 
 pub returns : goal.returns
 returns c = omega (arith, emits_at _ _ _ c.put_block-end.ensures)

@@ -1,4 +1,5 @@
 -- `read`: the lines first, then the rules. Assumes nothing.
+use Rattle.reader.proofs.ReadLaws.{zeros_are}
 use mathlib.Core.Path.{refl}
 use Rattle.reader.proofs.RuledLaws.{read_fault, read_ruled}
 use Rattle.chart_engine.proofs.TextKept.{reads}
@@ -12,7 +13,7 @@ returns-then-ruled-ne0 c =
     reads (read_ruled _ _ _ _ c.read_rows-lines.ensures
     c.if-lines-ne0.false _
     c.check_rows-ruled.ensures _
-    (λ _. c.clear.ensures) (λ z. absurd (c.if-ruled-ne0.true z)))
+    (λ _. zeros_are _ _ (c.fill.ensures.after (λ y h. h))) (λ z. absurd (c.if-ruled-ne0.true z)))
 
 pub returns-else-ruled-ne0 : goal.returns-else-ruled-ne0
 returns-else-ruled-ne0 c =

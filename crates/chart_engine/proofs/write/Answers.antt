@@ -7,7 +7,7 @@ use Rattle.chart_engine.proofs.write.Goals as goal
 pub returns-then-verdict-ne0 : goal.returns-then-verdict-ne0
 returns-then-verdict-ne0 c =
     write_3 c.check-verdict.ensures c.if-verdict-ne0.true
-    (omega arith) c.clear.ensures
+    (omega arith) (c.fill.ensures.after (λ y h. h))
 
 pub write_passed-requires : goal.write_passed-requires
 write_passed-requires c = accepted c.check-verdict.ensures c.if-verdict-ne0.false

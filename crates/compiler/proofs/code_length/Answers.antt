@@ -6,9 +6,8 @@ use Rattle.compiler.proofs.code_length.Goals as goal
 
 pub put_code-end-requires : goal.put_code-end-requires
 put_code-end-requires c = (
-  c.requires.0,
-  c.requires.1,
-  omega (arith, code_most c.args.chart.now c.requires.0.ruled),
+  c.requires,
+  omega (arith, code_most c.args.c.now.chart.now c.args.c.now.prepared.ruled),
 )
 
 pub returns : goal.returns

@@ -5,7 +5,7 @@ use Rattle.compiler.proofs.put_blocks.Given as goal
 
 abbrev pub invariant-loop-j : goal.invariant-loop-j
 invariant-loop-j l =
-    Blocking (chart_of l.chart) l.initial.plan l.at l.j l.plan l.p
+    Blocking (chart_of l.c.chart.now) l.initial.plan l.at l.j l.plan l.p
 
 abbrev pub decreases-loop-j : goal.decreases-loop-j
 decreases-loop-j l =

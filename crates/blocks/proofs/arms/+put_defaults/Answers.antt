@@ -9,7 +9,7 @@ use native.Mathlib.Omega.{arith}
 use Rattle.blocks.proofs.arms.+put_defaults.Goals as goal
 
 pub kids_within-kids-requires : goal.kids_within-kids-requires
-kids_within-kids-requires t c = (c.requires.0.ruled, c.requires.1, defaults_on _ _)
+kids_within-kids-requires t c = (c.args.c.now.prepared.ruled, c.requires.0, defaults_on _ _)
 
 pub loop-d-init : goal.loop-d-init
 loop-d-init t c = going_begin _ _ by_defaults defaults _ _ _ _ _ _ (defaults_way _) c.kids_within-kids.ensures
@@ -20,7 +20,7 @@ overflow_step-d t c =
       arith,
       c.loop-d-test.true,
       c.kids_within-kids.ensures.within,
-      states_most c.args.chart.now,
+      states_most c.args.c.now.chart.now,
     )
 
 pub loop-d-smaller-then-not-is_child : goal.loop-d-smaller-then-not-is_child
@@ -34,7 +34,6 @@ loop-d-preserved-then-not-is_child t c =
 pub put_visit-p-requires : goal.put_visit-p-requires
 put_visit-p-requires t c = (
   c.requires.0,
-  c.requires.1,
   omega (
     arith,
     c.kids_within-kids.ensures.within,
@@ -43,7 +42,7 @@ put_visit-p-requires t c = (
   going_room _ _ _ _ _ _ _ _ _ _ c.loop-d.invariant
       c.loop-d-test.true
       (sym c.is_child.ensures ∙ not-false _ c.if-not-is_child.false-raw)
-      c.requires.2,
+      c.requires.1,
 )
 
 pub overflow_sub-left : goal.overflow_sub-left
@@ -70,7 +69,6 @@ put_defaults-p-requires t c = (
         )),
   ),
   (
-    c.requires.0,
     omega (
       arith,
       c.kids_within-kids.ensures.within,
@@ -80,7 +78,7 @@ put_defaults-p-requires t c = (
         c.loop-d-test.true
         (sym c.is_child.ensures ∙ not-false _
         c.if-not-is_child.false-raw) c.put_visit-p.ensures
-        c.requires.2,
+        c.requires.1,
   ),
 )
 
@@ -90,7 +88,7 @@ overflow_step-d-in-loop-d t c =
       arith,
       c.loop-d-test.true,
       c.kids_within-kids.ensures.within,
-      states_most c.args.chart.now,
+      states_most c.args.c.now.chart.now,
     )
 
 pub loop-d-smaller : goal.loop-d-smaller

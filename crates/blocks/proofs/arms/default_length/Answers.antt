@@ -10,11 +10,10 @@ use Rattle.blocks.proofs.arms.default_length.Goals as goal
 pub put_defaults-end-requires : goal.put_defaults-end-requires
 put_defaults-end-requires c = (
   c.requires.0,
-  c.requires.1,
   omega (
     arith,
-    c.requires.2,
-    ap length (arm_as (chart_of c.args.chart.now) c.args.b
+    c.requires.1,
+    ap length (arm_as (chart_of c.args.c.now.chart.now) c.args.b
         c.state_count.result c.state_count.ensures),
   ),
 )
@@ -24,6 +23,6 @@ returns c =
     omega (
       arith,
       emits_at _ _ _ c.put_defaults-end.ensures,
-      ap length (arm_as (chart_of c.args.chart.now) c.args.b
+      ap length (arm_as (chart_of c.args.c.now.chart.now) c.args.b
           c.state_count.result c.state_count.ensures),
     )

@@ -5,7 +5,7 @@ use Rattle.compiler.proofs.heads.put_heads.Given as goal
 
 abbrev pub invariant-loop-j : goal.invariant-loop-j
 invariant-loop-j l =
-    Heading (chart_of l.chart) l.start l.initial.plan l.at l.j l.plan l.p l.from
+    Heading (chart_of l.c.chart.now) l.start l.initial.plan l.at l.j l.plan l.p l.from
 
 abbrev pub decreases-loop-j : goal.decreases-loop-j
 decreases-loop-j l =
