@@ -17,8 +17,9 @@ use Rattle.meaning.specs.declared.State.{State}
 use Rattle.std.specs.Prelude.{Ok, Err}
 use Rattle.meaning.specs.Answers.{number_by}
 use Rattle.meaning.specs.declared.answers.Refusal.{Refusal}
-use Rattle.meaning.specs.declared.answers.Refusal.TheVariants.{WrongLine, OutsideSize, RuleFails, PlanTooLong, NotAPlan, Foreign, NotStarted}
-use Rattle.meaning.specs.declared.answers.Refusal.TheVariants.{QueueEmpty, QueueFull, NoSuchEvent, NoRoom, Unsettled, TextTooLong, SlotEmpty}
+use Rattle.meaning.specs.declared.answers.Refusal.TheVariants.{WrongLine, OutsideSize, RuleFails, PlanTooLong, NotAPlan}
+use Rattle.meaning.specs.declared.answers.Refusal.TheVariants.{Foreign, NotStarted, QueueEmpty, QueueFull, NoSuchEvent}
+use Rattle.meaning.specs.declared.answers.Refusal.TheVariants.{NoRoom, Unsettled, TextTooLong, SlotEmpty}
 use Rattle.replaying.specs.declared.turns.Stopped.{Stopped}
 use Rattle.replaying.specs.declared.turns.Stopped.TheVariants.{AtPost, AtRun}
 use Rattle.plan_invariants.specs.Replay.{post_on, run_on}
@@ -106,7 +107,8 @@ module _ {p : Plan} (w : Well p) {xs : List Item} {u : State} {t : List ℤ} {d 
           let ran : run_on p (length t) (post_on p x u₁).after ≡ record { number = 0; place = 0; after = u₂; trace = take n t₂ } =
           subst (λ m. run_on p m (post_on p x u₁).after ≡ record { number = 0; place = 0; after = u₂; trace = take n t₂ }) c.kept r.1 in
           record {
-            so_far = ap (through p (length t) u) (ap (λ j. take j xs) (add-one d) ∙ take-suc xs d no_item l ∙ ap (λ y. take d xs ++ (y ∷ [])) i)
+            so_far = ap (through p (length t) u)
+                (ap (λ j. take j xs) (add-one d) ∙ take-suc xs d no_item l ∙ ap (λ y. take d xs ++ (y ∷ [])) i)
                 ∙ from_here (x ∷ [])
                 ∙ one_done (post_on p) (run_on p (length t)) d u₁ (take at t₁) x [] r.0 ran
                 ∙ ap (λ j. course j 0 u₂ (take n t₂)) (sym (add-one d));

@@ -1,4 +1,4 @@
--- `pass` takes an event for an empty queue as it is. Assumes nothing.
+-- `pass` takes an event for an empty queue as it is; another one goes through the queue. Assumes nothing.
 use mir.Facts.{to_z-of_z}
 use Rattle.replaying.proofs.Passing.{pass_empty, pass_on}
 use Rattle.replaying.proofs.turns.pass.Goals as goal
