@@ -122,9 +122,7 @@ pub fn block_length(c: &Runnable, t: usize) -> usize
     requires { (t < length (chart_of c.now.chart.now).transitions) × Room (block (chart_of c.now.chart.now) t) 0 }
     ensures { result ≡ length (block (chart_of c.now.chart.now) t) }
 {
-    let mut none = [0i32; 1];
-    let end = put_block(c, t, &mut none, 0);
-    end / WIDTH
+    put_block(c, t, &mut [], 0) / WIDTH
 }
 
 // The root and its defaults.

@@ -23,11 +23,7 @@ use sizes::TRANSITIONS;
 fn sign_number(sign: Sign) -> i32
     ensures { result ≡ sign_number sign }
 {
-    match sign {
-        Sign::Equal => 1,
-        Sign::Less => 2,
-        Sign::More => 3,
-    }
+    sign as i32
 }
 
 // "guard variable (-1 none), sign (0 none, ..), constant (0 if none)"

@@ -69,9 +69,7 @@ fn put_code(
 fn start_length(c: &Runnable) -> usize
     ensures { result ≡ count_of (start_block (chart_of c.now.chart.now)) }
 {
-    let mut none = [0i32; 1];
-    let end = put_start(c, &mut none, 0);
-    end / WIDTH
+    put_start(c, &mut [], 0) / WIDTH
 }
 
 // How many instructions there are in all.
@@ -79,9 +77,7 @@ fn code_length(c: &Runnable, order: &[usize; TRANSITIONS], count: usize) -> usiz
     requires { InOrder (chart_of c.now.chart.now) order.now count }
     ensures { result ≡ count_of (code_of (chart_of c.now.chart.now)) }
 {
-    let mut none = [0i32; 1];
-    let end = put_code(c, order, count, &mut none, 0);
-    end / WIDTH
+    put_code(c, order, count, &mut [], 0) / WIDTH
 }
 
 // "low, high, first for each variable"

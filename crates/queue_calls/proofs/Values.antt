@@ -1,17 +1,21 @@
 -- The variables of a started state, one at a time: those that the chart has in their ranges, the others 0. Assumes nothing.
 use mathlib.Core.Path.{◌≡◌, refl, sym, ap, ◌∙◌}
-use Prim.Native.Nat.{ℕ, zero, suc, ◌+◌, ◌≤◌, ◌<◌}
+use Prim.Native.Nat.{ℕ, suc, ◌+◌, ◌≤◌, ◌<◌, ◌^◌}
 use mathlib.Core.Bool.{Bool, true, false, cond, ◌&&◌}
-use mathlib.Core.List.{List, [], ◌∷◌}
+use mathlib.Core.List.{List}
 use native.Mathlib.Omega.{arith}
 use native.Mathlib.Numerals.{add-one}
 use borrow.Author.Tests.{lt-ltb, le-ltb, ltb-true, ltb-false}
-use lib.Dec.{ltb}
+use lib.Dec.{ltb, eqb}
+use lib.Signed.{mag}
+use mir.Syntax.{w32}
+use mir.Val.{of_z}
 use lib.IntN.{ℤ, pos}
 use lib.ListN.{length, get_or, drop, drop_of_length-le}
-use lib.Seq.{drop-cons, drop-nil}
+use lib.Seq.{drop-cons}
 use Rattle.numbers.specs.Equal.{eq_z}
 use Rattle.numbers.specs.Range.{within}
+use Rattle.numbers.proofs.Laws.{eq_z_refl, eq_z_ne, eq_z_true, eq_z_false, test_bits}
 use Rattle.meaning.specs.declared.chart.VarRow.{VarRow}
 use Rattle.meaning.specs.Chart.{no_var}
 use Rattle.meaning.specs.Lists.{every}
@@ -19,6 +23,15 @@ use Rattle.meaning.specs.Tree.{var_row}
 use Rattle.meaning.specs.Rules.{within_row}
 use Rattle.meaning.specs.Foreign.{values_fit}
 use Rattle.queue_calls.specs.Parts.{value_fits}
+
+-- ---- a test `x == y` of signed numbers, where the definitions have y before x
+
+other_way : (x y : ℤ) (b : Bool) → eq_z x y ≡ b → b ≡ eq_z y x
+other_way x y true e = rw (eq_z_true x y e) (sym (eq_z_refl y))
+other_way x y false e = sym (eq_z_ne y x (λ q. eq_z_false x y e (sym q)))
+
+pub test_turned : (x y : ℤ) → mag x < 2 ^ 31 → mag y < 2 ^ 31 → eqb (of_z w32 x) (of_z w32 y) ≡ eq_z y x
+test_turned x y f g = test_bits x y f g ∙ other_way x y (eq_z x y) refl
 
 -- ---- one variable
 

@@ -19,6 +19,7 @@ ghost use Rattle.session.specs.Walked.{Walks, roomy};
 use console::{HEAD, LINE, Scan, collect};
 use meaning::answers::WRONG_LINE;
 use meaning::{Input, State};
+use queue::Item;
 use sizes::ENTRY;
 
 // "With room for 1,000 entries", three numbers each.
@@ -143,19 +144,15 @@ pub fn turn(
     requires { Ruled chart.now × (length trace.old ≡ Room) }
     ensures { Takes (turn_of (chart_of chart.now) state line) out.old at out.new result }
 {
-    match line {
-        Input::Posts(event, argument) => {
-            let posted = engine::checked::post_checked(chart, state, event, argument);
-            let answer = posted.answer;
-            let number = answer.number;
-            let after = posted.state;
-            if number != 0 {
-                return refusal(number, after, out, at);
-            }
-            ran(chart, after, out, at, trace)
-        }
-        Input::Wrong => refusal(WRONG_LINE, state, out, at),
+    let Some(Item { event, arg }) = line else {
+        return refusal(WRONG_LINE, state, out, at);
+    };
+    let posted = engine::checked::post_checked(chart, state, event, arg);
+    let number = posted.answer.number;
+    if number != 0 {
+        return refusal(number, posted.state, out, at);
     }
+    ran(chart, posted.state, out, at, trace)
 }
 
 // The end of a line: its turn, and the next line has not begun.
