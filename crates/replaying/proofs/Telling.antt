@@ -95,16 +95,14 @@ posted_after p x u z = go (is_active u 0) (event_fits p.events x.event x.arg) (a
 
 module _ {p : Plan} {u : State} (h : Starts p u) {t t' : List ℤ} (l : length t' ≡ length t) where
   -- none is left, or a post is refused
-  pub ended_told : {xs ys : List Item} → xs ≡ ys → {c : Course} → through p (length t) u xs ≡ c → {r : Replayed} {t₁ : List ℤ}
-      → Told c t' r t₁ → Told (replay_examined p u ys (length t)) t r t₁
-  ended_told {xs} e y f =
-      told_as (ap (λ zs. replay_examined p u zs (length t)) (sym e) ∙ once_on p u xs (length t) h ∙ y) (sym l) f
+  pub ended_told : (xs : List Item) {c : Course} → through p (length t) u xs ≡ c → {r : Replayed} {t₁ : List ℤ}
+      → Told c t' r t₁ → Told (replay_examined p u xs (length t)) t r t₁
+  ended_told xs y f = told_as (once_on p u xs (length t) h ∙ y) (sym l) f
 
 -- a run is refused, seen from the state that it began with
-pub broken_here : {p : Plan} {u : State} (t t' : List ℤ) → length t' ≡ length t → {xs ys : List Item} → xs ≡ ys → {d m : ℕ}
-    → Broken p (length t) xs u d m → Broken p (length t') ys u d m
-broken_here {p} {u} t t' l {xs} {ys} e {d} {m} b =
-    subst (λ n. Broken p n ys u d m) (sym l) (subst (λ zs. Broken p (length t) zs u d m) e b)
+pub broken_here : {p : Plan} {u : State} (t t' : List ℤ) → length t' ≡ length t → {xs : List Item} {d m : ℕ}
+    → Broken p (length t) xs u d m → Broken p (length t') xs u d m
+broken_here {p} {u} t t' l {xs} {d} {m} b = subst (λ n. Broken p n xs u d m) (sym l) b
 
 -- the events before a refused run, once more, are not refused: what is lent says the state after them, and the trace keeps its length
 again_by : {p : Plan} {u : State} (t : List ℤ) {xs : List Item} {d m : ℕ} → Broken p (length t) xs u d m → (e at : ℕ) (s : Stopped)

@@ -15,7 +15,7 @@ ghost use Rattle.plan_invariants.specs.Replay.{replay_examined as once};
 ghost use Rattle.promises.specs.Replay.{course as went, items_of, replay as defined};
 ghost use Rattle.replaying.specs.Course.{Told, Starts, Broken};
 
-use course::go_through;
+use course::{EVENT, go_through};
 use examiner::examine;
 use meaning::answers::{FOREIGN, NOT_A_PLAN, NOT_STARTED};
 use meaning::plan::Counts;
@@ -28,9 +28,6 @@ use queue::Queue;
 use sizes::ENTRY;
 use turns::Stopped;
 use widget::clear_from;
-
-// How many numbers an event with its argument has.
-const EVENT: usize = 2;
 
 // Stopped before the first event: the state is as it was, and the lent trace is 0.
 fn stopped(number: usize, state: State, trace: &mut [i32]) -> Replayed
@@ -84,7 +81,7 @@ fn as_posted(
         trace.old result trace.new }
 {
     let mut widget = state;
-    let _ = go_through(plan, events, done, &mut widget, trace);
+    let _ = go_through(plan, &events[..2 * done], &mut widget, trace);
     let event = events[2 * done];
     let arg = events[2 * done + 1];
     widget.queue = with_event(widget.queue, event, arg);
@@ -111,9 +108,8 @@ pub fn replay_examined(
     }
     let planned = Plan::of(plan, k);
     let mut widget = state;
-    let count = events.len() / EVENT;
-    match go_through(&planned, events, count, &mut widget, trace) {
-        Ok(at) => told(count, 0, at, widget, trace),
+    match go_through(&planned, events, &mut widget, trace) {
+        Ok(at) => told(events.len() / EVENT, 0, at, widget, trace),
         Err(halt) => match halt.why {
             Stopped::AtPost(why) => told(halt.done, why.number(), halt.at, widget, trace),
             Stopped::AtRun(why) => {

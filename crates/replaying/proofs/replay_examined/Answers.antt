@@ -1,6 +1,5 @@
 -- `replay_examined` tries 7 and 6, goes through the events, and ends as they went. Assumes nothing.
-use mathlib.Core.Path.{◌≡◌, refl, sym, ap, ◌∙◌}
-use Prim.Native.Nat.{◌/◌}
+use mathlib.Core.Path.{refl, sym, ap, ◌∙◌}
 use lib.ListN.{length, take}
 use borrow.Author.Tests.{not-true, not-false}
 use borrow.Author.Rules.{rules}
@@ -8,7 +7,7 @@ use Rattle.invariants.specs.Good.{Sized}
 use Rattle.meaning.specs.WellFormed.{plan_by}
 use Rattle.promises.specs.Replay.{course, items_of}
 use Rattle.replaying.specs.Course.{Starts}
-use Rattle.replaying.proofs.Events.{all_items, half, so_many}
+use Rattle.replaying.proofs.Events.{how_many}
 use Rattle.replaying.proofs.Telling.{broken_here, ended_told, once_6, once_7, told_as}
 use Rattle.replaying.proofs.replay_examined.Goals.{Else-not-own, Start}
 use Rattle.replaying.proofs.replay_examined.Goals as goal
@@ -16,10 +15,6 @@ use Rattle.replaying.proofs.replay_examined.Goals as goal
 -- the arrays of a state have their full size
 sized_of : (c : Start) → Sized c.args.state
 sized_of c = record { active = search rules; slots = search rules; vars = search rules; items = search rules }
-
--- half as many events as numbers are all of them
-all_there : (c : Start) → take (length c.args.events.now / 2) (items_of c.args.events.now) ≡ items_of c.args.events.now
-all_there c = all_items c.args.events.now (length c.args.events.now / 2) (half (length c.args.events.now)).1
 
 pub returns-then-not-state : goal.returns-then-not-state
 returns-then-not-state c =
@@ -48,20 +43,20 @@ as_posted-requires c =
     let w = rw (c.of-planned.ensures.numbers, c.in-AtRun.is) at c.in-Err.ensures in
     rw (c.of-planned.ensures.numbers, c.number-in-AtRun.ensures) (
       ready (goal.at.as_posted-requires c).Else-not-own (sized_of s),
-      broken_here c.args.trace.now c.go_through.new.trace w.1 (all_there s) w.0,
+      broken_here c.args.trace.now c.go_through.new.trace w.1 w.0,
     )
 
 pub returns-in-Ok : goal.returns-in-Ok
 returns-in-Ok c =
     let s = (goal.at.returns-in-Ok c).Start in
     let w = rw c.of-planned.ensures.numbers at c.in-Ok.ensures in
-    let n = so_many c.args.events.now (length c.args.events.now / 2) (half (length c.args.events.now)).0 in
-    ended_told (ready (goal.at.returns-in-Ok c).Else-not-own (sized_of s)) w.2 (all_there s)
+    let n = how_many c.args.events.now in
+    ended_told (ready (goal.at.returns-in-Ok c).Else-not-own (sized_of s)) w.2 _
     (w.0 ∙ ap (λ d. course d 0 c.go_through.new.widget (take c.in-Ok.at c.go_through.new.trace)) n) c.told.ensures
 
 pub returns-in-AtPost : goal.returns-in-AtPost
 returns-in-AtPost c =
     let s = (goal.at.returns-in-AtPost c).Start in
     let w = rw (c.of-planned.ensures.numbers, c.in-AtPost.is) at c.in-Err.ensures in
-    ended_told (ready (goal.at.returns-in-AtPost c).Else-not-own (sized_of s)) w.1 (all_there s) w.0.0
+    ended_told (ready (goal.at.returns-in-AtPost c).Else-not-own (sized_of s)) w.1 _ w.0.0
     (rw c.number.ensures at c.told-in-AtPost.ensures)
