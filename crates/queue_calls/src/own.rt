@@ -120,12 +120,7 @@ fn values_fit(chart: &[i32], vars: [i32; VARIABLES]) -> bool
     ensures { result ≡ values_fit (chart_of chart.now).vars vars }
 {
     let n = var_count(chart);
-    for v in 0..n {
-        if !value_fits(chart, v, vars[v]) {
-            return false;
-        }
-    }
-    rest_zero(n, &vars)
+    (0..n).all(|v| value_fits(chart, v, vars[v])) && rest_zero(n, &vars)
 }
 
 // An empty slot's marker is never taken for a state.
