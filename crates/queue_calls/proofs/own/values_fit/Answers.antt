@@ -1,7 +1,7 @@
 -- `values_fit` passes every variable of the chart, and then the others. Assumes nothing.
 use Rattle.std.proofs.Common.{rules, tests, arith, ◌≡◌, ◌≤◌}
 use Rattle.std.proofs.lemmas.Iterator.{serves_from_Range}
-use mathlib.Core.Path.{sym, ap, ◌∙◌}
+use mathlib.Core.Path.{◌∙◌}
 use mathlib.Core.Bool.{◌&&◌}
 use mir.Facts.{to_z-of_z}
 use mir.Syntax.{w32}
