@@ -10,7 +10,7 @@ ghost use Rattle.meaning.specs.Tree.{kind_of};
 ghost use Rattle.meaning.specs.Value.{chart_of};
 ghost use Rattle.meaning.specs.Widget.{is_filled, slot};
 ghost use Rattle.meaning.specs.Foreign.{legal_at, legal, values_fit, slots_fit, own as owns};
-ghost use Rattle.queue_calls.specs.Parts.{tally_of, Tallied, value_fits, leads_if, slot_if, slots_if, is_at, in_slot, Completes};
+ghost use Rattle.queue_calls.specs.Parts.{tally_of, no_children, Tallied, value_fits, leads_if, slot_if, slots_if, is_at, in_slot, Completes};
 
 use chart_rows::{event_count, kind_of, parent_of, state_count, var_count, var_row};
 use meaning::State;
@@ -21,21 +21,19 @@ use tree::kin::{is_child, is_o};
 use widget::fits::{marks_fit, queue_fits};
 
 // How many children a state has, and how many of them are active.
-#[derive(Drop)]
+#[derive(Clone, Copy)]
 pub struct Tally {
     pub all: u16,
     pub on: u16,
 }
 
+// Before any child is counted.
+const NO_CHILDREN: Tally = Tally { all: 0, on: 0 };
+
 // The same of every state. One pass over the states: each is counted at its parent.
-fn count_children(
-    chart: &[i32],
-    active: &[bool; STATES],
-    all: &mut [u16; STATES],
-    on: &mut [u16; STATES],
-)
-    requires { (all.old ≡ replicate states 0) × (on.old ≡ replicate states 0) }
-    ensures { Tallied (chart_of chart.now) active.now all.new on.new }
+fn count_children(chart: &[i32], active: &[bool; STATES], tallies: &mut [Tally; STATES])
+    requires { tallies.old ≡ replicate states no_children }
+    ensures { Tallied (chart_of chart.now) active.now tallies.new }
 {
     let n = state_count(chart);
     for d in 0..n {
@@ -46,11 +44,11 @@ fn count_children(
         if STATES <= p {
             continue;
         }
-        all[p] += 1;
-        if !active[d] {
-            continue;
-        }
-        on[p] += 1;
+        let Tally { all, on } = tallies[p];
+        tallies[p] = Tally {
+            all: all + 1,
+            on: on + u16::from(active[d]),
+        };
     }
 }
 
@@ -77,15 +75,10 @@ fn legal(chart: &[i32], active: &[bool; STATES]) -> bool
         return false;
     }
     let n = state_count(chart);
-    let mut all = [0u16; STATES];
-    let mut on = [0u16; STATES];
-    count_children(chart, active, &mut all, &mut on);
+    let mut tallies = [NO_CHILDREN; STATES];
+    count_children(chart, active, &mut tallies);
     for s in 0..n {
-        let t = Tally {
-            all: all[s],
-            on: on[s],
-        };
-        if !legal_at(chart, active, s, t) {
+        if !legal_at(chart, active, s, tallies[s]) {
             return false;
         }
     }
@@ -120,12 +113,7 @@ fn values_fit(chart: &[i32], vars: [i32; VARIABLES]) -> bool
     ensures { result ≡ values_fit (chart_of chart.now).vars vars }
 {
     let n = var_count(chart);
-    for v in 0..n {
-        if !value_fits(chart, v, vars[v]) {
-            return false;
-        }
-    }
-    rest_zero(n, &vars)
+    (0..n).all(|v| value_fits(chart, v, vars[v])) && rest_zero(n, &vars)
 }
 
 // An empty slot's marker is never taken for a state.
