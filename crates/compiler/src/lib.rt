@@ -121,7 +121,7 @@ fn compile_passed(chart: &[i32], plan: &mut [i32]) -> Compiled
     let vars = var_count(c.chart);
     let length = 6 + 3 * vars + 10 * heads + WIDTH * code;
     if plan.len() < length {
-        clear_from(plan, 0);
+        clear_from(plan, 0); // too long
         let answer = Answer {
             number: PLAN_TOO_LONG,
             place: 0,
