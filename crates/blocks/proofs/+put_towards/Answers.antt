@@ -29,18 +29,6 @@ loop-d-init t c =
     refl (goal_kids_left _ c.args.goal _ _ _ _ c.next_of.result
     c.next_of.ensures c.kids_within-kids.ensures)
 
-pub overflow_step-d : goal.overflow_step-d
-overflow_step-d t c =
-    omega (
-      arith,
-      c.loop-d-test.true,
-      c.kids_within-kids.ensures.within,
-      states_most c.args.c.now.chart.now,
-    )
-
-pub loop-d-smaller-then-not-is_child : goal.loop-d-smaller-then-not-is_child
-loop-d-smaller-then-not-is_child t c = omega (arith, c.loop-d-test.true)
-
 pub loop-d-preserved-then-not-is_child : goal.loop-d-preserved-then-not-is_child
 loop-d-preserved-then-not-is_child t c =
     going_skip _ _ _ _ _ _ _ _ _ _ c.loop-d.invariant
@@ -59,18 +47,6 @@ put_arrival-p-requires t c = (
       (sym c.is_child.ensures ∙ not-false _ c.if-not-is_child.false-raw)
       c.requires.2,
 )
-
-pub overflow_sub-left : goal.overflow_sub-left
-overflow_sub-left t c =
-    omega (
-      arith,
-      c.kids_within-kids.ensures.more
-          (omega (
-            arith,
-            c.loop-d-test.true,
-            c.loop-d.invariant.since,
-          )),
-    )
 
 pub put_towards-p-requires : goal.put_towards-p-requires
 put_towards-p-requires t c = (
@@ -98,18 +74,6 @@ put_towards-p-requires t c = (
   ),
 )
 
-pub overflow_step-d-in-loop-d : goal.overflow_step-d-in-loop-d
-overflow_step-d-in-loop-d t c =
-    omega (
-      arith,
-      c.loop-d-test.true,
-      c.kids_within-kids.ensures.within,
-      states_most c.args.c.now.chart.now,
-    )
-
-pub loop-d-smaller : goal.loop-d-smaller
-loop-d-smaller t c = omega (arith, c.loop-d-test.true)
-
 pub loop-d-preserved : goal.loop-d-preserved
 loop-d-preserved t c =
     going_on _ _ _ _ _ _ _ _ _ _ c.loop-d.invariant
@@ -117,9 +81,6 @@ loop-d-preserved t c =
     (sym c.is_child.ensures ∙ not-false _
     c.if-not-is_child.false-raw)
     c.put_arrival-p.ensures c.put_towards-p.ensures
-
-pub shape_of-plan : goal.shape_of-plan
-shape_of-plan t c = omega (arith, going_size _ _ _ _ _ _ _ _ _ _ c.loop-d.invariant)
 
 pub returns : goal.returns
 returns t c = going_end _ _ _ _ _ _ _ _ _ _ c.loop-d.invariant c.loop-d-test.false

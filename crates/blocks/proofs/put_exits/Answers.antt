@@ -45,8 +45,5 @@ loop-d-preserved c = (
       c.put_exit-p.ensures,
 )
 
-pub shape_of-plan : goal.shape_of-plan
-shape_of-plan c = omega (arith, same_size _ _ _ _ _ _ c.loop-d.invariant.1.owes)
-
 pub returns : goal.returns
 returns c = falling_end c.loop-d.invariant.1 (omega (arith, c.loop-d-test.false))

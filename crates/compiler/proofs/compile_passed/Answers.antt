@@ -42,19 +42,6 @@ overflow_add-length c =
       plan_long (chart_of c.new-c.result.chart.now),
     )
 
-pub overflow_mul-length-2 : goal.overflow_mul-length-2
-overflow_mul-length-2 c =
-    omega (
-      arith,
-      c.var_count-vars.ensures,
-      vars_most c.new-c.result.chart.now,
-      c.order_of-heads.ensures.few,
-      order_long c.order_of-heads.ensures,
-      c.code_length-code.ensures,
-      code_most c.new-c.result.chart.now c.new-c.result.prepared.ruled,
-      plan_long (chart_of c.new-c.result.chart.now),
-    )
-
 pub overflow_add-length-2 : goal.overflow_add-length-2
 overflow_add-length-2 c =
     omega (

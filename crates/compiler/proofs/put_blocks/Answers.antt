@@ -22,8 +22,5 @@ loop-t-preserved c =
     blocking_on c.requires.0 c.loop-t.invariant
     c.loop-t-test.true c.put_block-p.ensures
 
-pub shape_of-plan : goal.shape_of-plan
-shape_of-plan c = omega (arith, same_size _ _ _ _ _ _ c.loop-t.invariant.owes)
-
 pub returns : goal.returns
 returns c = blocking_end c.requires.0 c.loop-t.invariant c.loop-t-test.false

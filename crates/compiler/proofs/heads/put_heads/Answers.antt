@@ -68,8 +68,5 @@ loop-t-preserved c =
     c.loop-t-test.true _ c.block_length-k.ensures
     c.put_head-p.ensures
 
-pub shape_of-plan : goal.shape_of-plan
-shape_of-plan c = omega (arith, same_sized _ _ _ _ _ _ c.loop-t.invariant.owes)
-
 pub returns : goal.returns
 returns c = heading_end c.requires.0 c.loop-t.invariant c.loop-t-test.false
