@@ -42,9 +42,7 @@ fn default_length(c: &Runnable, b: usize) -> usize
     requires { (b < length (chart_of c.now.chart.now).states) × Room (default_arm (chart_of c.now.chart.now) b) 0 }
     ensures { result ≡ length (default_arm (chart_of c.now.chart.now) b) }
 {
-    let mut none = [0i32; 1];
-    let end = put_defaults(c, b, state_count(c.chart), &mut none, 0);
-    end / WIDTH
+    put_defaults(c, b, state_count(c.chart), &mut [], 0) / WIDTH
 }
 
 // "for each proper descendant d of B, rising"
@@ -64,9 +62,7 @@ fn stored_length(c: &Runnable, b: usize) -> usize
     requires { (b < length (chart_of c.now.chart.now).states) × Room (stored_arm (chart_of c.now.chart.now) b) 0 }
     ensures { result ≡ length (stored_arm (chart_of c.now.chart.now) b) }
 {
-    let mut none = [0i32; 1];
-    let end = put_stored_arm(c, b, &mut none, 0);
-    end / WIDTH
+    put_stored_arm(c, b, &mut [], 0) / WIDTH
 }
 
 // "SKIPFULL B over the default arm; the arm; SKIPEMPTY B over the stored arm; the arm"

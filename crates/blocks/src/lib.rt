@@ -62,7 +62,8 @@ fn put_arrival(c: &Runnable, goal: Goal, p: usize, s: usize, plan: &mut [i32], a
     put_arms(c, b, plan, q)
 }
 
-// Below s the way to the goal; components off it by default.
+// Below s the way to the goal; components off it by default. `put_defaults` stays beside it: the arms at a history's owner go down by
+// defaults, so that one descent for both would call itself through them too, and `left` alone, which starts anew there, would not fall.
 fn put_towards(
     c: &Runnable,
     goal: Goal,
@@ -122,9 +123,7 @@ pub fn block_length(c: &Runnable, t: usize) -> usize
     requires { (t < length (chart_of c.now.chart.now).transitions) × Room (block (chart_of c.now.chart.now) t) 0 }
     ensures { result ≡ length (block (chart_of c.now.chart.now) t) }
 {
-    let mut none = [0i32; 1];
-    let end = put_block(c, t, &mut none, 0);
-    end / WIDTH
+    put_block(c, t, &mut [], 0) / WIDTH
 }
 
 // The root and its defaults.

@@ -14,7 +14,7 @@ ghost use Rattle.meaning.specs.Plan.{var_numbers, six};
 ghost use Rattle.meaning.specs.Value.{chart_of};
 ghost use Rattle.meaning.specs.Rules.{Ruled};
 ghost use Rattle.emitter.specs.Pen.{pen, puts, emits, Room};
-ghost use Rattle.compiler.specs.Plans.{InOrder, Compiles};
+ghost use Rattle.compiler.specs.Plans.{Compiles};
 
 use acts::index::Runnable;
 use blocks::{put_block, put_start};
@@ -30,58 +30,41 @@ use sizes::TRANSITIONS;
 use widget::clear_from;
 
 // "the blocks in head order"
-fn put_blocks(
-    c: &Runnable,
-    order: &[usize; TRANSITIONS],
-    count: usize,
-    plan: &mut [i32],
-    at: usize,
-) -> usize
-    requires { InOrder (chart_of c.now.chart.now) order.now count
+fn put_blocks(c: &Runnable, order: &[usize], plan: &mut [i32], at: usize) -> usize
+    requires { (order.now ≡ head_order (chart_of c.now.chart.now))
         × Room (concat_map (block (chart_of c.now.chart.now)) (head_order (chart_of c.now.chart.now))) at }
     ensures { pen plan.new result ≡ emits (concat_map (block (chart_of c.now.chart.now))
         (head_order (chart_of c.now.chart.now))) (pen plan.old at) }
 {
     let mut p = at;
-    for j in 0..count {
-        let t = order[j];
-        p = put_block(c, t, plan, p);
+    for t in order {
+        p = put_block(c, *t, plan, p);
     }
     p
 }
 
 // "the start block, then the blocks in head order, no gaps"
-fn put_code(
-    c: &Runnable,
-    order: &[usize; TRANSITIONS],
-    count: usize,
-    plan: &mut [i32],
-    at: usize,
-) -> usize
-    requires { InOrder (chart_of c.now.chart.now) order.now count × Room (code_of (chart_of c.now.chart.now)) at }
+fn put_code(c: &Runnable, order: &[usize], plan: &mut [i32], at: usize) -> usize
+    requires { (order.now ≡ head_order (chart_of c.now.chart.now)) × Room (code_of (chart_of c.now.chart.now)) at }
     ensures { pen plan.new result ≡ emits (code_of (chart_of c.now.chart.now)) (pen plan.old at) }
 {
     let p = put_start(c, plan, at);
-    put_blocks(c, order, count, plan, p)
+    put_blocks(c, order, plan, p)
 }
 
 // How many instructions the start block has.
 fn start_length(c: &Runnable) -> usize
     ensures { result ≡ count_of (start_block (chart_of c.now.chart.now)) }
 {
-    let mut none = [0i32; 1];
-    let end = put_start(c, &mut none, 0);
-    end / WIDTH
+    put_start(c, &mut [], 0) / WIDTH
 }
 
 // How many instructions there are in all.
-fn code_length(c: &Runnable, order: &[usize; TRANSITIONS], count: usize) -> usize
-    requires { InOrder (chart_of c.now.chart.now) order.now count }
+fn code_length(c: &Runnable, order: &[usize]) -> usize
+    requires { (order.now ≡ head_order (chart_of c.now.chart.now)) }
     ensures { result ≡ count_of (code_of (chart_of c.now.chart.now)) }
 {
-    let mut none = [0i32; 1];
-    let end = put_code(c, order, count, &mut none, 0);
-    end / WIDTH
+    put_code(c, order, &mut [], 0) / WIDTH
 }
 
 // "low, high, first for each variable"
@@ -118,14 +101,15 @@ fn compile_passed(chart: &[i32], plan: &mut [i32]) -> Compiled
     ensures { Compiles chart.now plan.old result plan.new }
 {
     let c = Runnable::new(chart);
-    let mut order = [0usize; TRANSITIONS];
-    let heads = order_of(c.chart, &mut order);
+    let mut numbers = [0usize; TRANSITIONS];
+    let heads = order_of(c.chart, &mut numbers);
+    let order = &numbers[..heads];
     let start = start_length(&c);
-    let code = code_length(&c, &order, heads);
+    let code = code_length(&c, order);
     let vars = var_count(c.chart);
     let length = 6 + 3 * vars + 10 * heads + WIDTH * code;
     if plan.len() < length {
-        clear_from(plan, 0);
+        clear_from(plan, 0); // too long
         let answer = Answer {
             number: PLAN_TOO_LONG,
             place: 0,
@@ -134,8 +118,8 @@ fn compile_passed(chart: &[i32], plan: &mut [i32]) -> Compiled
     }
     let p0 = put_six(c.chart, heads, code, start, plan);
     let p1 = put_vars(c.chart, plan, p0);
-    let p2 = put_heads(&c, &order, heads, start, plan, p1);
-    let end = put_code(&c, &order, heads, plan, p2);
+    let p2 = put_heads(&c, order, start, plan, p1);
+    let end = put_code(&c, order, plan, p2);
     clear_from(plan, end);
     let answer = Answer {
         number: 0,
@@ -152,13 +136,13 @@ fn compile_passed(chart: &[i32], plan: &mut [i32]) -> Compiled
 pub fn compile(chart: &[i32], plan: &mut [i32]) -> Compiled
     ensures { Compiles chart.now plan.old result plan.new }
 {
-    let verdict = rules::check(chart);
-    if verdict.number == 0 {
-        return compile_passed(chart, plan);
+    if let Err(refusal) = rules::check(chart) {
+        clear_from(plan, 0);
+        let answer = Answer {
+            number: refusal.number(),
+            place: refusal.place(),
+        };
+        return Compiled { answer, length: 0 };
     }
-    clear_from(plan, 0);
-    Compiled {
-        answer: verdict,
-        length: 0,
-    }
+    compile_passed(chart, plan)
 }

@@ -32,7 +32,5 @@ pub fn act_count(c: &Runnable, owner: Owner) -> usize
     requires { Fits owner }
     ensures { result ≡ length (code_acts (chart_of c.now.chart.now) owner) }
 {
-    let mut none = [0i32; 1];
-    let end = put_acts(c, owner, &mut none, 0);
-    end / WIDTH
+    put_acts(c, owner, &mut [], 0) / WIDTH
 }

@@ -10,10 +10,11 @@
 ghost use Rattle.std.specs.Prelude.{◌≤◌, length};
 ghost use Rattle.promises.specs.Promises.{Planned};
 
-use console::{LF, Scan, put, put_digits};
+use console::{LF, Scan};
 use engine::{State, VALUE};
 use files::{BUFFER, LENT, PLAN, chart_text};
 use meaning::answers::WRONG_LINE;
+use queue::Item;
 use std::io;
 use std::io::Read;
 use std::rt::Files;
@@ -24,11 +25,8 @@ const TRACE: usize = 3000;
 // Events between two lines of progress.
 const EVERY: usize = 100000;
 
-// Room for one line that is written.
-const LINE: usize = 100;
-
 // Where a session stands: whether reports are shown; the answer that stopped it or 0, the widget, the line under way, and what is counted.
-#[derive(Drop)]
+#[derive(Clone, Copy)]
 struct Stand {
     shown: bool,
     answer: usize,
@@ -38,41 +36,13 @@ struct Stand {
     taken: usize,
 }
 
-// Counts go up to the largest number and stay there.
-fn more(n: usize, by: usize) -> usize {
-    if usize::MAX - n < by {
-        return usize::MAX;
-    }
-    n + by
-}
-
-// How many entries of a trace say that a transition was taken: those that begin with 1.
+// How many entries of a trace, of three numbers each, say that a transition was taken: those that begin with 1.
 fn taken_in(trace: &[i32], entries: usize) -> usize {
-    let mut count: usize = 0;
-    let mut i: usize = 0;
-    let mut at: usize = 0;
-    while i < entries {
-        if trace.len() <= at {
-            break;
-        }
-        if trace[at] == 1 {
-            count = more(count, 1);
-        }
-        at = more(at, 3);
-        i += 1;
-    }
-    count
-}
-
-// Writes a text behind the place.
-fn put_text(text: &[u8], out: &mut [u8], at: usize) -> usize {
-    let mut p = at;
-    let mut i: usize = 0;
-    while i < text.len() {
-        p = put(out, p, text[i]);
-        i += 1;
-    }
-    p
+    trace
+        .chunks_exact(3)
+        .take(entries)
+        .filter(|entry| entry.first() == Some(&1))
+        .count()
 }
 
 // Writes what was collected, up to the place.
@@ -99,19 +69,11 @@ fn show_end(
     if shown {
         return Ok(());
     }
-    let mut out = [0u8; LINE];
-    let a = put_digits(&mut out, 0, done);
-    let b = put_text(b" events, ", &mut out, a);
-    let c = put_digits(&mut out, b, taken);
-    let d = put_text(b" transitions", &mut out, c);
     if answer == 0 {
-        let last = put(&mut out, d, LF);
-        return print(rt, &out, last);
+        println!(rt; "{done} events, {taken} transitions")
+    } else {
+        println!(rt; "{done} events, {taken} transitions, answer {answer}")
     }
-    let e = put_text(b", answer ", &mut out, d);
-    let f = put_digits(&mut out, e, answer);
-    let g = put(&mut out, f, LF);
-    print(rt, &out, g)
 }
 
 // The report of a call.
@@ -144,10 +106,8 @@ fn shown_event(
         show_report(rt, number, trace, entries)?;
         return Ok(0);
     }
-    if number == 0 {
-        if done % EVERY == 0 {
-            show_progress(rt, done);
-        }
+    if number == 0 && done % EVERY == 0 {
+        show_progress(rt, done);
     }
     Ok(number)
 }
@@ -162,22 +122,16 @@ fn do_event(
 ) -> io::Result<Stand>
     requires { Planned plan.now }
 {
-    let events = [event, arg];
     let mut trace = [0; TRACE];
-    let state = here.state;
-    let scan = here.scan;
-    let r = engine::examined::replay_examined(plan, state, &events, &mut trace);
-    let answer = r.answer;
-    let after = r.state;
-    let done = more(here.done, r.done);
-    let stops = shown_event(rt, here.shown, answer.number, &trace, r.entries, done)?;
+    let r = engine::examined::replay_examined(plan, here.state, &[event, arg], &mut trace);
+    let done = here.done.saturating_add(r.done);
+    let answer = shown_event(rt, here.shown, r.answer.number, &trace, r.entries, done)?;
     Ok(Stand {
-        shown: here.shown,
-        answer: stops,
-        state: after,
-        scan: scan,
-        done: done,
-        taken: more(here.taken, taken_in(&trace, r.entries)),
+        answer,
+        state: r.state,
+        done,
+        taken: here.taken.saturating_add(taken_in(&trace, r.entries)),
+        ..here
     })
 }
 
@@ -185,50 +139,27 @@ fn do_event(
 fn do_line(rt: &(impl Print + Eprint), plan: &[i32], here: Stand) -> io::Result<Stand>
     requires { Planned plan.now }
 {
-    let scan = here.scan;
-    let state = here.state;
-    let line = scan.line();
-    match line {
-        meaning::Input::Posts(event, arg) => do_event(rt, plan, here, event, arg),
-        meaning::Input::Wrong => {
-            let stops = refusal(rt, here.shown, WRONG_LINE)?;
-            Ok(Stand {
-                shown: here.shown,
-                answer: stops,
-                state: state,
-                scan: scan,
-                done: here.done,
-                taken: here.taken,
-            })
-        }
+    if let Some(Item { event, arg }) = here.scan.line() {
+        return do_event(rt, plan, here, event, arg);
     }
+    let answer = refusal(rt, here.shown, WRONG_LINE)?;
+    Ok(Stand { answer, ..here })
 }
 
 // One byte of the input: LF ends the line.
 fn feed(rt: &(impl Print + Eprint), plan: &[i32], here: Stand, b: u8) -> io::Result<Stand>
     requires { Planned plan.now }
 {
-    let scan = here.scan;
     if b == LF {
         let ended = do_line(rt, plan, here)?;
-        let state = ended.state;
         return Ok(Stand {
-            shown: ended.shown,
-            answer: ended.answer,
-            state: state,
             scan: Scan::empty(),
-            done: ended.done,
-            taken: ended.taken,
+            ..ended
         });
     }
-    let state = here.state;
     Ok(Stand {
-        shown: here.shown,
-        answer: here.answer,
-        state: state,
-        scan: scan.feed(b),
-        done: here.done,
-        taken: here.taken,
+        scan: here.scan.feed(b),
+        ..here
     })
 }
 
@@ -237,13 +168,11 @@ fn feed_all(rt: &(impl Print + Eprint), plan: &[i32], here: Stand, part: &[u8]) 
     requires { Planned plan.now }
 {
     let mut at = here;
-    let mut i: usize = 0;
-    while i < part.len() {
+    for b in part {
         if at.answer != 0 {
             break;
         }
-        at = feed(rt, plan, at, part[i])?;
-        i += 1;
+        at = feed(rt, plan, at, *b)?;
     }
     Ok(at)
 }
@@ -254,8 +183,7 @@ fn read_all(rt: &(impl Input + Print + Eprint), plan: &[i32], first: Stand) -> i
     requires { Planned plan.now }
 {
     let mut here = first;
-    let mut parts = u64::MAX;
-    while parts > 0 {
+    for _ in 0..u64::MAX {
         let mut buffer = [0u8; BUFFER];
         let n = rt.reader().read(&mut buffer)?;
         if n == 0 {
@@ -265,7 +193,6 @@ fn read_all(rt: &(impl Input + Print + Eprint), plan: &[i32], first: Stand) -> i
         if here.answer != 0 {
             break;
         }
-        parts -= 1;
     }
     Ok(here)
 }
@@ -280,22 +207,18 @@ fn run_events(
     requires { Planned plan.now }
 {
     let first = Stand {
-        shown: shown,
+        shown,
         answer: 0,
-        state: state,
+        state,
         scan: Scan::empty(),
         done: 0,
         taken: 0,
     };
-    let read = read_all(rt, plan, first)?;
-    let scan = read.scan;
-    if read.answer == 0 {
-        if scan.began() {
-            let last = do_line(rt, plan, read)?;
-            return show_end(rt, shown, last.answer, last.done, last.taken);
-        }
+    let mut last = read_all(rt, plan, first)?;
+    if last.answer == 0 && last.scan.began() {
+        last = do_line(rt, plan, last)?;
     }
-    show_end(rt, shown, read.answer, read.done, read.taken)
+    show_end(rt, shown, last.answer, last.done, last.taken)
 }
 
 // A session that ends before its first event.
@@ -310,16 +233,13 @@ fn run_widget(rt: &(impl Input + Print + Eprint), plan: &[i32], shown: bool) -> 
 {
     let mut trace = [0; TRACE];
     let started = engine::planned::start(plan, engine::unstarted(), &mut trace);
-    let answer = started.answer;
-    let state = started.state;
+    let number = started.answer.number;
     if shown {
-        show_report(rt, answer.number, &trace, started.entries)?;
-        return run_events(rt, plan, shown, state);
+        show_report(rt, number, &trace, started.entries)?;
+    } else if number != 0 {
+        return show_end(rt, shown, number, 0, 0);
     }
-    if answer.number != 0 {
-        return show_end(rt, shown, answer.number, 0, 0);
-    }
-    run_events(rt, plan, shown, state)
+    run_events(rt, plan, shown, started.state)
 }
 
 // The plan is examined once.
@@ -342,9 +262,8 @@ pub fn run(rt: &(impl Files + Input + Print + Eprint), shown: bool) -> io::Resul
     }
     let mut plan = [0; PLAN];
     let compiled = engine::plans::compile(&chart, &mut plan);
-    let answer = compiled.answer;
-    if answer.number != 0 {
-        return end_early(rt, shown, answer.number);
+    if compiled.answer.number != 0 {
+        return end_early(rt, shown, compiled.answer.number);
     }
     run_plan(rt, &plan, shown)
 }

@@ -1,6 +1,6 @@
 -- Laws of opening the session: a text that is refused, and a chart that was read, which passes the rules. Assumes nothing.
 use mathlib.Core.Path.{◌≡◌, refl, sym, ap, ◌∙◌}
-use mathlib.Core.Bool.{Bool, true, false, false≢true}
+use mathlib.Core.Bool.{Bool, true, false}
 use mathlib.Core.List.{List, [], ◌∷◌, ◌++◌, append-nil}
 use mathlib.Core.Option.{Option, none, some}
 use Prim.Native.Nat.{ℕ, ◌+◌, ◌-◌, ◌≤◌}
@@ -22,8 +22,9 @@ use Rattle.round_trip.proofs.Values.{enough}
 use Rattle.console.specs.Session.{Turns, Passed, passed_all, finished, all_printed}
 use Rattle.console.specs.Session.{Under as Seen}
 use Rattle.console.proofs.Session.{fresh, session_printed, all_by_parts, under_append, printed_append, printed_none}
-use Rattle.session.specs.declared.Opened.{Opened}
-use Rattle.session.specs.Turned.{Takes, Opens, quiet, turned, LARGEST}
+use Rattle.std.specs.Prelude.{Ok, Err}
+use Rattle.session.specs.declared.Turned.{Turned}
+use Rattle.session.specs.Turned.{Takes, Opens, quiet, LARGEST}
 
 -- a read is never refused with 0
 never_zero : (text : List ℕ) (n p : ℕ) → read text n ≡ refused 0 p → ⊥
@@ -50,15 +51,15 @@ read_is text v l e m k =
     let none_left : VALUE - length v ≡ 0 = omega arith in
     m ∙ rw (none_left, append-nil)
 
-module _ (text : List ℕ) (a : Answer) (l : List ℤ) (before after : List ℕ) (at : ℕ) (r : Opened) where
-  pub open_refused : a ≡ answer_of (read text VALUE) → (a.number ≡ 0 → ⊥) → r.going ≡ false
-      → Takes (quiet a.number unstarted) before at after (turned r) → Opens (read text VALUE) l before at after r
+module _ (text : List ℕ) (a : Answer) (l : List ℤ) (before after : List ℕ) (at : ℕ) (r : Turned) where
+  pub open_refused : a ≡ answer_of (read text VALUE) → (a.number ≡ 0 → ⊥)
+      → Takes (quiet a.number unstarted) before at after r → Opens (read text VALUE) l before at after (Err r)
   unfolding Opens
-  open_refused e h g w = go (read text VALUE) e
+  open_refused e h w = go (read text VALUE) e
     where
-      go : (o : Result (List ℤ)) → a ≡ answer_of o → Opens o l before at after r
+      go : (o : Result (List ℤ)) → a ≡ answer_of o → Opens o l before at after (Err r)
       go (done v) e = absurd (h (ap (λ x. x.number) e))
-      go (refused n p) e = record { going = g; takes = rw (ap (λ x. x.number) e) at w }
+      go (refused n p) e = rw (ap (λ x. x.number) e) at w
 
 module _ (text : List ℕ) (a : Answer) (l : List ℤ) (e : a ≡ answer_of (read text VALUE)) (m : l ≡ lent_numbers VALUE (read text VALUE))
     (k : length l ≡ VALUE) (z : a.number ≡ 0) where
@@ -82,24 +83,29 @@ module _ (text : List ℕ) (a : Answer) (l : List ℤ) (e : a ≡ answer_of (rea
   pub read_ruled : Ruled l
   read_ruled = rw read_done.here read_done.ruled
 
-  pub open_started : (before after : List ℕ) (at : ℕ) (r : Opened) → r.going ≡ true
-      → Takes (reported (start (chart_of l) unstarted ROOM)) before at after (turned r) → Opens (read text VALUE) l before at after r
+  pub open_started : (before after : List ℕ) (at : ℕ) (r : Turned)
+      → Takes (reported (start (chart_of l) unstarted ROOM)) before at after r → Opens (read text VALUE) l before at after (Ok r)
   unfolding Opens
-  open_started before after at r g w =
-      rw read_done.is (record { going = g; value = read_done.here; ruled = read_done.ruled; takes = rw read_done.here at w })
+  open_started before after at r w =
+      rw read_done.is (record { value = read_done.here; ruled = read_done.ruled; takes = rw read_done.here at w })
 
 -- ---- what a caller learns
 
-module _ (l : List ℤ) (before after : List ℕ) (at : ℕ) (r : Opened) where
-  pub opens_whole : (o : Result (List ℤ)) → Opens o l before at after r → at + LARGEST ≤ length before → r.at ≤ at + LARGEST
+module _ (l : List ℤ) (before after : List ℕ) (at : ℕ) (r : Turned) where
+  pub ended_whole : (o : Result (List ℤ)) → Opens o l before at after (Err r) → at + LARGEST ≤ length before → r.at ≤ at + LARGEST
   unfolding Opens
-  opens_whole (refused n p) w = w.takes.whole
+  ended_whole (refused n p) w = w.whole
+  ended_whole (done v) w = absurd w
+
+  pub opens_whole : (o : Result (List ℤ)) → Opens o l before at after (Ok r) → at + LARGEST ≤ length before → r.at ≤ at + LARGEST
+  unfolding Opens
+  opens_whole (refused n p) w = absurd w
   opens_whole (done v) w = w.takes.whole
 
-  pub opens_ruled : (o : Result (List ℤ)) → Opens o l before at after r → r.going ≡ true → Ruled l
+  pub opens_ruled : (o : Result (List ℤ)) → Opens o l before at after (Ok r) → Ruled l
   unfolding Opens
-  opens_ruled (refused n p) w h = absurd (false≢true (sym w.going ∙ h))
-  opens_ruled (done v) w h = rw w.value w.ruled
+  opens_ruled (refused n p) w = absurd w
+  opens_ruled (done v) w = rw w.value w.ruled
 
 -- ---- the whole output: what opening prints, and then, byte by byte, what the session prints
 

@@ -10,15 +10,13 @@ use lib.ListN.{length}
 use Rattle.pen.specs.Pen.{pen, put_all}
 use Rattle.meaning.specs.declared.State.{State}
 use Rattle.meaning.specs.declared.Called.{Called}
-use Rattle.meaning.specs.declared.Input.{Input}
-use Rattle.meaning.specs.declared.Input.TheVariants.{Posts, Wrong}
 use Rattle.meaning.specs.Chart.{Chart}
 use Rattle.meaning.specs.Steps.{Res, ok, refuse}
 use Rattle.meaning.specs.Split.{LF}
 use Rattle.meaning.specs.Widget.{Ctx, ENTRY}
 use Rattle.meaning.specs.Value.{chart_of}
 use Rattle.meaning.specs.Calls.{Outcome, called, lent, outcome, as_found, start, post, run, start_of, run_of}
-use Rattle.meaning.specs.Program.{ROOM, report, reported, do_line, after_post}
+use Rattle.meaning.specs.Program.{Input, posts, another_form, ROOM, report, reported, do_line, after_post}
 use Rattle.meaning.specs.Rules.{Ruled}
 use Rattle.promises.specs.Promises.{Started, Ran}
 use Rattle.chart_engine.proofs.ByRules.{start_on, run_on}
@@ -96,11 +94,11 @@ unfolding after_post
 after_done c o h = rw (eq-eqb o.number 0 h, after_post)
 
 module _ (c : Chart) (u : State) (l : Input) (before after : List ℕ) (at : ℕ) (r : Turned) where
-  pub turn_wrong : l ≡ Wrong → Takes (quiet 1 u) before at after r → Takes (do_line c u l) before at after r
+  pub turn_wrong : l ≡ another_form → Takes (quiet 1 u) before at after r → Takes (do_line c u l) before at after r
   unfolding do_line
   turn_wrong e w = rw e w
 
-  module _ (e a : ℤ) (is : l ≡ Posts e a) (p : Called) (posted : p ≡ called (post c u e a)) where
+  module _ (e a : ℤ) (is : l ≡ posts e a) (p : Called) (posted : p ≡ called (post c u e a)) where
     pub turn_refused : (p.answer.number ≡ 0 → ⊥) → Takes (quiet p.answer.number p.state) before at after r
         → Takes (do_line c u l) before at after r
     unfolding do_line called

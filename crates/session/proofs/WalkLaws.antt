@@ -4,10 +4,9 @@ use mathlib.Core.Path.{◌≡◌, refl, sym, ap, ◌∙◌}
 use mathlib.Core.Bool.{Bool, true, false}
 use mathlib.Core.List.{List, [], ◌∷◌, ◌++◌, append-nil}
 use Prim.Native.Nat.{ℕ, suc, ◌+◌, ◌-◌, ◌<◌, ◌≤◌}
-use borrow.Author.Tests.{leb-true, leb-false, le-leb, lt-leb}
+use borrow.Author.Tests.{leb-true, le-leb}
 use native.Mathlib.Omega.{arith}
 use native.Mathlib.Numerals.{add-one}
-use lib.Dec.{leb}
 use lib.ListN.{length, get_or, take, drop, length-drop, take-append-drop}
 use lib.Seq.{slice, slice_empty, drop-cons, drop-append-le, length-take-le, length-slice, take-take}
 use Rattle.pen.specs.Pen.{Pen, pen, put_all}
@@ -64,17 +63,6 @@ reach_inside f u p (b ∷ bs) rest e h =
     reach_more f u p b (bs ++ rest) e
     ∙ ap (λ q. suc (reach f q.under (put_all q.printed p) (bs ++ rest))) (passed_inside f u b bs h)
     ∙ omega arith
-
--- the test for room
-pub room_none : (out : List ℕ) (at : ℕ) → length out < LARGEST → false ≡ roomy (pen out at)
-room_none out at h = sym (lt-leb (at + LARGEST) (length out) (omega arith))
-
-pub room_by : (out : List ℕ) (at : ℕ) → LARGEST ≤ length out → leb at (length out - LARGEST) ≡ roomy (pen out at)
-room_by out at h = go (leb at (length out - LARGEST)) refl
-  where
-    go : (t : Bool) → leb at (length out - LARGEST) ≡ t → t ≡ roomy (pen out at)
-    go true e = let k = leb-true at (length out - LARGEST) e in sym (le-leb (at + LARGEST) (length out) (omega arith))
-    go false e = let k = leb-false at (length out - LARGEST) e in sym (lt-leb (at + LARGEST) (length out) (omega arith))
 
 -- ---- the bytes between two places
 

@@ -1,6 +1,7 @@
 -- What a step of the session gives: the widget, what was printed behind the place in the lent bytes, and that all of it is there where
 -- they had enough room. Assumes nothing.
-use Rattle.std.specs.Prelude.{ℕ, ◌+◌, ◌*◌, ◌≤◌, ◌≡◌, true, false, List, [], ℤ, length}
+use Rattle.std.specs.Prelude.{ℕ, ◌+◌, ◌*◌, ◌≤◌, ◌≡◌, List, [], ℤ, length, Ok, Err}
+use Rattle.std.specs.Prelude.{Result as Opened}
 use Rattle.meaning.specs.declared.State.{State}
 use Rattle.meaning.specs.Value.{chart_of}
 use Rattle.meaning.specs.Calls.{start, unstarted}
@@ -11,7 +12,6 @@ use Rattle.pen.specs.Pen.{pen, put_all}
 use Rattle.console.specs.Shown.{HEAD, LINE}
 use Rattle.console.specs.Session.{Passed}
 use Rattle.console.specs.Session.{Under as Seen}
-use Rattle.session.specs.declared.Opened.{Opened}
 use Rattle.session.specs.declared.Turned.{Turned}
 use Rattle.session.specs.declared.Under.{Under}
 
@@ -29,24 +29,18 @@ pub record Takes (t : Turn) (before : List ℕ) (at : ℕ) (after : List ℕ) (r
 abbrev pub quiet : ℕ → State → Turn
 quiet number u = record { state = u; printed = report number [] }
 
--- opening the session: "A refused chart prints the same and ends the program"; a chart that was read passes the rules, and the widget
--- starts
-abbrev pub turned : Opened → Turned
-turned r = record { state = r.state; at = r.at }
-
-pub record Ends (n : ℕ) (before : List ℕ) (at : ℕ) (after : List ℕ) (r : Opened) : Type 0 where
-  pub going : r.going ≡ false
-  pub takes : Takes (quiet n unstarted) before at after (turned r)
-
-pub record Starts (v chart : List ℤ) (before : List ℕ) (at : ℕ) (after : List ℕ) (r : Opened) : Type 0 where
-  pub going : r.going ≡ true
+-- opening the session: "A refused chart prints the same and ends the program", which is an Err; a chart that was read passes the rules,
+-- and the widget starts
+pub record Starts (v chart : List ℤ) (before : List ℕ) (at : ℕ) (after : List ℕ) (r : Turned) : Type 0 where
   pub value : chart ≡ v
   pub ruled : Ruled v
-  pub takes : Takes (reported (start (chart_of v) unstarted ROOM)) before at after (turned r)
+  pub takes : Takes (reported (start (chart_of v) unstarted ROOM)) before at after r
 
-unfoldable pub Opens : Result (List ℤ) → List ℤ → List ℕ → ℕ → List ℕ → Opened → Type 0
-Opens (refused n p) chart before at after r = Ends n before at after r
-Opens (done v) chart before at after r = Starts v chart before at after r
+unfoldable pub Opens : Result (List ℤ) → List ℤ → List ℕ → ℕ → List ℕ → Opened Turned Turned → Type 0
+Opens (refused n p) chart before at after (Err r) = Takes (quiet n unstarted) before at after r
+Opens (refused n p) chart before at after (Ok r) = ⊥
+Opens (done v) chart before at after (Ok r) = Starts v chart before at after r
+Opens (done v) chart before at after (Err r) = ⊥
 
 -- the same of the widget and the line under way
 pub record Passes (p : Passed) (before : List ℕ) (at : ℕ) (after : List ℕ) (r : Under) : Type 0 where

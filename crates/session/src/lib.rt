@@ -19,6 +19,7 @@ ghost use Rattle.session.specs.Walked.{Walks, roomy};
 use console::{HEAD, LINE, Scan, collect};
 use meaning::answers::WRONG_LINE;
 use meaning::{Input, State};
+use queue::Item;
 use sizes::ENTRY;
 
 // "With room for 1,000 entries", three numbers each.
@@ -51,24 +52,13 @@ pub struct Walked {
     pub under: Under,
 }
 
-// What opening the session gave: whether it goes on, the widget, and the place behind what was printed.
-#[derive(Drop)]
-pub struct Opened {
-    pub going: bool,
-    pub state: State,
-    pub at: usize,
-}
-
 // What prints an answer and no entry: R, number, 0.
 pub fn refusal(number: usize, state: State, out: &mut [u8], at: usize) -> Turned
     ensures { Takes (quiet number state) out.old at out.new result }
 {
     let nothing = [0; 1];
     let place = console::report(out, at, number, &nothing, 0);
-    Turned {
-        state: state,
-        at: place,
-    }
+    Turned { state, at: place }
 }
 
 // "it starts"
@@ -77,43 +67,29 @@ pub fn started(chart: &[i32], out: &mut [u8], at: usize, trace: &mut [i32]) -> T
     ensures { Takes (reported (starts (chart_of chart.now) none Room)) out.old at out.new result }
 {
     let called = engine::checked::start_checked(chart, engine::unstarted(), trace);
-    let answer = called.answer;
-    let place = console::report(out, at, answer.number, trace, called.entries);
-    let after = called.state;
+    let place = console::report(out, at, called.answer.number, trace, called.entries);
     Turned {
-        state: after,
+        state: called.state,
         at: place,
     }
 }
 
-// "A refused chart prints the same and ends the program"; else the widget starts.
+// "A refused chart prints the same and ends the program", an Err; else the widget starts, and the session goes on.
 pub fn begin(
     bytes: &[u8],
     chart: &mut [i32],
     out: &mut [u8],
     at: usize,
     trace: &mut [i32],
-) -> Opened
+) -> Result<Turned, Turned>
     requires { (length chart.old ≡ VALUE) × (length trace.old ≡ Room) }
     ensures { Opens (read bytes.now VALUE) chart.new out.old at out.new result }
 {
     let answer = engine::read(bytes, chart);
     if answer.number != 0 {
-        let t = refusal(answer.number, engine::unstarted(), out, at);
-        let state = t.state;
-        return Opened {
-            going: false,
-            state: state,
-            at: t.at,
-        };
+        return Err(refusal(answer.number, engine::unstarted(), out, at));
     }
-    let t = started(chart, out, at, trace);
-    let state = t.state;
-    Opened {
-        going: true,
-        state: state,
-        at: t.at,
-    }
+    Ok(started(chart, out, at, trace))
 }
 
 // "runs each line": the run of the front event.
@@ -122,11 +98,9 @@ fn ran(chart: &[i32], state: State, out: &mut [u8], at: usize, trace: &mut [i32]
     ensures { Takes (reported (runs (chart_of chart.now) state Room)) out.old at out.new result }
 {
     let called = engine::checked::run_checked(chart, state, trace);
-    let answer = called.answer;
-    let place = console::report(out, at, answer.number, trace, called.entries);
-    let after = called.state;
+    let place = console::report(out, at, called.answer.number, trace, called.entries);
     Turned {
-        state: after,
+        state: called.state,
         at: place,
     }
 }
@@ -143,19 +117,15 @@ pub fn turn(
     requires { Ruled chart.now × (length trace.old ≡ Room) }
     ensures { Takes (turn_of (chart_of chart.now) state line) out.old at out.new result }
 {
-    match line {
-        Input::Posts(event, argument) => {
-            let posted = engine::checked::post_checked(chart, state, event, argument);
-            let answer = posted.answer;
-            let number = answer.number;
-            let after = posted.state;
-            if number != 0 {
-                return refusal(number, after, out, at);
-            }
-            ran(chart, after, out, at, trace)
-        }
-        Input::Wrong => refusal(WRONG_LINE, state, out, at),
+    let Some(Item { event, arg }) = line else {
+        return refusal(WRONG_LINE, state, out, at);
+    };
+    let posted = engine::checked::post_checked(chart, state, event, arg);
+    let number = posted.answer.number;
+    if number != 0 {
+        return refusal(number, posted.state, out, at);
     }
+    ran(chart, posted.state, out, at, trace)
 }
 
 // The end of a line: its turn, and the next line has not begun.
@@ -172,9 +142,8 @@ fn line_ends(
         out.old at out.new result }
 {
     let ended = turn(chart, state, scan.line(), out, at, trace);
-    let after = ended.state;
     Under {
-        state: after,
+        state: ended.state,
         scan: Scan::empty(),
         at: ended.at,
     }
@@ -185,10 +154,7 @@ fn has_room(out: &[u8], at: usize) -> bool
     ensures { result ≡ roomy (pen out.now at) }
 {
     let n = out.len();
-    if n < LARGEST {
-        return false;
-    }
-    at <= n - LARGEST
+    LARGEST <= n && at <= n - LARGEST
 }
 
 // The bytes of a part of the input from a place on, line by line: the walk stops at the part's end, where the line may go on in the next
@@ -211,21 +177,16 @@ pub fn walk(
         if !has_room(out, now.at) {
             break;
         }
-        let scan = now.scan;
-        let line = collect(part, i, scan);
-        let state = now.state;
-        let collected = line.scan;
-        let at = now.at;
+        let line = collect(part, i, now.scan);
         if line.upto == part.len() {
             now = Under {
-                state: state,
-                scan: collected,
-                at: at,
+                scan: line.scan,
+                ..now
             };
             i = line.upto;
             break;
         }
-        now = line_ends(chart, state, collected, out, at, trace);
+        now = line_ends(chart, now.state, line.scan, out, now.at, trace);
         i = line.upto + 1;
     }
     Walked {
@@ -240,10 +201,8 @@ pub fn finish(chart: &[i32], under: Under, out: &mut [u8], trace: &mut [i32]) ->
     ensures { Passes (finished (turn_of (chart_of chart.now)) (seen under))
         out.old under.at out.new result }
 {
-    let state = under.state;
-    let scan = under.scan;
-    if scan.began() {
-        return line_ends(chart, state, scan, out, under.at, trace);
+    if under.scan.began() {
+        return line_ends(chart, under.state, under.scan, out, under.at, trace);
     }
     under
 }

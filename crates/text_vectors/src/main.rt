@@ -6,7 +6,7 @@
 
 ghost use Rattle.std.specs.Prelude.{◌≤◌};
 
-use engine::VALUE;
+use engine::{Answer, VALUE};
 use files::{ARGUMENT, LENT, argument, file_bytes};
 use std::env::Env;
 use std::io;
@@ -16,46 +16,26 @@ use std::rt::Files;
 fn stem(named: usize) -> usize
     ensures { result ≤ named }
 {
-    if named < 4 {
-        return named;
-    }
-    named - 4
+    if named < 4 { named } else { named - 4 }
 }
 
 fn print(rt: &impl Print, word: &[u8]) -> io::Result<()> {
     rt.write_all(word)
 }
 
-fn print_number(rt: &impl Print, n: usize) -> io::Result<()> {
-    print!(rt; "\t{n}")
-}
-
-// The first n bytes of what was written are the text.
-fn begins_with(written: &[u8], n: usize, text: &[u8]) -> bool {
-    if written.len() < n {
-        return false;
-    }
-    &written[..n] == text
-}
-
 // The chart that was read, written as text, is the text that it was read from.
 fn written_back(text: &[u8], chart: &[i32]) -> bool {
     let mut buf = [0u8; LENT];
-    let w = engine::write(chart, &mut buf);
-    let answer = w.answer;
-    if answer.number != 0 {
-        return false;
-    }
-    begins_with(&buf, w.length, text)
+    let written = engine::write(chart, &mut buf);
+    written.answer.number == 0 && buf.get(..written.length) == Some(text)
 }
 
 // Answer, place, and whether the text came back.
 fn report(rt: &impl Print, text: &[u8]) -> io::Result<()> {
     let mut chart = [0i32; VALUE];
-    let answer = engine::read(text, &mut chart);
-    print_number(rt, answer.number)?;
-    print_number(rt, answer.place)?;
-    if answer.number != 0 {
+    let Answer { number, place } = engine::read(text, &mut chart);
+    print!(rt; "\t{number}\t{place}")?;
+    if number != 0 {
         return print(rt, b"\t-\n");
     }
     if written_back(text, &chart) {

@@ -19,13 +19,6 @@ use session::{LARGEST, ROOM, Under};
 use std::io;
 use std::io::Read;
 
-// One part of the input: whether there may be more, and where the session stands.
-#[derive(Drop)]
-struct Part {
-    more: bool,
-    under: Under,
-}
-
 // Writes what was collected, up to the place.
 fn print(rt: &impl Print, out: &[u8], at: usize) -> io::Result<()>
     requires { at ≤ length out.now }
@@ -62,48 +55,14 @@ fn feed_all(
     let mut i = 0;
     while i < part.len() {
         let walked = session::walk(chart, part, i, now, out, trace);
-        let next = walked.under;
-        let state = next.state;
-        let scan = next.scan;
-        let at = with_room(rt, out, next.at)?;
-        now = Under {
-            state: state,
-            scan: scan,
-            at: at,
-        };
+        let at = with_room(rt, out, walked.under.at)?;
+        now = Under { at, ..walked.under };
         i = walked.upto;
     }
     Ok(now)
 }
 
-// One part of the input.
-fn read_some(
-    rt: &(impl Input + Print),
-    chart: &[i32],
-    under: Under,
-    out: &mut [u8],
-    trace: &mut [i32],
-) -> io::Result<Part>
-    requires { Ruled chart.now × (under.at + Largest ≤ length out.old) × (length trace.old ≡ Room) }
-    ensures ok { IfOk result (λ part. part.under.at + Largest ≤ length out.new) }
-    ensures err { OnErr result ((length out.new ≡ length out.old) × (length trace.new ≡ length trace.old)) }
-{
-    let mut buffer = [0u8; BUFFER];
-    let n = rt.reader().read(&mut buffer)?;
-    if n == 0 {
-        return Ok(Part {
-            more: false,
-            under: under,
-        });
-    }
-    let fed = feed_all(rt, chart, &buffer[..n], under, out, trace)?;
-    Ok(Part {
-        more: true,
-        under: fed,
-    })
-}
-
-// All of the input. A proved loop has to end, and nothing says that the input does: the count of parts is larger than any.
+// All of the input, in parts. A proved loop has to end, and nothing says that the input does: the count of parts is larger than any.
 fn read_all(
     rt: &(impl Input + Print),
     chart: &[i32],
@@ -116,15 +75,13 @@ fn read_all(
     ensures err { OnErr result ((length out.new ≡ length out.old) × (length trace.new ≡ length trace.old)) }
 {
     let mut now = under;
-    let mut parts = u64::MAX;
-    while parts > 0 {
-        let part = read_some(rt, chart, now, out, trace)?;
-        let more = part.more;
-        now = part.under;
-        if !more {
+    'parts: for _ in 0..u64::MAX {
+        let mut buffer = [0u8; BUFFER];
+        let n = rt.reader().read(&mut buffer)?;
+        if n == 0 {
             break;
         }
-        parts -= 1;
+        now = feed_all(rt, chart, &buffer[..n], now, out, trace)?;
     }
     Ok(now)
 }
@@ -140,11 +97,11 @@ fn run_session(
 ) -> io::Result<()>
     requires { Ruled chart.now × (at ≤ length out.old) × (Largest ≤ length out.old) × (length trace.old ≡ Room) }
 {
-    let place = with_room(rt, out, at)?;
+    let at = with_room(rt, out, at)?;
     let first = Under {
-        state: state,
+        state,
         scan: Scan::empty(),
-        at: place,
+        at,
     };
     let read = read_all(rt, chart, first, out, trace)?;
     let last = session::finish(chart, read, out, trace);
@@ -157,10 +114,8 @@ fn main(rt: HostRuntime) -> io::Result<()> {
     let mut chart = [0; VALUE];
     let mut out = [0u8; BUFFER];
     let mut trace = [0; ROOM];
-    let opened = session::begin(&bytes[..n], &mut chart, &mut out, 0, &mut trace);
-    if opened.going {
-        let state = opened.state;
-        return run_session(&rt, &chart, state, opened.at, &mut out, &mut trace);
+    match session::begin(&bytes[..n], &mut chart, &mut out, 0, &mut trace) {
+        Ok(started) => run_session(&rt, &chart, started.state, started.at, &mut out, &mut trace),
+        Err(ended) => print(&rt, &out, ended.at),
     }
-    print(&rt, &out, opened.at)
 }

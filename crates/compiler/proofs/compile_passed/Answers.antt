@@ -1,6 +1,7 @@
 -- `compile_passed`: 4 by the length that the plan will have, else its parts one after the other, and 0 behind them. Assumes nothing.
 use Prim.Native.Nat.{ℕ}
-use lib.ListN.{length-replicate}
+use mathlib.Core.Path.{ap}
+use lib.ListN.{length, length-replicate}
 use Rattle.meaning.specs.Value.{chart_of}
 use Rattle.chart_rows.proofs.Rows.{vars_most}
 use Rattle.compiler.proofs.Bounds.{code_most}
@@ -13,7 +14,7 @@ pub order_of-heads-requires : goal.order_of-heads-requires
 order_of-heads-requires c = (c.new-c.result.prepared.ruled, length-replicate {A = ℕ} _ 0)
 
 pub code_length-code-requires : goal.code_length-code-requires
-code_length-code-requires c = c.order_of-heads.ensures
+code_length-code-requires c = c.order_of-heads.ensures.is
 
 pub overflow_mul-length : goal.overflow_mul-length
 overflow_mul-length c =
@@ -125,7 +126,7 @@ put_vars-p1-requires c =
 
 pub put_heads-p2-requires : goal.put_heads-p2-requires
 put_heads-p2-requires c = (
-  c.order_of-heads.ensures,
+  c.order_of-heads.ensures.is,
   c.start_length-start.ensures,
   omega (
     arith,
@@ -137,6 +138,7 @@ put_heads-p2-requires c = (
     vars_most c.new-c.result.chart.now,
     c.order_of-heads.ensures.few,
     order_long c.order_of-heads.ensures,
+    ap length c.order_of-heads.ensures.is,
     c.code_length-code.ensures,
     code_most c.new-c.result.chart.now c.new-c.result.prepared.ruled,
     plan_long (chart_of c.new-c.result.chart.now),
@@ -145,7 +147,7 @@ put_heads-p2-requires c = (
 
 pub put_code-end-requires : goal.put_code-end-requires
 put_code-end-requires c = (
-  c.order_of-heads.ensures,
+  c.order_of-heads.ensures.is,
   omega (
     arith,
     six_at (chart_of c.new-c.result.chart.now) _

@@ -9,23 +9,25 @@ use Rattle.session.proofs.Steps.{turn_wrong, turn_refused, turn_ran}
 use borrow.Author.Rules.{rules}
 use Rattle.session.proofs.turn.Goals as goal
 
+pub returns-in_default : goal.returns-in_default
+returns-in_default c = turn_wrong _ _ _ _ _ _ _ c.in_default.is c.refusal.ensures
+
 pub returns-then-number-ne0 : goal.returns-then-number-ne0
 returns-then-number-ne0 c =
-    let m : mag c.in-Posts.event < 2 ^ 31 = search rules in
-    let n : mag c.in-Posts.argument < 2 ^ 31 = search rules in
-    let told = rw (back32 c.in-Posts.event m, back32 c.in-Posts.argument n) at c.post_checked-posted.ensures.result in
-    turn_refused _ _ _ _ _ _ _ _ _ c.in-Posts.is _
+    let i = c.in-Some.field-0 in
+    let m : mag i.event < 2 ^ 31 = search rules in
+    let n : mag i.arg < 2 ^ 31 = search rules in
+    let told = rw (back32 i.event m, back32 i.arg n) at c.post_checked-posted.ensures.result in
+    turn_refused _ _ _ _ _ _ _ _ _ c.in-Some.is _
     (told ∙ ap called (post_on c.args.chart.now c.args.state c.requires.0 _ _))
-    c.if-number-ne0.true c.refusal.ensures
+    c.if-number-ne0.true c.refusal-then-number-ne0.ensures
 
-pub returns-else-number-ne0 : goal.returns-else-number-ne0
-returns-else-number-ne0 c =
-    let m : mag c.in-Posts.event < 2 ^ 31 = search rules in
-    let n : mag c.in-Posts.argument < 2 ^ 31 = search rules in
-    let told = rw (back32 c.in-Posts.event m, back32 c.in-Posts.argument n) at c.post_checked-posted.ensures.result in
-    turn_ran _ _ _ _ _ _ _ _ _ c.in-Posts.is _
+pub returns : goal.returns
+returns c =
+    let i = c.in-Some.field-0 in
+    let m : mag i.event < 2 ^ 31 = search rules in
+    let n : mag i.arg < 2 ^ 31 = search rules in
+    let told = rw (back32 i.event m, back32 i.arg n) at c.post_checked-posted.ensures.result in
+    turn_ran _ _ _ _ _ _ _ _ _ c.in-Some.is _
     (told ∙ ap called (post_on c.args.chart.now c.args.state c.requires.0 _ _))
     c.if-number-ne0.false c.ran.ensures
-
-pub returns-in-Wrong : goal.returns-in-Wrong
-returns-in-Wrong c = turn_wrong _ _ _ _ _ _ _ c.in-Wrong.is c.refusal-in-Wrong.ensures
