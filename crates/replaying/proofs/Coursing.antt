@@ -122,12 +122,10 @@ module _ {p : Plan} (w : Well p) {xs : List Item} {u : State} {t : List ℤ} {d 
           → GoneThrough p xs u t (Err (record { done = d; why = s; at = at })) u₂ t₂
       coursing_stop (AtPost e) r =
           let same : length t₂ ≡ length t₁ = ap length r.2 in (
-            (
-              ap (through p (length t) u) split ∙ from_here (x ∷ drop (suc d) xs)
-                  ∙ post_stops (post_on p) (run_on p (length t)) d u₁ (take at t₁) x (drop (suc d) xs) r.0 (refused_some e)
-                  ∙ ap (λ v. course d (number_by e) v (take at t₁)) (sym r.1) ∙ ap (λ s. course d (number_by e) u₂ (take at s)) (sym r.2),
-              omega (arith, c.fits, same),
-            ),
+            ap (through p (length t) u) split ∙ from_here (x ∷ drop (suc d) xs)
+                ∙ post_stops (post_on p) (run_on p (length t)) d u₁ (take at t₁) x (drop (suc d) xs) r.0 (refused_some e)
+                ∙ ap (λ v. course d (number_by e) v (take at t₁)) (sym r.1) ∙ ap (λ s. course d (number_by e) u₂ (take at s)) (sym r.2),
+            omega (arith, c.fits, same),
             same ∙ c.kept,
           )
       coursing_stop (AtRun e) r = (
@@ -143,5 +141,6 @@ module _ {p : Plan} (w : Well p) {xs : List Item} {u : State} {t : List ℤ} {d 
               ∙ ap (λ v. course d (number_by e) (post_on p x v).after []) (sym after_is)
               ∙ ap (λ v. course d (number_by e) (post_on p v (through p (length t) u (take d xs)).after).after []) (sym i);
         },
+        omega (arith, c.fits, r.2),
         r.2 ∙ c.kept,
       )

@@ -107,14 +107,14 @@ broken_here {p} {u} t t' l {xs} {d} {m} b = subst (λ n. Broken p n xs u d m) (s
 -- the events before a refused run, once more, are not refused: what is lent says the state after them, and the trace keeps its length
 again_by : {p : Plan} {u : State} (t : List ℤ) {xs : List Item} {d m : ℕ} → Broken p (length t) xs u d m → (e at : ℕ) (s : Stopped)
     (u' : State) (t' : List ℤ) → Halted p (take d xs) u t e at s u' t' → (through p (length t) u (take d xs)).after ≡ u'
-again_by t b e at (AtPost r) u' t' w = ap (λ (c : Course). c.after) w.0
+again_by t b e at (AtPost r) u' t' w = ap (λ (c : Course). c.after) w
 again_by t b e at (AtRun r) u' t' w = absurd (w.refused (ap (λ (c : Course). c.number) (sym w.ends) ∙ b.done))
 
 again : {p : Plan} {u : State} (t : List ℤ) {xs : List Item} {d m : ℕ} → Broken p (length t) xs u d m → (r : Result ℕ Halt)
     (u' : State) (t' : List ℤ) → GoneThrough p (take d xs) u t r u' t'
     → ((through p (length t) u (take d xs)).after ≡ u') × (length t' ≡ length t)
 again t b (Ok at) u' t' w = (ap (λ (c : Course). c.after) w.0, w.2)
-again t b (Err g) u' t' w = (again_by t b g.done g.at g.why u' t' w.0, w.1)
+again t b (Err g) u' t' w = (again_by t b g.done g.at g.why u' t' w.0, w.2)
 
 module _ {p : Plan} {u : State} (h : Starts p u) (t : List ℤ) {xs : List Item} {d m : ℕ} (b : Broken p (length t) xs u d m)
     (r : Result ℕ Halt) (u' : State) (t' : List ℤ) (w : GoneThrough p (take d xs) u t r u' t') where

@@ -18,10 +18,11 @@ use Rattle.meaning.specs.Plan.{Plan}
 use Rattle.meaning.specs.Steps.{Step, ◌then◌, bind, look, require}
 use Rattle.meaning.specs.Widget.{Ctx, begin, change, is_active, set_queue}
 use Rattle.meaning.specs.declared.State.{State}
-use Rattle.std.specs.Prelude.{Result, Ok, Err, None, Some}
+use Rattle.std.specs.Prelude.{Result, Ok, Err, None, Some, IsErrAnd, MatchResult}
 use Rattle.meaning.specs.Answers.{number_by}
 use Rattle.meaning.specs.declared.answers.Refusal.{Refusal}
 use Rattle.meaning.specs.declared.answers.Refusal.TheVariants.{Foreign, NoSuchEvent, QueueFull}
+use Rattle.replaying.specs.declared.turns.Stopped.{Stopped}
 use Rattle.replaying.specs.declared.turns.Stopped.TheVariants.{AtPost, AtRun}
 use Rattle.widget.specs.View.{Did}
 use Rattle.widget.proofs.Ending.{ended, ends_done, ends_refused}
@@ -135,14 +136,22 @@ module _ (p : Plan) (x : Item) (u : State) (t : List ℤ) where
           ran {w} d = subst (λ z. Did (plan_step p (ref y.event) z then plan_settle p) (queued q u) t 0 w u' t') ce
               (subst (λ z. Did (plan_step p z c then plan_settle p) (queued q u) t 0 w u' t') ee d)
 
-          pub turned_run : {at : ℕ} → Did (plan_step p e c then plan_settle p) (queued q u) t 0 (Ok at) u' t'
+          turned_on : {at : ℕ} → Did (plan_step p e c then plan_settle p) (queued q u) t 0 (Ok at) u' t'
               → Turned p x u t (Ok at) u' t'
-          turned_run d = (ap (λ o. o.number) posts, after_is ∙ runs ∙ ends_done v (ran d), d.fits, d.kept)
+          turned_on d = (ap (λ o. o.number) posts, after_is ∙ runs ∙ ends_done v (ran d), d.fits, d.kept)
 
-          pub turned_stop : {r : Refusal} → Did (plan_step p e c then plan_settle p) (queued q u) t 0 (Err r) u' t'
+          turned_stop : {r : Refusal} → Did (plan_step p e c then plan_settle p) (queued q u) t 0 (Err r) u' t'
               → Turned p x u t (Err (AtRun r)) u' t'
           turned_stop {r} d = (
             ap (λ o. o.number) posts,
             after_is ∙ runs ∙ ends_refused v (ran d) ∙ ap (λ o. as_found (number_by r) 0 o.after) (sym posts),
             d.kept,
           )
+
+          -- what the run gives, and what is told of the event
+          pub turned_run : (w : Result ℕ Refusal) (r : Result ℕ Stopped)
+              → MatchResult w (λ at. r ≡ Ok at) (λ g. IsErrAnd r (λ s. s ≡ AtRun g))
+              → Did (plan_step p e c then plan_settle p) (queued q u) t 0 w u' t' → Turned p x u t r u' t'
+          turned_run (Ok at) r h d = subst (λ z. Turned p x u t z u' t') (sym h) (turned_on d)
+          turned_run (Err g) (Ok n) h d = absurd h
+          turned_run (Err g) (Err s) h d = subst (λ z. Turned p x u t (Err z) u' t') (sym h) (turned_stop d)

@@ -36,14 +36,15 @@ pub record Broken (p : Plan) (n : ℕ) (xs : List Item) (u : State) (d m : ℕ) 
 
 -- events that were stopped: a post is refused, and then what is lent says the state; or a run is refused
 abbrev pub Halted : Plan → List Item → State → List ℤ → ℕ → ℕ → Stopped → State → List ℤ → Type 0
-Halted p xs u t d at (AtPost e) u' t' = (through p (length t) u xs ≡ course d (number_by e) u' (take at t')) × (at ≤ length t')
+Halted p xs u t d at (AtPost e) u' t' = through p (length t) u xs ≡ course d (number_by e) u' (take at t')
 Halted p xs u t d at (AtRun e) u' t' = Broken p (length t) xs u d (number_by e)
 
 -- events that were gone through up to the last, or stopped before it
 abbrev pub GoneThrough : Plan → List Item → State → List ℤ → Result ℕ Halt → State → List ℤ → Type 0
 GoneThrough p xs u t (Ok at) u' t' =
     (through p (length t) u xs ≡ course (length xs) 0 u' (take at t')) × (at ≤ length t') × (length t' ≡ length t)
-GoneThrough p xs u t (Err h) u' t' = Halted p xs u t h.done h.at h.why u' t' × (length t' ≡ length t)
+GoneThrough p xs u t (Err h) u' t' =
+    Halted p xs u t h.done h.at h.why u' t' × (h.at ≤ length t') × (length t' ≡ length t)
 
 -- what is told of a replay: its result, and the last run's trace with 0 past it
 pub record Told (c : Course) (trace : List ℤ) (r : Replayed) (after : List ℤ) : Type 0 where

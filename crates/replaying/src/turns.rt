@@ -61,8 +61,5 @@ pub fn post_and_run(
         return Err(Stopped::AtPost(Refusal::QueueFull));
     };
     let trigger = reference(front.event);
-    match react(plan, trigger, front.arg, picks, widget, trace) {
-        Ok(at) => Ok(at),
-        Err(why) => Err(Stopped::AtRun(why)),
-    }
+    react(plan, trigger, front.arg, picks, widget, trace).map_err(Stopped::AtRun)
 }

@@ -43,7 +43,7 @@ as_posted-requires c =
     let w = rw (c.of-planned.ensures.numbers, c.in-AtRun.is) at c.in-Err.ensures in
     rw (c.of-planned.ensures.numbers, c.number-in-AtRun.ensures) (
       ready (goal.at.as_posted-requires c).Else-not-own (sized_of s),
-      broken_here c.args.trace.now c.go_through.new.trace w.1 w.0,
+      broken_here c.args.trace.now c.go_through.new.trace w.2 w.0,
     )
 
 pub returns-in-Ok : goal.returns-in-Ok
@@ -58,5 +58,5 @@ pub returns-in-AtPost : goal.returns-in-AtPost
 returns-in-AtPost c =
     let s = (goal.at.returns-in-AtPost c).Start in
     let w = rw (c.of-planned.ensures.numbers, c.in-AtPost.is) at c.in-Err.ensures in
-    ended_told (ready (goal.at.returns-in-AtPost c).Else-not-own (sized_of s)) w.1 _ w.0.0
+    ended_told (ready (goal.at.returns-in-AtPost c).Else-not-own (sized_of s)) w.2 _ w.0
     (rw c.number.ensures at c.told-in-AtPost.ensures)

@@ -8,7 +8,7 @@ use Rattle.numbers.specs.Reference.{ref}
 use Rattle.queue.specs.Queue.{item}
 use Rattle.meaning.specs.WellFormed.{plan_by}
 use Rattle.plan_own.proofs.Clauses.{events_is}
-use Rattle.replaying.proofs.Turning.{turned_6, turned_10, turned_9, turned_run, turned_stop}
+use Rattle.replaying.proofs.Turning.{turned_6, turned_10, turned_9, turned_run}
 use Rattle.replaying.proofs.turns.post_and_run.Goals as goal
 
 pub returns-then-not-widget : goal.returns-then-not-widget
@@ -31,8 +31,8 @@ returns-in_default c =
     (sym (rw (to_z-of_z c.ranges.event, to_z-of_z c.ranges.arg) at c.event_fits.ensures) ∙ c.if-not-event_fits.false)
     (rw (to_z-of_z c.ranges.event, to_z-of_z c.ranges.arg, c.in_default.is) at c.pass.ensures)
 
-pub returns-in-Ok : goal.returns-in-Ok
-returns-in-Ok c =
+pub returns : goal.returns
+returns c =
     let a = c.args in
     let fe : SFits w32 c.in-Some.front.event = search rules in
     let fa : SFits w32 c.in-Some.front.arg = search rules in
@@ -40,15 +40,4 @@ returns-in-Ok c =
     c.if-not-widget.false (events_is a.plan.now.examined)
     (sym (rw (to_z-of_z c.ranges.event, to_z-of_z c.ranges.arg) at c.event_fits.ensures) ∙ c.if-not-event_fits.false)
     (rw (to_z-of_z c.ranges.event, to_z-of_z c.ranges.arg) at c.in-Some.ensures)
-    (c.reference-trigger.ensures ∙ ap ref (to_z-of_z fe)) (to_z-of_z fa) (rw c.in-Ok.is at c.react.ensures)
-
-pub returns-in-Err : goal.returns-in-Err
-returns-in-Err c =
-    let a = c.args in
-    let fe : SFits w32 c.in-Some.front.event = search rules in
-    let fa : SFits w32 c.in-Some.front.arg = search rules in
-    turned_stop (plan_by a.plan.now.numbers.now) (item a.event a.arg) a.widget.now a.trace.now
-    c.if-not-widget.false (events_is a.plan.now.examined)
-    (sym (rw (to_z-of_z c.ranges.event, to_z-of_z c.ranges.arg) at c.event_fits.ensures) ∙ c.if-not-event_fits.false)
-    (rw (to_z-of_z c.ranges.event, to_z-of_z c.ranges.arg) at c.in-Some.ensures)
-    (c.reference-trigger.ensures ∙ ap ref (to_z-of_z fe)) (to_z-of_z fa) (rw c.in-Err.is at c.react.ensures)
+    (c.reference-trigger.ensures ∙ ap ref (to_z-of_z fe)) (to_z-of_z fa) c.react.result c.map_err.result c.map_err.ensures.cases c.react.ensures
