@@ -116,6 +116,12 @@ module _ (c : Chart) where
       ∙ ap (λ x. puts (pos (length c.states) ∷ pos (length c.vars) ∷ pos c.events
       ∷ pos (length (heads_from c (length (start_block c)) (head_order c))) ∷ pos (length (code_of c)) ∷ pos x ∷ []) p) g
 
+-- how many numbers the plan has, from what the compiler counts, and that each has a 32-bit place
+pub plan_counted : (v : List ℤ) → Ruled v → {vars heads code : ℕ} → vars ≡ length (chart_of v).vars
+    → heads ≡ length (head_order (chart_of v)) → code ≡ length (code_of (chart_of v))
+    → (6 + 3 * vars + 10 * heads + 4 * code ≡ length (compile (chart_of v))) × (6 + 3 * vars + 10 * heads + 4 * code < NOWHERE)
+plan_counted v r a b d = (omega (arith, plan_long (chart_of v)), omega (arith, vars_most v, order_few v r, code_most v r))
+
 pub six_at : (c : Chart) (l : List ℤ) {l₁ : List ℤ} {r : ℕ} → pen l₁ r ≡ puts (six (plan_of c)) (pen l 0) → r ≡ 6
 six_at c l e = omega (arith, puts_at (six (plan_of c)) l 0 e, six_six c)
 
