@@ -1,23 +1,20 @@
 -- The whole plan from its parts, how long it is, and what the caller sees: the plan, or a refusal. Assumes nothing.
-use mathlib.Core.Path.{◌≡◌, refl, sym, ap, subst, ◌∙◌}
-use Prim.Native.Nat.{ℕ, zero, suc, ◌+◌, ◌*◌, ◌-◌, ◌≤◌, ◌<◌}
-use mathlib.Core.Bool.{Bool, true, false, cond}
+use mathlib.Core.Path.{◌≡◌, refl, sym, ap, ◌∙◌}
+use Prim.Native.Nat.{ℕ, suc, ◌+◌, ◌*◌, ◌-◌, ◌≤◌, ◌<◌}
+use mathlib.Core.Bool.{cond}
 use mathlib.Core.List.{List, [], ◌∷◌, ◌++◌}
 use mathlib.Core.Option.{Option, none, some}
 use native.Mathlib.Omega.{arith}
 use borrow.Author.Tests.{lt-ltb, le-ltb}
 use lib.ListN.{length, take, drop, replicate, length-append}
 use lib.Seq.{sets, sets-eq, length-sets, take-append_seam}
-use lib.Dec.{ltb}
 use lib.IntN.{ℤ, pos}
-use Rattle.sizes.specs.Sizes.{STATES, VARIABLES, TRANSITIONS}
 use Rattle.numbers.specs.Reference.{NOWHERE}
 use Rattle.chart_rows.proofs.Rows.{vars_most}
 use Rattle.meaning.specs.Rules.{Ruled}
 use Rattle.meaning.specs.Chart.{Chart}
 use Rattle.meaning.specs.declared.Answer.{Answer}
 use Rattle.meaning.specs.declared.chart.VarRow.{VarRow}
-use Rattle.meaning.specs.declared.plan.Compiled.{Compiled}
 use Rattle.meaning.specs.Lists.{concat_map, padded}
 use Rattle.meaning.specs.Plan.{instr_numbers, head_numbers, var_numbers, six, plan_numbers}
 use Rattle.meaning.specs.Compile.{block, head_of, heads_from, head_order, start_block, code_of, plan_of, compile}
@@ -28,7 +25,7 @@ use Rattle.meaning.specs.Value.{chart_of}
 use Rattle.emitter.specs.Pen.{Pen, pen, puts, emits}
 use Rattle.emitter.proofs.Laws.{puts_append, puts_at, numbers_count}
 use Rattle.compiler.specs.Plans.{Compiles}
-use Rattle.compiler.proofs.Bounds.{CODE, code_most, order_few}
+use Rattle.compiler.proofs.Bounds.{code_most, order_few}
 use Rattle.compiler.proofs.Heading.{head_ten}
 
 -- ---- how long it is

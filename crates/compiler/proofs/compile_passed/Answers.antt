@@ -18,34 +18,52 @@ code_length-code-requires c = c.order_of-heads.ensures.is
 
 pub overflow_mul-length : goal.overflow_mul-length
 overflow_mul-length c =
-    omega (arith, plan_counted _ c.new-c.result.prepared.ruled c.var_count-vars.ensures
-      (order_long c.order_of-heads.ensures) c.code_length-code.ensures)
+    omega (
+      arith,
+      plan_counted _ c.new-c.result.prepared.ruled c.var_count-vars.ensures
+          (order_long c.order_of-heads.ensures) c.code_length-code.ensures,
+    )
 
 pub overflow_add-length : goal.overflow_add-length
 overflow_add-length c =
-    omega (arith, plan_counted _ c.new-c.result.prepared.ruled c.var_count-vars.ensures
-      (order_long c.order_of-heads.ensures) c.code_length-code.ensures)
+    omega (
+      arith,
+      plan_counted _ c.new-c.result.prepared.ruled c.var_count-vars.ensures
+          (order_long c.order_of-heads.ensures) c.code_length-code.ensures,
+    )
 
 pub overflow_add-length-2 : goal.overflow_add-length-2
 overflow_add-length-2 c =
-    omega (arith, plan_counted _ c.new-c.result.prepared.ruled c.var_count-vars.ensures
-      (order_long c.order_of-heads.ensures) c.code_length-code.ensures)
+    omega (
+      arith,
+      plan_counted _ c.new-c.result.prepared.ruled c.var_count-vars.ensures
+          (order_long c.order_of-heads.ensures) c.code_length-code.ensures,
+    )
 
 pub overflow_mul-length-3 : goal.overflow_mul-length-3
 overflow_mul-length-3 c =
-    omega (arith, plan_counted _ c.new-c.result.prepared.ruled c.var_count-vars.ensures
-      (order_long c.order_of-heads.ensures) c.code_length-code.ensures)
+    omega (
+      arith,
+      plan_counted _ c.new-c.result.prepared.ruled c.var_count-vars.ensures
+          (order_long c.order_of-heads.ensures) c.code_length-code.ensures,
+    )
 
 pub overflow_add-length-3 : goal.overflow_add-length-3
 overflow_add-length-3 c =
-    omega (arith, plan_counted _ c.new-c.result.prepared.ruled c.var_count-vars.ensures
-      (order_long c.order_of-heads.ensures) c.code_length-code.ensures)
+    omega (
+      arith,
+      plan_counted _ c.new-c.result.prepared.ruled c.var_count-vars.ensures
+          (order_long c.order_of-heads.ensures) c.code_length-code.ensures,
+    )
 
 pub returns-then-plan-length : goal.returns-then-plan-length
 returns-then-plan-length c =
     rw c.new-c.ensures at (compiles_over c.new-c.result.chart.now c.args.plan.now
-    c.new-c.result.prepared.ruled (omega (arith, plan_counted _ c.new-c.result.prepared.ruled c.var_count-vars.ensures
-      (order_long c.order_of-heads.ensures) c.code_length-code.ensures)) _ c.clear_from.ensures)
+    c.new-c.result.prepared.ruled (omega (
+      arith,
+      plan_counted _ c.new-c.result.prepared.ruled c.var_count-vars.ensures
+          (order_long c.order_of-heads.ensures) c.code_length-code.ensures,
+    )) _ c.clear_from.ensures)
 
 pub put_six-p0-requires : goal.put_six-p0-requires
 put_six-p0-requires c = (
@@ -115,14 +133,20 @@ clear_from-requires-2 c =
     c.put_vars-p1.ensures
     c.put_heads-p2.ensures
     c.put_code-end.ensures)
-    (omega (arith, plan_counted _ c.new-c.result.prepared.ruled c.var_count-vars.ensures
-      (order_long c.order_of-heads.ensures) c.code_length-code.ensures))
+    (omega (
+      arith,
+      plan_counted _ c.new-c.result.prepared.ruled c.var_count-vars.ensures
+          (order_long c.order_of-heads.ensures) c.code_length-code.ensures,
+    ))
 
 pub returns : goal.returns
 returns c =
     rw c.new-c.ensures at (compiles_whole c.new-c.result.chart.now c.args.plan.now
-    c.new-c.result.prepared.ruled (omega (arith, plan_counted _ c.new-c.result.prepared.ruled c.var_count-vars.ensures
-      (order_long c.order_of-heads.ensures) c.code_length-code.ensures)) _ _ _ (whole_put (chart_of c.new-c.result.chart.now) _
+    c.new-c.result.prepared.ruled (omega (
+      arith,
+      plan_counted _ c.new-c.result.prepared.ruled c.var_count-vars.ensures
+          (order_long c.order_of-heads.ensures) c.code_length-code.ensures,
+    )) _ _ _ (whole_put (chart_of c.new-c.result.chart.now) _
     c.start_length-start.ensures _
     c.put_six-p0.ensures
     c.put_vars-p1.ensures

@@ -1,4 +1,3 @@
-use Prim.Native.Nat.{◌-◌}
 use Rattle.meaning.specs.Value.{chart_of}
 use Rattle.meaning.specs.Compile.{visit_code}
 use Rattle.meaning.specs.Entry.{by_defaults, defaults}
