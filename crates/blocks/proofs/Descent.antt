@@ -1,8 +1,8 @@
 -- Going down child by child, and through the numbers below a state: what is still to be put, over any way and any code of a visit.
 -- Assumes nothing.
-use mathlib.Core.Path.{◌≡◌, refl, sym, ap, subst, ◌∙◌}
-use Prim.Native.Nat.{ℕ, zero, suc, ◌+◌, ◌-◌, ◌≤◌, ◌<◌}
-use mathlib.Core.Bool.{Bool, true, false}
+use mathlib.Core.Path.{◌≡◌, sym, ap, ◌∙◌}
+use Prim.Native.Nat.{ℕ, suc, ◌+◌, ◌-◌, ◌≤◌, ◌<◌}
+use mathlib.Core.Bool.{true, false}
 use mathlib.Core.List.{List, [], ◌∷◌, ◌++◌, reverse}
 use native.Mathlib.Omega.{arith}
 use lib.ListN.{length}
@@ -19,7 +19,7 @@ use Rattle.blocks.specs.Kids.{KidsLeft}
 use Rattle.leave_enter.proofs.Descending.{range_none, range_next, range_skip, range_take}
 use Rattle.leave_enter.proofs.Falling.{falls_by}
 use Rattle.tree.proofs.On.{end_within}
-use Rattle.emitter.specs.Pen.{Pen, pen, emits, Room}
+use Rattle.emitter.specs.Pen.{pen, emits, Room}
 use Rattle.emitter.proofs.Laws.{concat_map_append, owes_on, owes_none, owes_room, same_size}
 
 -- ---- child by child

@@ -1,7 +1,7 @@
 -- The arms, a visit on the way to a goal, a move and a block, put together from their parts; and how long each is. Assumes nothing.
 use Rattle.std.specs.Prelude.{Option, None, Some}
 use mathlib.Core.Path.{◌≡◌, refl, sym, ap, subst, ◌∙◌}
-use Prim.Native.Nat.{ℕ, zero, suc, ◌+◌, ◌<◌}
+use Prim.Native.Nat.{ℕ, suc, ◌+◌, ◌<◌}
 use mathlib.Core.Bool.{Bool, true, false}
 use mathlib.Core.List.{List, [], ◌∷◌, ◌++◌, append-nil}
 use native.Mathlib.Omega.{arith}
@@ -15,7 +15,6 @@ use Rattle.meaning.specs.Chart.{Chart}
 use Rattle.meaning.specs.declared.chart.Owner.TheVariants.{TransitionOf as transition_of}
 use Rattle.meaning.specs.declared.chart.Target.{Target}
 use Rattle.meaning.specs.declared.chart.TransRow.{TransRow}
-use Rattle.meaning.specs.declared.plan.Instr.{Instr}
 use Rattle.meaning.specs.declared.plan.Instr.TheVariants.{SkipEmpty as skip_empty, SkipFull as skip_full}
 use Rattle.meaning.specs.Lists.{concat_map}
 use Rattle.meaning.specs.Tree.{kind_of, trans_row, descendants, scope}

@@ -23,7 +23,7 @@ use Rattle.meaning.specs.Effects.{o_parent}
 use Rattle.meaning.specs.Compile.{code_acts, exit_code, enter_code, visit_code, held_code, past_if_out, stored_code}
 use Rattle.tree.specs.Courses.{visit_as}
 use Rattle.emitter.specs.Pen.{Pen, emits, SmallPlace}
-use Rattle.emitter.proofs.Laws.{put_first, put_both}
+use Rattle.emitter.proofs.Laws.{put_first}
 
 -- ---- leaving
 

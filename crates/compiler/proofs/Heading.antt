@@ -1,43 +1,39 @@
 -- The heads, the blocks and the variables put one after the other, and a head's own numbers. Assumes nothing.
 use mathlib.Core.Path.{◌≡◌, refl, sym, ap, subst, ◌∙◌}
 use Prim.Native.Nat.{ℕ, zero, suc, ◌+◌, ◌*◌, ◌-◌, ◌≤◌, ◌<◌}
-use mathlib.Core.Bool.{Bool, true, false}
 use mathlib.Core.List.{List, [], ◌∷◌, ◌++◌}
 use native.Mathlib.Omega.{arith}
 use native.Mathlib.Numerals.{add-one}
-use lib.ListN.{length, get_or, take, drop, length-append, drop_of_length-le}
-use lib.Seq.{drop-cons, get_or-take, length-take-le, length-sets}
+use lib.ListN.{length, get_or, drop, length-append, drop_of_length-le}
+use lib.Seq.{drop-cons, length-take-le, length-sets}
 use lib.IntN.{ℤ, pos}
-use Rattle.sizes.specs.Sizes.{STATES, VARIABLES, EVENTS, TRANSITIONS}
+use Rattle.sizes.specs.Sizes.{STATES}
 use Rattle.numbers.specs.Reference.{NOWHERE}
-use Rattle.laws.proofs.Lists.{each_at, each_kept, each_range}
-use Rattle.laws.specs.Facts.{Each, none_left, one_more}
+use Rattle.laws.proofs.Lists.{each_at}
 use Rattle.laws.proofs.Rules.{GuardFacts, TransitionFacts}
 use Rattle.chart_rows.proofs.Rows.{states_most, vars_most}
 use Rattle.meaning.specs.Rules.{Ruled}
 use Rattle.tree.proofs.Passing.{sound}
 use Rattle.acts.proofs.Acting.{events_most}
 use Rattle.choice.specs.Choice.{Reads}
-use Rattle.choice.specs.Span.{Spans, Aims}
+use Rattle.choice.specs.Span.{Spans}
 use Rattle.choice.specs.declared.Span.{Span}
 use Rattle.choice.proofs.Inside.{span_ends}
 use Rattle.meaning.specs.Chart.{Chart, no_var}
 use Rattle.meaning.specs.declared.chart.Guard.{Guard}
 use Rattle.meaning.specs.declared.chart.Guard.TheVariants.{Always as always, Compares as compares}
-use Rattle.meaning.specs.declared.chart.Target.{Target}
-use Rattle.meaning.specs.declared.chart.Target.TheVariants.{To as to, History as history, InPlace as in_place}
 use Rattle.meaning.specs.declared.chart.TransRow.{TransRow}
 use Rattle.meaning.specs.declared.chart.VarRow.{VarRow}
 use Rattle.meaning.specs.declared.plan.Head.{Head}
-use Rattle.meaning.specs.Lists.{concat_map, keep, from, has}
-use Rattle.meaning.specs.Tree.{trans_row, all_states, ancestors, descendants, scope, span_of, span, var_row}
+use Rattle.meaning.specs.Lists.{concat_map, from}
+use Rattle.meaning.specs.Tree.{trans_row, span_of, span, var_row}
 use Rattle.meaning.specs.Plan.{guard_numbers, head_numbers, var_numbers}
 use Rattle.meaning.specs.Compile.{first_of, last_of, head_of, heads_from, head_order, block}
 use Rattle.meaning.specs.Value.{chart_of}
 use Rattle.emitter.specs.Pen.{Pen, pen, puts, emits, Room}
-use Rattle.emitter.proofs.Laws.{puts_append, puts_none, puts_at, owes_on, owes_none, owes_room, same_size}
+use Rattle.emitter.proofs.Laws.{puts_append, puts_none, puts_at, owes_on, owes_none, owes_room}
 use Rattle.compiler.specs.Plans.{InOrder}
-use Rattle.compiler.proofs.Bounds.{order_each, order_few, start_few, blocks_few, block_few}
+use Rattle.compiler.proofs.Bounds.{order_each}
 
 -- ---- a head's span
 

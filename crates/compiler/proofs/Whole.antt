@@ -1,23 +1,20 @@
 -- The whole plan from its parts, how long it is, and what the caller sees: the plan, or a refusal. Assumes nothing.
-use mathlib.Core.Path.{◌≡◌, refl, sym, ap, subst, ◌∙◌}
-use Prim.Native.Nat.{ℕ, zero, suc, ◌+◌, ◌*◌, ◌-◌, ◌≤◌, ◌<◌}
-use mathlib.Core.Bool.{Bool, true, false, cond}
+use mathlib.Core.Path.{◌≡◌, refl, sym, ap, ◌∙◌}
+use Prim.Native.Nat.{ℕ, suc, ◌+◌, ◌*◌, ◌-◌, ◌≤◌, ◌<◌}
+use mathlib.Core.Bool.{cond}
 use mathlib.Core.List.{List, [], ◌∷◌, ◌++◌}
 use mathlib.Core.Option.{Option, none, some}
 use native.Mathlib.Omega.{arith}
 use borrow.Author.Tests.{lt-ltb, le-ltb}
 use lib.ListN.{length, take, drop, replicate, length-append}
 use lib.Seq.{sets, sets-eq, length-sets, take-append_seam}
-use lib.Dec.{ltb}
 use lib.IntN.{ℤ, pos}
-use Rattle.sizes.specs.Sizes.{STATES, VARIABLES, TRANSITIONS}
 use Rattle.numbers.specs.Reference.{NOWHERE}
 use Rattle.chart_rows.proofs.Rows.{vars_most}
 use Rattle.meaning.specs.Rules.{Ruled}
 use Rattle.meaning.specs.Chart.{Chart}
 use Rattle.meaning.specs.declared.Answer.{Answer}
 use Rattle.meaning.specs.declared.chart.VarRow.{VarRow}
-use Rattle.meaning.specs.declared.plan.Compiled.{Compiled}
 use Rattle.meaning.specs.Lists.{concat_map, padded}
 use Rattle.meaning.specs.Plan.{instr_numbers, head_numbers, var_numbers, six, plan_numbers}
 use Rattle.meaning.specs.Compile.{block, head_of, heads_from, head_order, start_block, code_of, plan_of, compile}
@@ -28,7 +25,7 @@ use Rattle.meaning.specs.Value.{chart_of}
 use Rattle.emitter.specs.Pen.{Pen, pen, puts, emits}
 use Rattle.emitter.proofs.Laws.{puts_append, puts_at, numbers_count}
 use Rattle.compiler.specs.Plans.{Compiles}
-use Rattle.compiler.proofs.Bounds.{CODE, code_most, order_few}
+use Rattle.compiler.proofs.Bounds.{code_most, order_few}
 use Rattle.compiler.proofs.Heading.{head_ten}
 
 -- ---- how long it is
@@ -115,6 +112,12 @@ module _ (c : Chart) where
       ∷ pos c.events ∷ pos (length (heads_from c (length (start_block c)) (head_order c))) ∷ pos x ∷ pos start ∷ []) p) f
       ∙ ap (λ x. puts (pos (length c.states) ∷ pos (length c.vars) ∷ pos c.events
       ∷ pos (length (heads_from c (length (start_block c)) (head_order c))) ∷ pos (length (code_of c)) ∷ pos x ∷ []) p) g
+
+-- how many numbers the plan has, from what the compiler counts, and that each has a 32-bit place
+pub plan_counted : (v : List ℤ) → Ruled v → {vars heads code : ℕ} → vars ≡ length (chart_of v).vars
+    → heads ≡ length (head_order (chart_of v)) → code ≡ length (code_of (chart_of v))
+    → (6 + 3 * vars + 10 * heads + 4 * code ≡ length (compile (chart_of v))) × (6 + 3 * vars + 10 * heads + 4 * code < NOWHERE)
+plan_counted v r a b d = (omega (arith, plan_long (chart_of v)), omega (arith, vars_most v, order_few v r, code_most v r))
 
 pub six_at : (c : Chart) (l : List ℤ) {l₁ : List ℤ} {r : ℕ} → pen l₁ r ≡ puts (six (plan_of c)) (pen l 0) → r ≡ 6
 six_at c l e = omega (arith, puts_at (six (plan_of c)) l 0 e, six_six c)

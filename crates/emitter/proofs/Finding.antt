@@ -1,6 +1,6 @@
 -- Going from row to row by the index writes an owner's actions, all of them and in line order. Assumes nothing.
-use mathlib.Core.Path.{◌≡◌, refl, sym, ap, ◌∙◌}
-use Prim.Native.Nat.{ℕ, suc, ◌+◌, ◌*◌, ◌≤◌, ◌<◌}
+use mathlib.Core.Path.{◌≡◌, sym, ap, ◌∙◌}
+use Prim.Native.Nat.{ℕ, suc, ◌+◌, ◌≤◌, ◌<◌}
 use mathlib.Core.Bool.{Bool, true, false, cond}
 use mathlib.Core.List.{List, [], ◌∷◌, map}
 use native.Mathlib.Omega.{arith}
@@ -22,7 +22,7 @@ use Rattle.meaning.specs.Effects.{same_owner, acts_in, acts_of}
 use Rattle.meaning.specs.Compile.{code_acts}
 use Rattle.meaning.specs.Value.{chart_of}
 use Rattle.meaning.specs.Rules.{Ruled}
-use Rattle.emitter.specs.Pen.{Pen, pen, emits, SmallAct, Room}
+use Rattle.emitter.specs.Pen.{pen, emits, SmallAct, Room}
 use Rattle.acts.specs.Index.{before_first, row_from}
 use Rattle.acts.proofs.Finding.{owner_one, first_own, first_from, acts_here, acts_onward, later_from}
 use Rattle.emitter.proofs.Laws.{emits_none, emits_cons, emits_count}

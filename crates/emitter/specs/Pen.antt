@@ -1,7 +1,7 @@
 -- Numbers and instructions put into a lent slice from a place on, and the place after them; a place that the slice does not have is
 -- passed over. Then which numbers an instruction has room for, and the room that places have. Assumes nothing.
 use Rattle.std.specs.Prelude.{Option, None, Some}
-use Rattle.std.specs.Prelude.{ℕ, ◌+◌, ◌*◌, ◌<◌, List, [], ◌∷◌, length, ℤ}
+use Rattle.std.specs.Prelude.{ℕ, ◌+◌, ◌*◌, ◌<◌, List, length, ℤ}
 use Rattle.std.proofs.lemmas.List.Edits.{sets}
 use Rattle.numbers.specs.Reference.{NOWHERE}
 use Rattle.meaning.specs.Lists.{concat_map}

@@ -17,6 +17,7 @@ pub fn put_acts(c: &Runnable, owner: Owner, plan: &mut [i32], at: usize) -> usiz
     ensures { pen plan.new result ≡ emits (code_acts (chart_of c.now.chart.now) owner) (pen plan.old at) }
 {
     let n = action_count(c.chart);
+    // No range gives the rows of one owner: each is found by the index from the one before it.
     let mut i = c.first_row(owner);
     let mut p = at;
     while i < n {

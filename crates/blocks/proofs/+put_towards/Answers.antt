@@ -1,13 +1,12 @@
 -- `put_towards` puts each child that is due on the way to the goal, with what is below it. The measure is how many states are
 -- left. Assumes nothing.
-use Rattle.chart_rows.proofs.Rows.{states_most}
 use mathlib.Core.Path.{◌∙◌, refl, sym}
 use borrow.Author.Tests.{not-true, not-false}
 use Rattle.meaning.specs.Value.{chart_of}
 use Rattle.tree.specs.Courses.{goal_way}
 use Rattle.tree.proofs.Among.{goal_child}
 use Rattle.blocks.proofs.KidsLeft.{goal_kids_left}
-use Rattle.blocks.proofs.Descent.{going_begin, going_skip, going_room, going_room_below, going_on, going_size, going_end}
+use Rattle.blocks.proofs.Descent.{going_begin, going_skip, going_room, going_room_below, going_on, going_end}
 use native.Mathlib.Omega.{arith}
 use Rattle.blocks.proofs.+put_towards.Goals as goal
 

@@ -1,4 +1,3 @@
-use Prim.Native.Nat.{◌-◌}
 use Rattle.meaning.specs.Value.{chart_of}
 use Rattle.tree.specs.Courses.{goal_way}
 use Rattle.blocks.specs.Parts.{goal_code}

@@ -3,7 +3,6 @@ use Rattle.chart_rows.proofs.Rows.{states_most}
 use Rattle.meaning.specs.Value.{chart_of}
 use Rattle.meaning.specs.Compile.{exit_code, exits_code}
 use Rattle.tree.proofs.Passing.{sound}
-use Rattle.emitter.proofs.Laws.{same_size}
 use Rattle.blocks.proofs.Descent.{falling_begin, falling_room, falling_on, falling_end, end_inside}
 use native.Mathlib.Omega.{arith}
 use Rattle.blocks.proofs.put_exits.Goals as goal

@@ -7,4 +7,5 @@ use Rattle.blocks.proofs.put_exits.Given as goal
 
 abbrev pub invariant-loop-d : goal.invariant-loop-d
 invariant-loop-d l =
-    (l.d ≤ l.initial.d) × Falling (exit_code (chart_of l.c.chart.now)) l.initial.plan l.at (exits_code (chart_of l.c.chart.now) (descendants (chart_of l.c.chart.now) l.s)) l.s l.d l.plan l.p
+    (l.d ≤ l.initial.d) × Falling (exit_code (chart_of l.c.chart.now)) l.initial.plan l.at
+    (exits_code (chart_of l.c.chart.now) (descendants (chart_of l.c.chart.now) l.s)) l.s l.d l.plan l.p

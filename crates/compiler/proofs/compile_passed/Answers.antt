@@ -6,7 +6,7 @@ use Rattle.meaning.specs.Value.{chart_of}
 use Rattle.chart_rows.proofs.Rows.{vars_most}
 use Rattle.compiler.proofs.Bounds.{code_most}
 use Rattle.compiler.proofs.Heading.{order_long}
-use Rattle.compiler.proofs.Whole.{plan_long, whole_put, six_at, vars_at, heads_at, whole_fits, compiles_whole, compiles_over}
+use Rattle.compiler.proofs.Whole.{plan_long, plan_counted, whole_put, six_at, vars_at, heads_at, whole_fits, compiles_whole, compiles_over}
 use native.Mathlib.Omega.{arith}
 use Rattle.compiler.proofs.compile_passed.Goals as goal
 
@@ -20,65 +20,40 @@ pub overflow_mul-length : goal.overflow_mul-length
 overflow_mul-length c =
     omega (
       arith,
-      c.var_count-vars.ensures,
-      vars_most c.new-c.result.chart.now,
-      c.order_of-heads.ensures.few,
-      order_long c.order_of-heads.ensures,
-      c.code_length-code.ensures,
-      code_most c.new-c.result.chart.now c.new-c.result.prepared.ruled,
-      plan_long (chart_of c.new-c.result.chart.now),
+      plan_counted _ c.new-c.result.prepared.ruled c.var_count-vars.ensures
+          (order_long c.order_of-heads.ensures) c.code_length-code.ensures,
     )
 
 pub overflow_add-length : goal.overflow_add-length
 overflow_add-length c =
     omega (
       arith,
-      c.var_count-vars.ensures,
-      vars_most c.new-c.result.chart.now,
-      c.order_of-heads.ensures.few,
-      order_long c.order_of-heads.ensures,
-      c.code_length-code.ensures,
-      code_most c.new-c.result.chart.now c.new-c.result.prepared.ruled,
-      plan_long (chart_of c.new-c.result.chart.now),
+      plan_counted _ c.new-c.result.prepared.ruled c.var_count-vars.ensures
+          (order_long c.order_of-heads.ensures) c.code_length-code.ensures,
     )
 
 pub overflow_add-length-2 : goal.overflow_add-length-2
 overflow_add-length-2 c =
     omega (
       arith,
-      c.var_count-vars.ensures,
-      vars_most c.new-c.result.chart.now,
-      c.order_of-heads.ensures.few,
-      order_long c.order_of-heads.ensures,
-      c.code_length-code.ensures,
-      code_most c.new-c.result.chart.now c.new-c.result.prepared.ruled,
-      plan_long (chart_of c.new-c.result.chart.now),
+      plan_counted _ c.new-c.result.prepared.ruled c.var_count-vars.ensures
+          (order_long c.order_of-heads.ensures) c.code_length-code.ensures,
     )
 
 pub overflow_mul-length-3 : goal.overflow_mul-length-3
 overflow_mul-length-3 c =
     omega (
       arith,
-      c.var_count-vars.ensures,
-      vars_most c.new-c.result.chart.now,
-      c.order_of-heads.ensures.few,
-      order_long c.order_of-heads.ensures,
-      c.code_length-code.ensures,
-      code_most c.new-c.result.chart.now c.new-c.result.prepared.ruled,
-      plan_long (chart_of c.new-c.result.chart.now),
+      plan_counted _ c.new-c.result.prepared.ruled c.var_count-vars.ensures
+          (order_long c.order_of-heads.ensures) c.code_length-code.ensures,
     )
 
 pub overflow_add-length-3 : goal.overflow_add-length-3
 overflow_add-length-3 c =
     omega (
       arith,
-      c.var_count-vars.ensures,
-      vars_most c.new-c.result.chart.now,
-      c.order_of-heads.ensures.few,
-      order_long c.order_of-heads.ensures,
-      c.code_length-code.ensures,
-      code_most c.new-c.result.chart.now c.new-c.result.prepared.ruled,
-      plan_long (chart_of c.new-c.result.chart.now),
+      plan_counted _ c.new-c.result.prepared.ruled c.var_count-vars.ensures
+          (order_long c.order_of-heads.ensures) c.code_length-code.ensures,
     )
 
 pub returns-then-plan-length : goal.returns-then-plan-length
@@ -86,13 +61,8 @@ returns-then-plan-length c =
     rw c.new-c.ensures at (compiles_over c.new-c.result.chart.now c.args.plan.now
     c.new-c.result.prepared.ruled (omega (
       arith,
-      c.var_count-vars.ensures,
-      vars_most c.new-c.result.chart.now,
-      c.order_of-heads.ensures.few,
-      order_long c.order_of-heads.ensures,
-      c.code_length-code.ensures,
-      code_most c.new-c.result.chart.now c.new-c.result.prepared.ruled,
-      plan_long (chart_of c.new-c.result.chart.now),
+      plan_counted _ c.new-c.result.prepared.ruled c.var_count-vars.ensures
+          (order_long c.order_of-heads.ensures) c.code_length-code.ensures,
     )) _ c.clear_from.ensures)
 
 pub put_six-p0-requires : goal.put_six-p0-requires
@@ -165,13 +135,8 @@ clear_from-requires-2 c =
     c.put_code-end.ensures)
     (omega (
       arith,
-      c.var_count-vars.ensures,
-      vars_most c.new-c.result.chart.now,
-      c.order_of-heads.ensures.few,
-      order_long c.order_of-heads.ensures,
-      c.code_length-code.ensures,
-      code_most c.new-c.result.chart.now c.new-c.result.prepared.ruled,
-      plan_long (chart_of c.new-c.result.chart.now),
+      plan_counted _ c.new-c.result.prepared.ruled c.var_count-vars.ensures
+          (order_long c.order_of-heads.ensures) c.code_length-code.ensures,
     ))
 
 pub returns : goal.returns
@@ -179,13 +144,8 @@ returns c =
     rw c.new-c.ensures at (compiles_whole c.new-c.result.chart.now c.args.plan.now
     c.new-c.result.prepared.ruled (omega (
       arith,
-      c.var_count-vars.ensures,
-      vars_most c.new-c.result.chart.now,
-      c.order_of-heads.ensures.few,
-      order_long c.order_of-heads.ensures,
-      c.code_length-code.ensures,
-      code_most c.new-c.result.chart.now c.new-c.result.prepared.ruled,
-      plan_long (chart_of c.new-c.result.chart.now),
+      plan_counted _ c.new-c.result.prepared.ruled c.var_count-vars.ensures
+          (order_long c.order_of-heads.ensures) c.code_length-code.ensures,
     )) _ _ _ (whole_put (chart_of c.new-c.result.chart.now) _
     c.start_length-start.ensures _
     c.put_six-p0.ensures

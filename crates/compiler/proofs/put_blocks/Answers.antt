@@ -1,8 +1,6 @@
 -- `put_blocks` puts the block of each transition of the order. Assumes nothing.
 use mathlib.Core.Path.{refl}
-use Rattle.emitter.proofs.Laws.{same_size}
 use Rattle.compiler.proofs.Heading.{blocking_room, blocking_on, blocking_end, order_inside}
-use native.Mathlib.Omega.{arith}
 use Rattle.compiler.proofs.put_blocks.Goals as goal
 
 pub loop-t-init : goal.loop-t-init

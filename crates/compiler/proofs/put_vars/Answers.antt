@@ -3,7 +3,7 @@ use mir.Facts.{to_z-of_z}
 use mir.Syntax.{w32}
 use mir.Val.{SFits}
 use Rattle.chart_rows.proofs.Rows.{vars_most}
-use Rattle.compiler.proofs.Heading.{ranging_begin, ranging_on, ranging_end, same_sized}
+use Rattle.compiler.proofs.Heading.{ranging_begin, ranging_on, ranging_end}
 use borrow.Author.Rules.{rules}
 use native.Mathlib.Omega.{arith}
 use Rattle.compiler.proofs.put_vars.Goals as goal

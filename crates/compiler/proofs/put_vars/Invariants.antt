@@ -1,4 +1,3 @@
-use Prim.Native.Nat.{◌-◌}
 use Rattle.meaning.specs.Value.{chart_of}
 use Rattle.compiler.proofs.Heading.{Ranging}
 use Rattle.compiler.proofs.put_vars.Given as goal

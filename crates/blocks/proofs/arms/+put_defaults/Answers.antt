@@ -1,10 +1,9 @@
 -- `put_defaults` puts each child that is due by default, with what is below it. The measure is how many states are left. Assumes nothing.
-use Rattle.chart_rows.proofs.Rows.{states_most}
 use mathlib.Core.Path.{◌∙◌, sym}
 use borrow.Author.Tests.{not-true, not-false}
 use Rattle.meaning.specs.Entry.{by_defaults, defaults}
 use Rattle.tree.proofs.Among.{defaults_way, defaults_on}
-use Rattle.blocks.proofs.Descent.{going_begin, going_skip, going_room, going_room_below, going_on, going_size, going_end}
+use Rattle.blocks.proofs.Descent.{going_begin, going_skip, going_room, going_room_below, going_on, going_end}
 use native.Mathlib.Omega.{arith}
 use Rattle.blocks.proofs.arms.+put_defaults.Goals as goal
 

@@ -1,4 +1,3 @@
-use Prim.Native.Nat.{◌-◌}
 use Rattle.meaning.specs.Value.{chart_of}
 use Rattle.meaning.specs.Compile.{visit_code}
 use Rattle.meaning.specs.Entry.{by_defaults, defaults}
@@ -10,4 +9,5 @@ decreases-put_defaults l = l.left
 
 abbrev pub invariant-loop-d : goal.invariant-loop-d
 invariant-loop-d l =
-    Going (visit_code (chart_of l.c.chart.now)) (chart_of l.c.chart.now) by_defaults defaults l.s l.left l.initial.d l.d-end l.initial.plan l.at l.d l.plan l.p
+    Going (visit_code (chart_of l.c.chart.now)) (chart_of l.c.chart.now) by_defaults defaults
+    l.s l.left l.initial.d l.d-end l.initial.plan l.at l.d l.plan l.p

@@ -1,6 +1,6 @@
 -- `put_heads` puts a head for each transition of the order, and counts on where its block begins. Assumes nothing.
 use Rattle.compiler.proofs.Bounds.{block_few, start_few, blocks_few}
-use Rattle.compiler.proofs.Heading.{heading_begin, heading_few, heading_on, heading_end, order_inside, same_sized}
+use Rattle.compiler.proofs.Heading.{heading_begin, heading_few, heading_on, heading_end, order_inside}
 use native.Mathlib.Omega.{arith}
 use Rattle.compiler.proofs.heads.put_heads.Goals as goal
 
