@@ -77,7 +77,8 @@ fn as_posted(
 ) -> Replayed
     requires { Starts (plan_by plan.now.numbers.now) state × Broken (plan_by plan.now.numbers.now)
         (length trace.old) (items_of events.now) state done number }
-    ensures { Told (once (plan_by plan.now.numbers.now) state (items_of events.now) (length trace.old))
+    ensures { Told
+        (once (plan_by plan.now.numbers.now) state (items_of events.now) (length trace.old))
         trace.old result trace.new }
 {
     let mut widget = state;

@@ -40,4 +40,5 @@ returns c =
     c.if-not-widget.false (events_is a.plan.now.examined)
     (sym (rw (to_z-of_z c.ranges.event, to_z-of_z c.ranges.arg) at c.event_fits.ensures) ∙ c.if-not-event_fits.false)
     (rw (to_z-of_z c.ranges.event, to_z-of_z c.ranges.arg) at c.in-Some.ensures)
-    (c.reference-trigger.ensures ∙ ap ref (to_z-of_z fe)) (to_z-of_z fa) c.react.result c.map_err.result c.map_err.ensures.cases c.react.ensures
+    (c.reference-trigger.ensures ∙ ap ref (to_z-of_z fe)) (to_z-of_z fa)
+    c.react.result c.map_err.result c.map_err.ensures.cases c.react.ensures
