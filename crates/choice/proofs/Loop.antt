@@ -1,12 +1,12 @@
 -- The chooser's loop over the transitions of one source, as laws over plain variables: what is known of a row, and the ways of a turn.
 -- Assumes nothing.
 use mathlib.Core.Path.{◌≡◌, refl, sym, ap, ◌∙◌, subst}
-use Prim.Native.Nat.{ℕ, zero, suc, ◌+◌, ◌-◌, ◌≤◌, ◌<◌}
+use Prim.Native.Nat.{ℕ, ◌+◌, ◌≤◌, ◌<◌}
 use native.Mathlib.Omega.{arith}
 use mathlib.Core.Bool.{Bool, true, false}
 use mathlib.Core.List.{List, [], ◌∷◌, ◌++◌, map}
 use native.Mathlib.Numerals.{add-one}
-use lib.ListN.{length, get_or, take, set, replicate, length-replicate, length-set, length-map}
+use lib.ListN.{length, get_or, take, replicate, length-replicate, length-set, length-map}
 use lib.Seq.{length-take-le, get_or-take, take-suc-set, get_or-set_same, get_or-set_other}
 use lib.IntN.{ℤ}
 use Rattle.sizes.specs.Sizes.{STATES, VARIABLES, TRANSITIONS}

@@ -9,19 +9,9 @@ use lib.IntN.{ℤ}
 use Rattle.meaning.specs.Steps.{◌then◌, each}
 use Rattle.meaning.specs.Chart.{Chart}
 use Rattle.meaning.specs.Reaction.{fire}
-use Rattle.meaning.specs.Tree.{trans_row}
-use Rattle.meaning.specs.Value.{chart_of}
-use Rattle.meaning.specs.declared.chart.Target.{Target}
-use Rattle.meaning.specs.declared.chart.Target.TheVariants.{To as to, History as history, InPlace as in_place}
 use Rattle.laws.proofs.Lists.{each_at}
-use Rattle.laws.specs.Facts.{TargetFacts}
-use Rattle.laws.proofs.Scope.{scope_facts}
 use Rattle.laws.proofs.Sound.{SoundChart}
-use Rattle.sizes.specs.Sizes.{STATES, TRANSITIONS}
-use Rattle.meaning.specs.Rules.{Ruled}
-use Rattle.tree.proofs.On.{end_within}
-use Rattle.tree.specs.Aims.{aim_by, top_of, Found}
-use Rattle.tree.proofs.Passing.{sound}
+use Rattle.tree.specs.Aims.{Found}
 use Rattle.meaning.specs.declared.State.{State}
 use Rattle.meaning.specs.declared.answers.Refusal.{Refusal}
 use Rattle.widget.specs.View.{ctx, Did, Owes}
@@ -34,7 +24,7 @@ use lib.Seq.{get_or-take}
 use Rattle.std.proofs.lemmas.List.{length-take}
 use Rattle.reaction.specs.Ready.{Ready, Fires}
 use Rattle.laws.proofs.Value.{SizedChart}
-use Rattle.reaction.proofs.Going.{sized, ready_next}
+use Rattle.reaction.proofs.Going.{ready_next}
 
 -- how many fire, and which is the j-th
 module _ (c : Chart) (count : ℕ) (picks : List Pick) (f : Fires c count picks) where

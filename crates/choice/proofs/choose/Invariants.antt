@@ -1,7 +1,7 @@
 use mathlib.Core.Path.{◌≡◌}
 use Prim.Native.Nat.{ℕ, ◌-◌, ◌≤◌, ◌<◌}
 use mathlib.Core.Bool.{false}
-use lib.ListN.{get_or, take}
+use lib.ListN.{get_or}
 use Rattle.sizes.specs.Sizes.{STATES}
 use Rattle.meaning.specs.Value.{chart_of}
 use Rattle.meaning.specs.Reaction.{chosen}

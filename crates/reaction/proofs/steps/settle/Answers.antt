@@ -1,5 +1,5 @@
 -- `settle` makes null steps until none is enabled; a 33rd is refused. Assumes nothing.
-use Rattle.std.proofs.Common.{◌≡◌, ℕ, Err, rules, arith}
+use Rattle.std.proofs.Common.{◌≡◌, Err, rules, arith}
 use lib.ListN.{length-replicate}
 use Rattle.sizes.specs.Sizes.{TRANSITIONS}
 use Rattle.choice.specs.declared.Pick.{Pick}

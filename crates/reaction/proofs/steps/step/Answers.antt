@@ -1,5 +1,4 @@
 -- `step` fires the chosen of the event. Assumes nothing.
-use Rattle.std.proofs.Common.{ℕ}
 use lib.ListN.{length-replicate}
 use mir.Facts.{to_z-of_z}
 use Rattle.sizes.specs.Sizes.{TRANSITIONS}
