@@ -1,13 +1,13 @@
 -- The chooser's loop over the transitions of one source, as laws over plain variables: what is known of a row, and the ways of a turn.
 -- Assumes nothing.
 use mathlib.Core.Path.{◌≡◌, refl, sym, ap, ◌∙◌, subst}
-use Prim.Native.Nat.{ℕ, zero, suc, ◌+◌, ◌-◌, ◌≤◌, ◌<◌}
+use Prim.Native.Nat.{ℕ, ◌+◌, ◌≤◌, ◌<◌}
 use native.Mathlib.Omega.{arith}
 use mathlib.Core.Bool.{Bool, true, false}
-use mathlib.Core.List.{List, [], ◌∷◌, ◌++◌}
+use mathlib.Core.List.{List, [], ◌∷◌, ◌++◌, map}
 use native.Mathlib.Numerals.{add-one}
-use lib.ListN.{length, get_or, take, set, replicate, length-replicate, length-set}
-use lib.Seq.{take-suc-set, get_or-set_same, get_or-set_other}
+use lib.ListN.{length, get_or, take, replicate, length-replicate, length-set, length-map}
+use lib.Seq.{length-take-le, get_or-take, take-suc-set, get_or-set_same, get_or-set_other}
 use lib.IntN.{ℤ}
 use Rattle.sizes.specs.Sizes.{STATES, VARIABLES, TRANSITIONS}
 use Rattle.meaning.specs.declared.State.{State}
@@ -21,13 +21,14 @@ use Rattle.meaning.specs.Reaction.{enabled_by, enabled, meets}
 use mathlib.Core.Logic.{⊎_elim}
 use Rattle.laws.proofs.Lists.{le_or_lt}
 use Rattle.laws.proofs.Rules.{GuardFacts, TransitionFacts}
-use Rattle.laws.proofs.Value.{sized_chart}
+use Rattle.laws.proofs.Value.{sized_chart, get_d_map}
 use Rattle.meaning.specs.Rules.{Ruled}
 use Rattle.tree.proofs.Passing.{sound, rules_passed}
 use Rattle.choice.specs.declared.Span.{Span}
+use Rattle.choice.specs.declared.Pick.{Pick}
 use Rattle.choice.specs.Span.{Spans, Spanned, Aims, Goes}
 use Rattle.tree.specs.Aims.{aim_by, top_of, Found}
-use Rattle.choice.specs.Choice.{Reads, PICKS, TOPS_AT, ENDS_AT, noted, Carried}
+use Rattle.choice.specs.Choice.{Reads, free, picked, noted, Carried}
 use Rattle.choice.proofs.Meets.{Gone, gone_none, gone_more, clash_hit, clash_none}
 use Rattle.choice.proofs.Thin.{gone_after, gone_snoc}
 
@@ -77,14 +78,14 @@ up_to P j h p i l = ⊎_elim (λ q. let z : j ≡ i = omega arith in subst P z p
 
 -- ---- the picks so far, with the states that are gone
 
-pub record Held (c : Chart) (picks : List ℕ) (count : ℕ) (gone : List Bool) : Type 0 where
+pub record Held (c : Chart) (picks : List Pick) (count : ℕ) (gone : List Bool) : Type 0 where
   pub few : count ≤ TRANSITIONS
-  pub size : length picks ≡ PICKS
+  pub size : length picks ≡ TRANSITIONS
   pub carried : Carried c count picks
-  pub marks : Gone (gone_after c [] (take count picks)) gone
+  pub marks : Gone (gone_after c [] (picked count picks)) gone
   pub long : length gone ≡ STATES
 
-pub held_none : (c : Chart) (picks : List ℕ) → length picks ≡ PICKS → Held c picks 0 (replicate STATES false)
+pub held_none : (c : Chart) (picks : List Pick) → length picks ≡ TRANSITIONS → Held c picks 0 (replicate STATES false)
 unfolding gone_after
 held_none c picks l = record {
   few = omega arith;
@@ -94,83 +95,55 @@ held_none c picks l = record {
   long = length-replicate STATES false;
 }
 
--- a store past the first numbers leaves them as they are
-take_past : (n : ℕ) (xs : List ℕ) (i x : ℕ) → n ≤ i → take n (set xs i x) ≡ take n xs
-take_past zero xs i x l = refl
-take_past (suc n) [] i x l = refl
-take_past (suc n) (y ∷ ys) zero x l = absurd (omega arith)
-take_past (suc n) (y ∷ ys) (suc i) x l = ap (λ zs. y ∷ zs) (take_past n ys i x (omega arith))
+-- the numbers of a list of picks, with one more
+map_snoc : (ps : List Pick) (p : Pick) → map (λ x. x.transition) (ps ++ (p ∷ [])) ≡ map (λ x. x.transition) ps ++ (p.transition ∷ [])
+map_snoc [] p = refl
+map_snoc (x ∷ xs) p = ap (λ ts. x.transition ∷ ts) (map_snoc xs p)
 
-module _ (picks : List ℕ) (count t : ℕ) (r : Span) (l : count < TRANSITIONS) (n : length picks ≡ PICKS) where
-  pub one_more : take (count + 1) (noted picks count t r) ≡ take count picks ++ (t ∷ [])
+abbrev found_out : Chart → Pick → Type 0
+found_out c p = Found c p.transition p.top p.end
+
+pub picked_long : (picks : List Pick) (count : ℕ) → count ≤ length picks → length (picked count picks) ≡ count
+picked_long picks count l = length-map (take count picks) (λ p. p.transition) ∙ length-take-le count picks l
+
+pub picked_at : (picks : List Pick) (count j : ℕ) → count ≤ length picks → j < count
+    → get_or (picked count picks) j 0 ≡ (get_or picks j free).transition
+picked_at picks count j l q =
+    get_d_map (λ p. p.transition) (take count picks) j 0 free (omega (arith, length-take-le count picks l))
+    ∙ ap (λ p. p.transition) (get_or-take count picks j free q)
+
+module _ (picks : List Pick) (count t : ℕ) (r : Span) (l : count < TRANSITIONS) (n : length picks ≡ TRANSITIONS) where
+  pub one_more : picked (count + 1) (noted picks count t r) ≡ picked count picks ++ (t ∷ [])
   one_more =
-      take_past (count + 1) (set (set picks count t) (TOPS_AT + count) r.top) (ENDS_AT + count) r.end (omega arith)
-      ∙ take_past (count + 1) (set picks count t) (TOPS_AT + count) r.top (omega arith)
-      ∙ rw (add-one count, take-suc-set picks count t (omega (arith, n)))
-
-  noted_size : length (noted picks count t r) ≡ PICKS
-  noted_size =
-      length-set (set (set picks count t) (TOPS_AT + count) r.top) (ENDS_AT + count) r.end
-      ∙ length-set (set picks count t) (TOPS_AT + count) r.top ∙ length-set picks count t ∙ n
-
-  -- what stands at another place is what stood there
-  other : (i : ℕ) → (i ≡ count → ⊥) → (i ≡ TOPS_AT + count → ⊥) → (i ≡ ENDS_AT + count → ⊥)
-      → get_or (noted picks count t r) i 0 ≡ get_or picks i 0
-  other i p q o =
-      get_or-set_other (set (set picks count t) (TOPS_AT + count) r.top) (ENDS_AT + count) i r.end 0 o
-      ∙ get_or-set_other (set picks count t) (TOPS_AT + count) i r.top 0 q ∙ get_or-set_other picks count i t 0 p
-
-  noted_here : (get_or (noted picks count t r) count 0 ≡ t) × (get_or (noted picks count t r) (TOPS_AT + count) 0 ≡ r.top)
-      × (get_or (noted picks count t r) (ENDS_AT + count) 0 ≡ r.end)
-  noted_here =
-      let two = set (set picks count t) (TOPS_AT + count) r.top in
-      let size = length-set (set picks count t) (TOPS_AT + count) r.top ∙ length-set picks count t ∙ n in (
-        get_or-set_other two (ENDS_AT + count) count r.end 0 (λ e. omega arith)
-            ∙ get_or-set_other (set picks count t) (TOPS_AT + count) count r.top 0 (λ e. omega arith)
-            ∙ get_or-set_same picks count t 0 (omega (arith, n)),
-        get_or-set_other two (ENDS_AT + count) (TOPS_AT + count) r.end 0 (λ e. omega arith)
-            ∙ get_or-set_same (set picks count t) (TOPS_AT + count) r.top 0 (omega (arith, n, length-set picks count t)),
-        get_or-set_same two (ENDS_AT + count) r.end 0 (omega (arith, size)),
-      )
+      rw (add-one count, take-suc-set picks count record { transition = t; top = r.top; end = r.end } (omega (arith, n)))
+      (map_snoc (take count picks) record { transition = t; top = r.top; end = r.end })
 
   noted_carried : (c : Chart) → Carried c count picks → Found c t r.top r.end → Carried c (count + 1) (noted picks count t r)
-  noted_carried c h f = up_to (λ j. Found c (at j) (at (TOPS_AT + j)) (at (ENDS_AT + j))) count before here
-    where
-      at : ℕ → ℕ
-      at i = get_or (noted picks count t r) i 0
+  noted_carried c h f = up_to (λ j. found_out c (get_or (noted picks count t r) j free)) count
+      (λ j p. subst (found_out c)
+      (sym (get_or-set_other picks count j record { transition = t; top = r.top; end = r.end } free (λ e. omega arith))) (h j p))
+      (subst (found_out c)
+      (sym (get_or-set_same picks count record { transition = t; top = r.top; end = r.end } free (omega (arith, n)))) f)
 
-      three : {a b d x y z : ℕ} → a ≡ x → b ≡ y → d ≡ z → Found c x y z → Found c a b d
-      three p q o g = rw (p, q, o) g
-
-      before : (j : ℕ) → j < count → Found c (at j) (at (TOPS_AT + j)) (at (ENDS_AT + j))
-      before j p = three
-          (other j (λ e. omega arith) (λ e. omega arith) (λ e. omega arith))
-          (other (TOPS_AT + j) (λ e. omega arith) (λ e. omega arith) (λ e. omega arith))
-          (other (ENDS_AT + j) (λ e. omega arith) (λ e. omega arith) (λ e. omega arith))
-          (h j p)
-
-      here : Found c (at count) (at (TOPS_AT + count)) (at (ENDS_AT + count))
-      here = three noted_here.0 noted_here.1 noted_here.2 f
-
-pub held_more : (c : Chart) (picks : List ℕ) (count : ℕ) (gone new : List Bool) (t : ℕ) (r : Span) → Held c picks count gone
+pub held_more : (c : Chart) (picks : List Pick) (count : ℕ) (gone new : List Bool) (t : ℕ) (r : Span) → Held c picks count gone
     → count < TRANSITIONS → Spans (span c t) r → Found c t r.top r.end → Goes r gone new
     → Held c (noted picks count t r) (count + 1) new
 held_more c picks count gone new t r h l f o g = record {
   few = omega arith;
-  size = noted_size picks count t r l h.size;
+  size = length-set picks count _ ∙ h.size;
   carried = noted_carried picks count t r l h.size c h.carried o;
   marks = subst (λ ps. Gone (gone_after c [] ps) new) (sym (one_more picks count t r l h.size))
-      (subst (λ ps. Gone ps new) (sym (gone_snoc c [] (take count picks) t)) (gone_more (span c t) _ r gone new f g h.marks));
+      (subst (λ ps. Gone ps new) (sym (gone_snoc c [] (picked count picks) t)) (gone_more (span c t) _ r gone new f g h.marks));
   long = g.long ∙ h.long;
 }
 
 -- a span clashes where one of its states is gone
-module _ {c : Chart} {picks : List ℕ} {count : ℕ} {gone : List Bool} (h : Held c picks count gone) (t : ℕ) {r : Span}
+module _ {c : Chart} {picks : List Pick} {count : ℕ} {gone : List Bool} (h : Held c picks count gone) (t : ℕ) {r : Span}
     (f : Spans (span c t) r) (l : r.end ≤ STATES) where
   pub held_clash : (x : ℕ) → r.first ≤ x → x < r.end → get_or gone x false ≡ true → meets (span c t)
-      (gone_after c [] (take count picks)) ≡ true
+      (gone_after c [] (picked count picks)) ≡ true
   held_clash x p q e = clash_hit (span c t) _ r f x p q (sym (h.marks x (omega arith)) ∙ e)
 
   pub held_apart : ((x : ℕ) → r.first ≤ x → x < r.end → get_or gone x false ≡ false) → meets (span c t)
-      (gone_after c [] (take count picks)) ≡ false
+      (gone_after c [] (picked count picks)) ≡ false
   held_apart e = clash_none (span c t) _ r f (λ x p q. sym (h.marks x (omega arith)) ∙ e x p q)

@@ -1,11 +1,10 @@
 -- The chooser's loop over the transitions of one source, turn by turn, over plain variables. Assumes nothing.
-use mathlib.Core.Path.{◌≡◌, refl, sym, ap, ◌∙◌, subst}
-use Prim.Native.Nat.{ℕ, suc, ◌+◌, ◌-◌, ◌≤◌, ◌<◌}
+use mathlib.Core.Path.{◌≡◌, sym, ap, ◌∙◌}
+use Prim.Native.Nat.{ℕ, ◌+◌, ◌-◌, ◌≤◌, ◌<◌}
 use native.Mathlib.Omega.{arith}
-use mathlib.Core.Bool.{Bool, true, false, ◌&&◌}
+use mathlib.Core.Bool.{Bool, true, false}
 use mathlib.Core.List.{List, []}
-use lib.ListN.{length, get_or, take}
-use lib.Seq.{length-take-le}
+use lib.ListN.{length, get_or}
 use lib.IntN.{ℤ}
 use lib.Dec.{eqb}
 use borrow.Author.Tests.{eqb-true}
@@ -22,16 +21,17 @@ use Rattle.meaning.specs.Rules.{Ruled}
 use Rattle.tree.proofs.Passing.{rules_passed}
 use Rattle.tree.specs.Aims.{Found}
 use Rattle.choice.specs.declared.Span.{Span}
+use Rattle.choice.specs.declared.Pick.{Pick}
 use Rattle.choice.specs.Span.{Spans, Spanned, Aims, Goes}
-use Rattle.choice.specs.Choice.{meant, noted}
+use Rattle.choice.specs.Choice.{meant, picked, noted}
 use Rattle.choice.proofs.Inside.{span_ends}
 use Rattle.choice.proofs.Thin.{gone_after, with_rest, rest_passed, rest_off, rest_clash, rest_take}
-use Rattle.choice.proofs.Loop.{row_aims, row_spans, row_found, row_enabled, Held, held_more, held_clash, held_apart, one_more}
+use Rattle.choice.proofs.Loop.{row_aims, row_spans, row_found, row_enabled, Held, held_more, held_clash, held_apart, picked_long, one_more}
 use Rattle.choice.proofs.All.{with_sources, take_room}
 
 -- before transition t of the source s: the picks, with what is still to come, are the chosen of all
-pub record Choosing (c : Chart) (e : ℕ) (u : State) (s t n : ℕ) (picks : List ℕ) (count : ℕ) (gone : List Bool) : Type 0 where
-  pub owes : with_sources c e u s (with_rest c e u s t (n - t) (take count picks)) ≡ chosen c e u
+pub record Choosing (c : Chart) (e : ℕ) (u : State) (s t n : ℕ) (picks : List Pick) (count : ℕ) (gone : List Bool) : Type 0 where
+  pub owes : with_sources c e u s (with_rest c e u s t (n - t) (picked count picks)) ≡ chosen c e u
   pub held : Held c picks count gone
 
 -- an enabled transition of the source s, with its span
@@ -63,46 +63,46 @@ module _ (v : List ℤ) (h : Ruled v) (t : ℕ) {row : TransRow} (q : row ≡ tr
     ends = omega (arith, span_ends (chart_of v) s meant_aims.0 row.target r w.spans, (sized_chart v (rules_passed v h).0).states);
   }
 
-module _ {c : Chart} {e : ℕ} {u : State} {s t n : ℕ} {picks : List ℕ} {count : ℕ} {gone : List Bool}
+module _ {c : Chart} {e : ℕ} {u : State} {s t n : ℕ} {picks : List Pick} {count : ℕ} {gone : List Bool}
     (w : Choosing c e u s t n picks count gone) (l : t < n) where
   pub choosing_passed : {b : Bool} → b ≡ meant (trans_row c t) s e → b ≡ false → Choosing c e u s (t + 1) n picks count gone
   choosing_passed q z = record {
-    owes = ap (with_sources c e u s) (rest_passed c e u s t n l (take count picks) (sym q ∙ z))
+    owes = ap (with_sources c e u s) (rest_passed c e u s t n l (picked count picks) (sym q ∙ z))
         ∙ w.owes;
     held = w.held;
   }
 
   pub choosing_off : enabled c e u t ≡ false → Choosing c e u s (t + 1) n picks count gone
-  choosing_off z = record { owes = ap (with_sources c e u s) (rest_off c e u s t n l (take count picks) z) ∙ w.owes; held = w.held }
+  choosing_off z = record { owes = ap (with_sources c e u s) (rest_off c e u s t n l (picked count picks) z) ∙ w.owes; held = w.held }
 
   module _ {r : Span} (g : Turn c e u s t r) where
     pub choosing_clash : (x : ℕ) → r.first ≤ x → x < r.end → get_or gone x false ≡ true → Choosing c e u s (t + 1) n picks count gone
     choosing_clash x p q z = record {
-      owes = ap (with_sources c e u s) (rest_clash c e u s t n l (take count picks) g.source g.on
+      owes = ap (with_sources c e u s) (rest_clash c e u s t n l (picked count picks) g.source g.on
           (held_clash w.held t g.spans g.ends x p q z)) ∙ w.owes;
       held = w.held;
     }
 
     module _ (a : (x : ℕ) → r.first ≤ x → x < r.end → get_or gone x false ≡ false) (k : length c.transitions ≤ TRANSITIONS) where
-      apart : meets (span c t) (gone_after c [] (take count picks)) ≡ false
+      apart : meets (span c t) (gone_after c [] (picked count picks)) ≡ false
       apart = held_apart w.held t g.spans g.ends a
 
       pub choosing_room : count < TRANSITIONS
       choosing_room = omega (
         arith,
-        length-take-le count picks (omega (arith, w.held.few, w.held.size)),
-        take_room c e u s t n (take count picks) w.owes l g.source g.on apart k,
+        picked_long picks count (omega (arith, w.held.few, w.held.size)),
+        take_room c e u s t n (picked count picks) w.owes l g.source g.on apart k,
       )
 
       pub choosing_take : {new : List Bool} → Goes r gone new → Choosing c e u s (t + 1) n (noted picks count t r) (count + 1) new
       choosing_take {new} m = record {
         owes = ap (λ ps. with_sources c e u s (with_rest c e u s (t + 1) (n - (t + 1)) ps))
             (one_more picks count t r choosing_room w.held.size)
-            ∙ ap (with_sources c e u s) (rest_take c e u s t n l (take count picks) g.source g.on apart) ∙ w.owes;
+            ∙ ap (with_sources c e u s) (rest_take c e u s t n l (picked count picks) g.source g.on apart) ∙ w.owes;
         held = held_more c picks count gone new t r w.held choosing_room g.spans g.found m;
       }
 
       -- the same as the code has it: the pick is noted
-      pub choosing_noted : {new : List Bool} {x : ℕ} {ps : List ℕ} → x ≡ t → ps ≡ noted picks count x r → Goes r gone new
+      pub choosing_noted : {new : List Bool} {x : ℕ} {ps : List Pick} → x ≡ t → ps ≡ noted picks count x r → Goes r gone new
           → Choosing c e u s (x + 1) n ps (count + 1) new
       choosing_noted q o m = rw (o, q) (choosing_take m)

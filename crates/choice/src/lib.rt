@@ -8,7 +8,7 @@ ghost use Rattle.meaning.specs.Value.{chart_of};
 ghost use Rattle.meaning.specs.Reaction.{compare_by, guard_holds, enabled_by};
 ghost use Rattle.meaning.specs.Rules.{Ruled};
 ghost use Rattle.choice.specs.Span.{Spanned, Aims, Goes};
-ghost use Rattle.choice.specs.Choice.{seen, Reads, meant, Sources, noted, Chose, PICKS as picks_size};
+ghost use Rattle.choice.specs.Choice.{seen, Reads, meant, Sources, noted, Chose};
 
 use chart_rows::layout::{TRANS_ROW, TRANSITIONS_AT};
 use chart_rows::{number_at, state_count, trans_row, transition_count};
@@ -18,13 +18,21 @@ use sizes::{STATES, TRANSITIONS, VARIABLES};
 use tree::walks::{end_below, scope};
 use tree::ways::{aim_of, aimed};
 
-// What choosing finds out of each transition that it chooses, in three parts of one array: the transition, the top of its span, and
-// where the states below that top end. Two bytes each, since the array is cleared for each step.
-pub const TOPS_AT: usize = TRANSITIONS;
+// What choosing finds out of a transition that it chooses: its number, the top of its span, and where the states below that top end.
+// Two bytes each, since an array of them is cleared for each step.
+#[derive(Clone, Copy)]
+pub struct Pick {
+    pub transition: u16,
+    pub top: u16,
+    pub end: u16,
+}
 
-pub const ENDS_AT: usize = 2 * TRANSITIONS;
-
-pub const PICKS: usize = 3 * TRANSITIONS;
+// Where nothing is picked yet.
+pub const FREE: Pick = Pick {
+    transition: 0,
+    top: 0,
+    end: 0,
+};
 
 // The numbers from first up to below end; the top is the state below which a firing leaves and enters: the scope, in place the source.
 #[derive(Clone, Copy)]
@@ -143,14 +151,16 @@ fn mark_gone(span: Span, gone: &mut [bool; STATES])
 }
 
 // One more is chosen: its number, and what was found out of it.
-fn note(t: usize, span: Span, picks: &mut [u16; PICKS], count: usize)
+fn note(t: usize, span: Span, picks: &mut [Pick; TRANSITIONS], count: usize)
     requires { (t < transitions) × (span.top < span.end)
-        × (span.end ≤ states) × (count < transitions) × (length picks.old ≡ picks_size) }
+        × (span.end ≤ states) × (count < transitions) × (length picks.old ≡ transitions) }
     ensures { picks.new ≡ noted picks.old count t span }
 {
-    picks[count] = t as u16;
-    picks[TOPS_AT + count] = span.top as u16;
-    picks[ENDS_AT + count] = span.end as u16;
+    picks[count] = Pick {
+        transition: t as u16,
+        top: span.top as u16,
+        end: span.end as u16,
+    };
 }
 
 // "the enabled, by falling source then rising transition number, less any whose span meets that of one already chosen": they
@@ -160,9 +170,9 @@ pub fn choose(
     event: usize,
     active: &[bool; STATES],
     vars: &[i32; VARIABLES],
-    picks: &mut [u16; PICKS],
+    picks: &mut [Pick; TRANSITIONS],
 ) -> usize
-    requires { Ruled chart.now × (length picks.old ≡ picks_size) }
+    requires { Ruled chart.now × (length picks.old ≡ transitions) }
     ensures { Chose (chart_of chart.now) event active.now vars.now result picks.new }
 {
     let n = transition_count(chart);

@@ -4,63 +4,46 @@ use mathlib.Core.Path.{◌≡◌, sym, ap, ◌∙◌, subst}
 use Prim.Native.Nat.{ℕ, ◌+◌, ◌≤◌, ◌<◌}
 use native.Mathlib.Omega.{arith}
 use mathlib.Core.List.{List}
-use lib.ListN.{length, get_or, drop}
-use lib.Seq.{length-take-le, get_or-take}
+use lib.ListN.{length, get_or, drop, take, length-map}
 use lib.IntN.{ℤ}
 use Rattle.meaning.specs.Steps.{◌then◌, each}
 use Rattle.meaning.specs.Chart.{Chart}
 use Rattle.meaning.specs.Reaction.{fire}
-use Rattle.meaning.specs.Tree.{trans_row}
-use Rattle.meaning.specs.Value.{chart_of}
-use Rattle.meaning.specs.declared.chart.Target.{Target}
-use Rattle.meaning.specs.declared.chart.Target.TheVariants.{To as to, History as history, InPlace as in_place}
 use Rattle.laws.proofs.Lists.{each_at}
-use Rattle.laws.specs.Facts.{TargetFacts}
-use Rattle.laws.proofs.Scope.{scope_facts}
 use Rattle.laws.proofs.Sound.{SoundChart}
-use Rattle.sizes.specs.Sizes.{STATES}
-use Rattle.meaning.specs.Rules.{Ruled}
-use Rattle.tree.proofs.On.{end_within}
-use Rattle.tree.specs.Aims.{aim_by, top_of, Found}
-use Rattle.tree.proofs.Passing.{sound}
+use Rattle.tree.specs.Aims.{Found}
 use Rattle.meaning.specs.declared.State.{State}
 use Rattle.meaning.specs.declared.answers.Refusal.{Refusal}
 use Rattle.widget.specs.View.{ctx, Did, Owes}
 use Rattle.widget.proofs.Going as going
 use Rattle.invariants.proofs.GoodReaction.{fire_good}
-use Rattle.choice.specs.Choice.{picked, PICKS}
+use Rattle.choice.specs.Choice.{free, picked}
+use Rattle.choice.specs.declared.Pick.{Pick}
+use Rattle.laws.proofs.Value.{get_d_map}
+use lib.Seq.{get_or-take}
+use Rattle.std.proofs.lemmas.List.{length-take}
 use Rattle.reaction.specs.Ready.{Ready, Fires}
 use Rattle.laws.proofs.Value.{SizedChart}
-use Rattle.reaction.proofs.Going.{sized, ready_next}
+use Rattle.reaction.proofs.Going.{ready_next}
 
 -- how many fire, and which is the j-th
-module _ (c : Chart) (count : ℕ) (picks : List ℕ) (f : Fires c count picks) (size : length picks ≡ PICKS) where
-  pub fires_long : length (picked count picks) ≡ count
-  fires_long = length-take-le count picks (omega (arith, f.few, size))
+module _ (c : Chart) (count : ℕ) (picks : List Pick) (f : Fires c count picks) where
+  pub fires_long : length (picked count picks) ≡ length (take count picks)
+  fires_long = length-map (take count picks) (λ p. p.transition)
 
-  pub fires_at : (j : ℕ) → j < count → get_or (picked count picks) j 0 ≡ get_or picks j 0
-  fires_at j l = get_or-take count picks j 0 l
+  module _ (j : ℕ) (l : j < length (take count picks)) {t : ℕ} (e : t ≡ (get_or (take count picks) j free).transition) where
+    pub fires_at : get_or (picked count picks) j 0 ≡ t
+    fires_at = get_d_map (λ p. p.transition) (take count picks) j 0 free l ∙ sym e
 
-  pub fires_named : (j : ℕ) → j < count → get_or picks j 0 < length c.transitions
-  fires_named j l = subst (λ t. t < length c.transitions) (fires_at j l) (each_at
-      (λ t. t < length c.transitions) (picked count picks) f.named j (omega (arith, fires_long)) 0)
+    pub fires_named : t < length c.transitions
+    fires_named = subst (λ n. n < length c.transitions) fires_at (each_at
+        (λ n. n < length c.transitions) (picked count picks) f.named j (omega (arith, fires_long)) 0)
 
--- what is carried beside a transition names states of the chart
-top_inside : (c : Chart) → SoundChart c → (s : ℕ) → s < length c.states → (g : Target) → TargetFacts c s g
-    → top_of c s (aim_by g) < length c.states
-top_inside c h s l (to d) f = (scope_facts c h s d f.2 f.1).inside
-top_inside c h s l (history b) f = (scope_facts c h s b f.3 f.1).inside
-top_inside c h s l in_place f = l
-
-pub carried_inside : (v : List ℤ) → Ruled v → (t : ℕ) → t < length (chart_of v).transitions → {top end : ℕ} → Found (chart_of v) t top end
-    → (top < STATES) × (end ≤ STATES)
-carried_inside v r t l {top} h =
-    let f = (sound v r).transitions t l in
-    let row = trans_row (chart_of v) t in
-    let i : top < length (chart_of v).states =
-    omega (arith, h.is, top_inside (chart_of v) (sound v r) row.source f.source row.target f.target) in
-    let m = (sized v r).states in
-    (omega arith, omega (arith, h.ends, end_within (chart_of v) (sound v r).ordered top i))
+    pub fires_carried : {top end : ℕ} → top ≡ (get_or (take count picks) j free).top → end ≡ (get_or (take count picks) j free).end
+        → Found c t top end
+    fires_carried p q =
+        let k : j < count = omega (arith, length-take count picks) in
+        rw (e, p, q) (subst (λ x. Found c x.transition x.top x.end) (sym (get_or-take count picks j free k)) (f.carried j k))
 
 pub record Firing (c : Chart) (arg : ℤ) (ps : List ℕ) (u : State) (t : List ℤ) (at j : ℕ) (u₁ : State) (t₁ : List ℤ) (at₁ : ℕ)
     : Type 0 where

@@ -23,17 +23,18 @@ use Rattle.widget.proofs.Going as going
 use Rattle.invariants.specs.Good.{Good}
 use Rattle.invariants.proofs.GoodReaction.{fire_good}
 use Rattle.invariants.proofs.Choosing.{chosen_enabled}
+use Rattle.choice.specs.declared.Pick.{Pick}
 use Rattle.choice.specs.Choice.{seen, picked, Chose}
 use Rattle.choice.proofs.Seen.{chosen_seen}
 use Rattle.reaction.specs.Ready.{Ready, Fires}
 use Rattle.laws.proofs.Sound.{SoundChart}
 use Rattle.laws.proofs.Value.{SizedChart}
 use Rattle.reaction.proofs.Going.{ready_next}
-use Rattle.reaction.proofs.Firing.{fires_long}
+use Rattle.choice.proofs.Loop.{picked_long}
 
 -- ---- the chosen of a widget
 
-pub chose_fires : {c : Chart} {e : ℕ} {a : List Bool} {vs : List ℤ} {count : ℕ} {picks : List ℕ}
+pub chose_fires : {c : Chart} {e : ℕ} {a : List Bool} {vs : List ℤ} {count : ℕ} {picks : List Pick}
     → Chose c e a vs count picks → Fires c count picks
 chose_fires {c} {e} {a} {vs} h = record {
   few = h.few;
@@ -41,7 +42,7 @@ chose_fires {c} {e} {a} {vs} h = record {
   carried = h.carried;
 }
 
-module _ {c : Chart} {e : ℕ} (u : State) {count : ℕ} {picks : List ℕ} (h : Chose c e u.active u.vars count picks) where
+module _ {c : Chart} {e : ℕ} (u : State) {count : ℕ} {picks : List Pick} (h : Chose c e u.active u.vars count picks) where
   pub chose_here : (t : List ℤ) (at : ℕ) → chosen c e (ctx u t at).state ≡ picked count picks
   unfolding ctx
   chose_here t at = chosen_seen c e _ ∙ sym h.is
@@ -92,9 +93,9 @@ module _ {c : Chart} {u : State} {t : List ℤ} {at : ℕ} where
   settling_begin h = record { ready = h; few = omega arith; owes = going.owes_all h.fits }
 
   module _ {turns : ℕ} {u₁ : State} {t₁ : List ℤ} {at₁ : ℕ} (h : Settling c u t at turns u₁ t₁ at₁)
-      {count : ℕ} {picks : List ℕ} (g : Chose c 0 u₁.active u₁.vars count picks) where
+      {count : ℕ} {picks : List Pick} (g : Chose c 0 u₁.active u₁.vars count picks) where
     long : length (picked count picks) ≡ count
-    long = fires_long c count picks (chose_fires g) g.size
+    long = picked_long picks count (omega (arith, g.few, g.size))
 
     here : chosen c 0 (ctx u₁ t₁ at₁).state ≡ picked count picks
     here = chose_here u₁ g t₁ at₁

@@ -7,6 +7,7 @@ use Rattle.meaning.specs.declared.State.{State}
 use Rattle.widget.specs.View.{ctx}
 use Rattle.laws.specs.Facts.{Each}
 use Rattle.invariants.specs.Good.{Good}
+use Rattle.choice.specs.declared.Pick.{Pick}
 use Rattle.choice.specs.Choice.{picked, Carried}
 
 pub record Ready (c : Chart) (u : State) (trace : List ℤ) (at : ℕ) : Type 0 where
@@ -14,7 +15,7 @@ pub record Ready (c : Chart) (u : State) (trace : List ℤ) (at : ℕ) : Type 0 
   pub fits : at ≤ length trace
 
 -- chosen transitions are transitions of the chart, each with what choosing found out of it
-pub record Fires (c : Chart) (count : ℕ) (picks : List ℕ) : Type 0 where
+pub record Fires (c : Chart) (count : ℕ) (picks : List Pick) : Type 0 where
   pub few : count ≤ TRANSITIONS
   pub named : Each (λ t. t < length c.transitions) (picked count picks)
   pub carried : Carried c count picks

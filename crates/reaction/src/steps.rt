@@ -7,18 +7,18 @@ ghost use Rattle.choice.specs.Choice.{picked};
 ghost use Rattle.reaction.specs.Ready.{Ready, Fires};
 
 use acts::index::Runnable;
-use choice::{ENDS_AT, PICKS, TOPS_AT, choose};
+use choice::{FREE, Pick, choose};
 use firing::fire;
 use meaning::State;
 use meaning::answers::Refusal;
-use sizes::NULL_STEPS;
+use sizes::{NULL_STEPS, TRANSITIONS};
 
 // "They fire in that order": the chosen, one after the other.
 fn fire_all(
     c: &Runnable,
     arg: i32,
     count: usize,
-    picks: &[u16; PICKS],
+    picks: &[Pick; TRANSITIONS],
     widget: &mut State,
     trace: &mut [i32],
     at: usize,
@@ -28,10 +28,10 @@ fn fire_all(
         widget.old trace.old at result widget.new trace.new }
 {
     let mut next = at;
-    for j in 0..count {
-        let t = picks[j] as usize;
-        let top = picks[TOPS_AT + j] as usize;
-        let end = picks[ENDS_AT + j] as usize;
+    for pick in &picks[..count] {
+        let t = usize::from(pick.transition);
+        let top = usize::from(pick.top);
+        let end = usize::from(pick.end);
         next = fire(c, arg, t, top, end, widget, trace, next)?;
     }
     Ok(next)
@@ -49,7 +49,7 @@ pub fn step(
     requires { Ready (chart_of c.now.chart.now) widget.old trace.old at }
     ensures { Did (one_step (chart_of c.now.chart.now) event arg) widget.old trace.old at result widget.new trace.new }
 {
-    let mut picks = [0; PICKS];
+    let mut picks = [FREE; TRANSITIONS];
     let count = choose(c.chart, event, &widget.active, &widget.vars, &mut picks);
     fire_all(c, arg, count, &picks, widget, trace, at)
 }
@@ -66,7 +66,7 @@ pub fn settle(
 {
     let mut next = at;
     let mut turns: usize = 0;
-    let mut picks = [0; PICKS];
+    let mut picks = [FREE; TRANSITIONS];
     // the form that 01 names: a loop that yields the settled widget or the refusal
     loop {
         let count = choose(c.chart, 0, &widget.active, &widget.vars, &mut picks);

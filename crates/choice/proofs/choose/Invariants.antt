@@ -1,11 +1,11 @@
 use mathlib.Core.Path.{◌≡◌}
 use Prim.Native.Nat.{ℕ, ◌-◌, ◌≤◌, ◌<◌}
 use mathlib.Core.Bool.{false}
-use lib.ListN.{get_or, take}
+use lib.ListN.{get_or}
 use Rattle.sizes.specs.Sizes.{STATES}
 use Rattle.meaning.specs.Value.{chart_of}
 use Rattle.meaning.specs.Reaction.{chosen}
-use Rattle.choice.specs.Choice.{seen}
+use Rattle.choice.specs.Choice.{seen, picked}
 use Rattle.choice.proofs.Loop.{Held}
 use Rattle.choice.proofs.All.{with_sources}
 use Rattle.choice.proofs.Turns.{Choosing}
@@ -27,5 +27,5 @@ decreases-transitions l = l.n - l.t
 
 abbrev pub invariant-sources : goal.invariant-sources
 invariant-sources l =
-    (with_sources (chart_of l.chart) l.event (seen l.active l.vars) l.s (take l.count l.picks) ≡ chosen (chart_of l.chart) l.event (seen l.active l.vars))
+    (with_sources (chart_of l.chart) l.event (seen l.active l.vars) l.s (picked l.count l.picks) ≡ chosen (chart_of l.chart) l.event (seen l.active l.vars))
     × Held (chart_of l.chart) l.picks l.count l.gone × (l.s ≤ STATES)

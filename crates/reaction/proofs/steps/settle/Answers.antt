@@ -1,14 +1,16 @@
 -- `settle` makes null steps until none is enabled; a 33rd is refused. Assumes nothing.
-use Rattle.std.proofs.Common.{◌≡◌, ℕ, Err, rules, arith}
+use Rattle.std.proofs.Common.{◌≡◌, Err, rules, arith}
 use lib.ListN.{length-replicate}
-use Rattle.choice.specs.Choice.{PICKS}
+use Rattle.sizes.specs.Sizes.{TRANSITIONS}
+use Rattle.choice.specs.declared.Pick.{Pick}
+use Rattle.choice.specs.Choice.{free}
 use Rattle.tree.proofs.Passing.{sound}
 use Rattle.reaction.proofs.Going.{sized}
 use Rattle.reaction.proofs.Settling.{settling_begin, settling_end, settling_full, settling_stop, settling_on, chose_fires}
 use Rattle.reaction.proofs.steps.settle.Goals as goal
 
 pub loop-picks-init : goal.loop-picks-init
-loop-picks-init c = (settling_begin c.requires, length-replicate {A = ℕ} PICKS 0)
+loop-picks-init c = (settling_begin c.requires, length-replicate {A = Pick} TRANSITIONS free)
 
 pub choose-count-requires : goal.choose-count-requires
 choose-count-requires c = (c.args.c.now.prepared.ruled, c.loop-picks.invariant.1)
