@@ -1,6 +1,6 @@
-// Writing into a lent slice of bytes: one byte, a number without a sign, a number. Each function takes the next place and hands back
-// the one after it; where the slice has no room left the place lies one past its length from then on, and nothing more is written.
-// So each contract is one equation with no condition, and a caller tells once, at the end, whether all of it had room.
+// Writing into a lent slice of bytes: one byte, a number without a sign, a number. A pen is the slice and the next place in it; where the
+// slice has no room left the place lies one past its length from then on, and nothing more is written. So each contract is one equation
+// with no condition, and a caller tells once, at the end, whether all of it had room.
 #![tactic(auto)]
 
 ghost use Rattle.std.specs.Prelude.{◌≡◌, nat_abs};
@@ -56,7 +56,7 @@ impl<'a> Pen<'a> {
     }
 }
 
-// One byte at a place of a slice, and the place after it.
+// The same at a place of a slice, for a caller that keeps the place itself: each gives the place after what it put.
 pub fn put(out: &mut [u8], at: usize, b: u8) -> usize
     ensures { pen out.new result ≡ put_byte b (pen out.old at) }
 {
