@@ -9,7 +9,6 @@ use lib.ListN.{length, take, replicate, length-take, length-append}
 use lib.Seq.{take-append-le}
 use Rattle.meaning.specs.Lists.{padded}
 use Rattle.meaning.specs.Widget.{ENTRY}
-use Rattle.meaning.specs.Calls.{lent}
 use Rattle.meaning.specs.Program.{entry_lines, report}
 use Rattle.console.specs.Shown.{entries_held, shown}
 

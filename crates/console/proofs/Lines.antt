@@ -3,13 +3,13 @@
 use mathlib.Core.Path.{◌≡◌, refl, sym, ◌∙◌}
 use mathlib.Core.Bool.{Bool, true, false, cond}
 use mathlib.Core.List.{List, [], ◌∷◌}
-use Rattle.std.proofs.Common.{ℤ, Option, None, Some, Result, Ok, Err}
-use Prim.Native.Nat.{ℕ, zero}
+use Rattle.std.proofs.Common.{ℤ, Option, None, Result, Err}
+use Prim.Native.Nat.{ℕ}
 use lib.Dec.{ltb, eqb}
 use Rattle.meaning.specs.declared.Fault.{Fault}
 use Rattle.meaning.specs.declared.Fault.TheVariants as fault
 use Rattle.meaning.specs.Number.{value, natural, capped, natural_of, with_no_sign, minus, number_of, alone, unless_zero, signed}
-use Rattle.meaning.specs.Split.{TAB, Parts, all, cut, split, fields}
+use Rattle.meaning.specs.Split.{TAB, Parts, cut, split, fields}
 use Rattle.meaning.specs.Program.{Input, another_form, input_by, input_of}
 use Rattle.console.specs.declared.scan.Digits.{Digits}
 use Rattle.console.specs.declared.scan.Digits.TheVariants.{Start, Minus, Zero, Plain, Negative, Broken}

@@ -2,7 +2,7 @@
 -- place lies no farther, so that nothing was lost. Assumes nothing.
 use mathlib.Core.Path.{◌≡◌, ap, ◌∙◌}
 use mathlib.Core.List.{List, [], ◌∷◌, ◌++◌}
-use Prim.Native.Nat.{ℕ, ◌+◌, ◌*◌, ◌/◌, ◌≤◌, ◌<◌, ◌^◌, min}
+use Prim.Native.Nat.{ℕ, ◌+◌, ◌*◌, ◌≤◌, ◌<◌, ◌^◌}
 use native.Mathlib.Omega.{arith}
 use lib.IntN.{ℤ}
 use lib.Signed.{mag}
@@ -12,7 +12,6 @@ use Rattle.pen.proofs.Digits.{digits_length, numeral_length}
 use Rattle.pen.proofs.Laws.{all_stands, all_long, then_bytes, then_byte, then_end}
 use Rattle.meaning.specs.Number.{digits}
 use Rattle.meaning.specs.Split.{LF}
-use Rattle.meaning.specs.Widget.{ENTRY}
 use Rattle.meaning.specs.Program.{SPACE}
 use Rattle.console.specs.Shown.{entry_line, entries_held, HEAD, LINE, largest}
 

@@ -3,7 +3,7 @@
 use mathlib.Core.Path.{◌≡◌, refl, sym, ap, ◌∙◌}
 use mathlib.Core.Bool.{Bool, true, false, cond, false≢true}
 use mathlib.Core.List.{List, [], ◌∷◌, ◌++◌}
-use Prim.Native.Nat.{ℕ, suc, ◌+◌, ◌<◌, ◌≤◌}
+use Prim.Native.Nat.{ℕ, ◌+◌, ◌<◌, ◌≤◌}
 use borrow.Author.Tests.{ne_eqb}
 use native.Mathlib.Omega.{arith}
 use native.Mathlib.Numerals.{add-one}
@@ -12,9 +12,8 @@ use lib.ListN.{length, get_or, take, drop}
 use lib.Seq.{slice, slice_empty, take-suc, drop-append-le, length-take-le}
 use Rattle.meaning.specs.Split.{LF}
 use Rattle.console.specs.declared.scan.Scan.{Scan}
-use Rattle.console.specs.declared.scan.Collected.{Collected}
 use Rattle.console.specs.Scan.{fed, scan_on}
-use Rattle.console.specs.Session.{Turns, Under, Passed, passed, passed_all}
+use Rattle.console.specs.Session.{Turns, Under, passed, passed_all}
 use Rattle.console.specs.Stretch.{inside, Collects}
 use Rattle.console.proofs.Session.{scan_snoc}
 

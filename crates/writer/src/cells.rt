@@ -5,7 +5,7 @@ ghost use Rattle.meaning.specs.Split.{TAB as Tab};
 ghost use Rattle.meaning.specs.Value.{fits_field};
 ghost use Rattle.meaning.specs.Line.{write_field};
 ghost use Rattle.forms.specs.Table.{field_of};
-ghost use Rattle.pen.specs.Pen.{pen, put_all};
+ghost use Rattle.pen.specs.Pen.{held, put_all};
 ghost use Rattle.round_trip.specs.Rows.{tells};
 
 use chart_rows::decode::{is_absent, is_letter, one_of_letters};
@@ -13,7 +13,7 @@ use chart_rows::number_at;
 use forms::Field;
 use meaning::bytes::TAB;
 use numbers::reference;
-use pen::{put, put_digits, put_numeral};
+use pen::Pen;
 
 // Whether the first number of a row's rest tells that it has this field, and not one of another form.
 pub fn tells(field: Field, z: i32) -> bool
@@ -29,39 +29,33 @@ pub fn tells(field: Field, z: i32) -> bool
 }
 
 // What a field says of record n, from the chart's numbers at a place on.
-fn put_said(chart: &[i32], at: usize, field: Field, n: usize, text: &mut [u8], p: usize) -> usize
+fn put_said(chart: &[i32], at: usize, field: Field, n: usize, pen: &mut Pen)
     requires { (fits_field (field_of field) at chart.now ≡ true) × (at + 1 < NOWHERE) }
-    ensures { pen text.new result
-        ≡ put_all (write_field (field_of field) n at chart.now) (pen text.old p) }
+    ensures same_reference { pen.new.out.ghost_name ≡ pen.old.out.ghost_name }
+    ensures written { held pen.new ≡ put_all (write_field (field_of field) n at chart.now) (held pen.old) }
 {
     match field {
-        Field::Turn => put_digits(text, p, n),
-        Field::Number => put_numeral(text, p, number_at(chart, at)),
-        Field::EventCount => put_numeral(text, p, number_at(chart, at)),
-        Field::Dash => put(text, p, b'-'),
-        Field::Letter(_) => put(text, p, reference(number_at(chart, at)) as u8),
-        Field::TargetState => put_numeral(text, p, number_at(chart, at + 1)),
+        Field::Turn => pen.put_digits(n),
+        Field::Number => pen.put_numeral(number_at(chart, at)),
+        Field::EventCount => pen.put_numeral(number_at(chart, at)),
+        Field::Dash => pen.put(b'-'),
+        Field::Letter(_) => pen.put(reference(number_at(chart, at)) as u8),
+        Field::TargetState => pen.put_numeral(number_at(chart, at + 1)),
         Field::TargetHistory => {
-            let q = put(text, p, b'h');
-            put_numeral(text, q, number_at(chart, at + 1))
+            pen.put(b'h');
+            pen.put_numeral(number_at(chart, at + 1));
         }
-        Field::InPlace => put(text, p, b'-'),
+        Field::InPlace => pen.put(b'-'),
     }
 }
 
 // A tab, and the field.
-pub fn put_field(
-    chart: &[i32],
-    at: usize,
-    field: Field,
-    n: usize,
-    text: &mut [u8],
-    p: usize,
-) -> usize
+pub fn put_field(chart: &[i32], at: usize, field: Field, n: usize, pen: &mut Pen)
     requires { (fits_field (field_of field) at chart.now ≡ true) × (at + 1 < NOWHERE) }
-    ensures { pen text.new result
-        ≡ put_all (Tab ∷ write_field (field_of field) n at chart.now) (pen text.old p) }
+    ensures same_reference { pen.new.out.ghost_name ≡ pen.old.out.ghost_name }
+    ensures written { held pen.new
+        ≡ put_all (Tab ∷ write_field (field_of field) n at chart.now) (held pen.old) }
 {
-    let q = put(text, p, TAB);
-    put_said(chart, at, field, n, text, q)
+    pen.put(TAB);
+    put_said(chart, at, field, n, pen);
 }

@@ -9,11 +9,12 @@ use Rattle.writer.proofs.rows.put_chart.Goals as goal
 
 pub loop-kind-preserved : goal.loop-kind-preserved
 loop-kind-preserved c = (
-  kind_more (rows_of c.args.chart.now) _ _ _ _ c.loop-kind-test.true (kind_at _ _ c.loop-kind-test.true) c.put_rows-p.ensures
+  kind_more (rows_of c.args.chart.now) _ _ _ _ c.loop-kind-test.true (kind_at _ _ c.loop-kind-test.true) c.put_rows.ensures.written
       ∙ c.loop-kind.invariant.0,
   search rules,
 )
 
 pub returns : goal.returns
 unfolding text_of
-returns c = kinds_done (rows_of c.args.chart.now) _ _ _ c.loop-kind-test.false c.loop-kind.invariant.0
+returns c =
+    let z = kinds_done (rows_of c.args.chart.now) _ _ _ c.loop-kind-test.false c.loop-kind.invariant.0 in search rules

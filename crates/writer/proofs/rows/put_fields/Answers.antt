@@ -19,12 +19,12 @@ put_field-requires c =
     let w = c.loop-field.invariant in
     let i = left_inside _ _ _ _ _ _ w.0 in (fits_last _ _ _ _ _ _ w.0 _ c.in-Last.ensures, omega arith)
 
-pub returns-in-Last : goal.returns-in-Last
-returns-in-Last c = left_last _ _ _ _ _ _ c.loop-field.invariant.0 _ c.in-Last.ensures _ c.put_field.ensures
+pub returns-in-Last-clause-written : goal.returns-in-Last-clause-written
+returns-in-Last-clause-written c = left_last _ _ _ _ _ _ c.loop-field.invariant.0 _ c.in-Last.ensures _ c.put_field.ensures.written
 
 -- a field with more behind it
-pub put_field-q-requires : goal.put_field-q-requires
-put_field-q-requires c =
+pub put_field-requires-in-More : goal.put_field-requires-in-More
+put_field-requires-in-More c =
     let w = c.loop-field.invariant in
     let i = left_inside _ _ _ _ _ _ w.0 in (fits_more _ _ _ _ _ _ w.0 _ c.in-More.ensures, omega arith)
 
@@ -39,7 +39,7 @@ loop-field-preserved-in-More c =
     let w = c.loop-field.invariant in
     let i = left_inside _ _ _ _ _ _ w.0 in
     let d = c.width-at.ensures.1 in (
-      left_then _ _ _ _ _ _ w.0 _ c.in-More.ensures _ c.put_field-q.ensures _ c.width-at.ensures.0,
+      left_then _ _ _ _ _ _ w.0 _ c.in-More.ensures _ c.put_field-in-More.ensures.written _ c.width-at.ensures.0,
       omega arith,
       search rules,
     )

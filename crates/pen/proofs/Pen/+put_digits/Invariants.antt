@@ -1,4 +1,4 @@
-use Rattle.pen.proofs.+put_digits.Given as goal
+use Rattle.pen.proofs.Pen.+put_digits.Given as goal
 
 abbrev pub decreases-put_digits : goal.decreases-put_digits
 decreases-put_digits l = l.n
