@@ -6,11 +6,10 @@ ghost use Rattle.meaning.specs.Entry.{below, by_defaults};
 ghost use Rattle.meaning.specs.Lists.{concat_map};
 ghost use Rattle.meaning.specs.Value.{chart_of};
 ghost use Rattle.emitter.specs.Pen.{pen, emits, Room};
-ghost use Rattle.acts.specs.Index.{Prepared};
 
 use super::kids::kids_within;
 use super::pieces::{put_stored, put_visit};
-use acts::index::INDEX;
+use acts::index::Runnable;
 use chart_rows::state_count;
 use emitter::{WIDTH, put_instr};
 use meaning::plan::Instr;
@@ -19,84 +18,64 @@ use tree::walks::end_below;
 use tree::ways::Next;
 
 // Below s everything by default.
-pub fn put_defaults(
-    chart: &[i32],
-    index: &[u16; INDEX],
-    s: usize,
-    left: usize,
-    plan: &mut [i32],
-    at: usize,
-) -> usize
-    requires { Prepared chart.now index.now × (s < length (chart_of chart.now).states)
-        × Room (concat_map (visit_code (chart_of chart.now)) (below (chart_of chart.now) by_defaults left s)) at }
-    ensures { pen plan.new result ≡ emits (concat_map (visit_code (chart_of chart.now))
-        (below (chart_of chart.now) by_defaults left s)) (pen plan.old at) }
+pub fn put_defaults(c: &Runnable, s: usize, left: usize, plan: &mut [i32], at: usize) -> usize
+    requires { (s < length (chart_of c.now.chart.now).states)
+        × Room (concat_map (visit_code (chart_of c.now.chart.now)) (below (chart_of c.now.chart.now) by_defaults left s)) at }
+    ensures { pen plan.new result ≡ emits (concat_map (visit_code (chart_of c.now.chart.now))
+        (below (chart_of c.now.chart.now) by_defaults left s)) (pen plan.old at) }
 {
     let next = Next::Defaults;
-    let kids = kids_within(chart, s, next, left);
+    let kids = kids_within(c.chart, s, next, left);
     let mut p = at;
     for d in kids.first..kids.end {
-        if !is_child(chart, s, d) {
+        if !is_child(c.chart, s, d) {
             continue;
         }
-        p = put_visit(chart, index, next, s, d, plan, p);
-        p = put_defaults(chart, index, d, left - 1, plan, p);
+        p = put_visit(c, next, s, d, plan, p);
+        p = put_defaults(c, d, left - 1, plan, p);
     }
     p
 }
 
 // How many instructions the default arm of b has.
-fn default_length(chart: &[i32], index: &[u16; INDEX], b: usize) -> usize
-    requires { Prepared chart.now index.now
-        × (b < length (chart_of chart.now).states) × Room (default_arm (chart_of chart.now) b) 0 }
-    ensures { result ≡ length (default_arm (chart_of chart.now) b) }
+fn default_length(c: &Runnable, b: usize) -> usize
+    requires { (b < length (chart_of c.now.chart.now).states) × Room (default_arm (chart_of c.now.chart.now) b) 0 }
+    ensures { result ≡ length (default_arm (chart_of c.now.chart.now) b) }
 {
-    let mut none = [0i32; 1];
-    let end = put_defaults(chart, index, b, state_count(chart), &mut none, 0);
-    end / WIDTH
+    put_defaults(c, b, state_count(c.chart), &mut [], 0) / WIDTH
 }
 
 // "for each proper descendant d of B, rising"
-fn put_stored_arm(
-    chart: &[i32],
-    index: &[u16; INDEX],
-    b: usize,
-    plan: &mut [i32],
-    at: usize,
-) -> usize
-    requires { Prepared chart.now index.now
-        × (b < length (chart_of chart.now).states) × Room (stored_arm (chart_of chart.now) b) at }
-    ensures { pen plan.new result ≡ emits (stored_arm (chart_of chart.now) b) (pen plan.old at) }
+fn put_stored_arm(c: &Runnable, b: usize, plan: &mut [i32], at: usize) -> usize
+    requires { (b < length (chart_of c.now.chart.now).states) × Room (stored_arm (chart_of c.now.chart.now) b) at }
+    ensures { pen plan.new result ≡ emits (stored_arm (chart_of c.now.chart.now) b) (pen plan.old at) }
 {
     let mut p = at;
-    for d in b + 1..end_below(chart, b) {
-        p = put_stored(chart, index, d, plan, p);
+    for d in b + 1..end_below(c.chart, b) {
+        p = put_stored(c, d, plan, p);
     }
     p
 }
 
 // How many instructions the stored arm of b has.
-fn stored_length(chart: &[i32], index: &[u16; INDEX], b: usize) -> usize
-    requires { Prepared chart.now index.now
-        × (b < length (chart_of chart.now).states) × Room (stored_arm (chart_of chart.now) b) 0 }
-    ensures { result ≡ length (stored_arm (chart_of chart.now) b) }
+fn stored_length(c: &Runnable, b: usize) -> usize
+    requires { (b < length (chart_of c.now.chart.now).states) × Room (stored_arm (chart_of c.now.chart.now) b) 0 }
+    ensures { result ≡ length (stored_arm (chart_of c.now.chart.now) b) }
 {
-    let mut none = [0i32; 1];
-    let end = put_stored_arm(chart, index, b, &mut none, 0);
-    end / WIDTH
+    put_stored_arm(c, b, &mut [], 0) / WIDTH
 }
 
 // "SKIPFULL B over the default arm; the arm; SKIPEMPTY B over the stored arm; the arm"
-pub fn put_arms(chart: &[i32], index: &[u16; INDEX], b: usize, plan: &mut [i32], at: usize) -> usize
-    requires { Prepared chart.now index.now × (b < length (chart_of chart.now).states)
-        × Room (arms (chart_of chart.now) b) at }
-    ensures { pen plan.new result ≡ emits (arms (chart_of chart.now) b) (pen plan.old at) }
+pub fn put_arms(c: &Runnable, b: usize, plan: &mut [i32], at: usize) -> usize
+    requires { (b < length (chart_of c.now.chart.now).states)
+        × Room (arms (chart_of c.now.chart.now) b) at }
+    ensures { pen plan.new result ≡ emits (arms (chart_of c.now.chart.now) b) (pen plan.old at) }
 {
-    let k = default_length(chart, index, b);
-    let m = stored_length(chart, index, b);
-    let left = state_count(chart);
+    let k = default_length(c, b);
+    let m = stored_length(c, b);
+    let left = state_count(c.chart);
     let p = put_instr(plan, at, Instr::SkipFull(b, k));
-    let q = put_defaults(chart, index, b, left, plan, p);
+    let q = put_defaults(c, b, left, plan, p);
     let r = put_instr(plan, q, Instr::SkipEmpty(b, m));
-    put_stored_arm(chart, index, b, plan, r)
+    put_stored_arm(c, b, plan, r)
 }

@@ -6,9 +6,8 @@ ghost use Rattle.meaning.specs.Tree.{kind_of as kind_in};
 ghost use Rattle.meaning.specs.Value.{chart_of};
 ghost use Rattle.tree.specs.Courses.{way_by, defaulting, visit_as};
 ghost use Rattle.emitter.specs.Pen.{pen, emits, Room};
-ghost use Rattle.acts.specs.Index.{Prepared};
 
-use acts::index::INDEX;
+use acts::index::Runnable;
 use chart_rows::{kind_of, parent_of};
 use emitter::actions::{act_count, put_acts};
 use emitter::put_instr;
@@ -18,76 +17,52 @@ use tree::kin::{is_o, o_parent};
 use tree::ways::{Next, by_default};
 
 // "SKIPOUT s k+1, OUT s, the actions"
-pub fn put_exit(chart: &[i32], index: &[u16; INDEX], s: usize, plan: &mut [i32], at: usize) -> usize
-    requires { Prepared chart.now index.now
-        × (s < length (chart_of chart.now).states) × Room (exit_code (chart_of chart.now) s) at }
-    ensures { pen plan.new result ≡ emits (exit_code (chart_of chart.now) s) (pen plan.old at) }
+pub fn put_exit(c: &Runnable, s: usize, plan: &mut [i32], at: usize) -> usize
+    requires { (s < length (chart_of c.now.chart.now).states) × Room (exit_code (chart_of c.now.chart.now) s) at }
+    ensures { pen plan.new result ≡ emits (exit_code (chart_of c.now.chart.now) s) (pen plan.old at) }
 {
-    let k = act_count(chart, index, Owner::ExitOf(s));
+    let k = act_count(c, Owner::ExitOf(s));
     let p = put_instr(plan, at, Instr::SkipOut(s, k + 1));
-    let up = o_parent(chart, s);
+    let up = o_parent(c.chart, s);
     let q = put_instr(plan, p, Instr::Out(s, up));
-    put_acts(chart, index, Owner::ExitOf(s), plan, q)
+    put_acts(c, Owner::ExitOf(s), plan, q)
 }
 
 // "IN, entry actions"
-pub fn put_enter(
-    chart: &[i32],
-    index: &[u16; INDEX],
-    s: usize,
-    plan: &mut [i32],
-    at: usize,
-) -> usize
-    requires { Prepared chart.now index.now
-        × (s < length (chart_of chart.now).states) × Room (enter_code (chart_of chart.now) s) at }
-    ensures { pen plan.new result ≡ emits (enter_code (chart_of chart.now) s) (pen plan.old at) }
+pub fn put_enter(c: &Runnable, s: usize, plan: &mut [i32], at: usize) -> usize
+    requires { (s < length (chart_of c.now.chart.now).states) × Room (enter_code (chart_of c.now.chart.now) s) at }
+    ensures { pen plan.new result ≡ emits (enter_code (chart_of c.now.chart.now) s) (pen plan.old at) }
 {
     let p = put_instr(plan, at, Instr::In(s));
-    put_acts(chart, index, Owner::EntryOf(s), plan, p)
+    put_acts(c, Owner::EntryOf(s), plan, p)
 }
 
 // "Default actions where due, IN, entry actions": s is a child of p, which goes on so.
-pub fn put_visit(
-    chart: &[i32],
-    index: &[u16; INDEX],
-    next: Next,
-    p: usize,
-    s: usize,
-    plan: &mut [i32],
-    at: usize,
-) -> usize
-    requires { Prepared chart.now index.now
-        × (p < length (chart_of chart.now).states) × (s < length (chart_of chart.now).states) ×
-        Room (visit_code (chart_of chart.now) (visit_as (defaulting (kind_in (chart_of chart.now) p) (way_by next)) p s)) at }
-    ensures { pen plan.new result ≡ emits (visit_code (chart_of chart.now)
-        (visit_as (defaulting (kind_in (chart_of chart.now) p) (way_by next)) p s)) (pen plan.old at) }
+pub fn put_visit(c: &Runnable, next: Next, p: usize, s: usize, plan: &mut [i32], at: usize) -> usize
+    requires { (p < length (chart_of c.now.chart.now).states) × (s < length (chart_of c.now.chart.now).states) ×
+        Room (visit_code (chart_of c.now.chart.now) (visit_as (defaulting (kind_in (chart_of c.now.chart.now) p) (way_by next)) p s)) at }
+    ensures { pen plan.new result ≡ emits (visit_code (chart_of c.now.chart.now)
+        (visit_as (defaulting (kind_in (chart_of c.now.chart.now) p) (way_by next)) p s)) (pen plan.old at) }
 {
-    if !by_default(chart, p, next) {
-        return put_enter(chart, index, s, plan, at);
+    if !by_default(c.chart, p, next) {
+        return put_enter(c, s, plan, at);
     }
-    let q = put_acts(chart, index, Owner::DefaultOf(p), plan, at);
-    put_enter(chart, index, s, plan, q)
+    let q = put_acts(c, Owner::DefaultOf(p), plan, at);
+    put_enter(c, s, plan, q)
 }
 
 // "SKIPOUT p past all of d; SKIPNOT p d k+1 if p is kind o; IN d; its actions"
-pub fn put_stored(
-    chart: &[i32],
-    index: &[u16; INDEX],
-    d: usize,
-    plan: &mut [i32],
-    at: usize,
-) -> usize
-    requires { Prepared chart.now index.now
-        × (0 < d) × (d < length (chart_of chart.now).states) × Room (stored_code (chart_of chart.now) d) at }
-    ensures { pen plan.new result ≡ emits (stored_code (chart_of chart.now) d) (pen plan.old at) }
+pub fn put_stored(c: &Runnable, d: usize, plan: &mut [i32], at: usize) -> usize
+    requires { (0 < d) × (d < length (chart_of c.now.chart.now).states) × Room (stored_code (chart_of c.now.chart.now) d) at }
+    ensures { pen plan.new result ≡ emits (stored_code (chart_of c.now.chart.now) d) (pen plan.old at) }
 {
-    let p = parent_of(chart, d);
-    let k = act_count(chart, index, Owner::EntryOf(d));
-    if !is_o(kind_of(chart, p)) {
+    let p = parent_of(c.chart, d);
+    let k = act_count(c, Owner::EntryOf(d));
+    if !is_o(kind_of(c.chart, p)) {
         let q = put_instr(plan, at, Instr::SkipOut(p, k + 1));
-        return put_enter(chart, index, d, plan, q);
+        return put_enter(c, d, plan, q);
     }
     let q = put_instr(plan, at, Instr::SkipOut(p, k + 2));
     let r = put_instr(plan, q, Instr::SkipNot(p, d, k + 1));
-    put_enter(chart, index, d, plan, r)
+    put_enter(c, d, plan, r)
 }

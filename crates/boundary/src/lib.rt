@@ -19,7 +19,7 @@ use telling::{end, stop, tell, too_few};
 pub fn qh_check(chart: &[i32], report: &mut [i32; 2]) -> i32
     ensures { HostChecked chart.now result report.new }
 {
-    let checked = engine::check(chart);
+    let checked = Answer::from(engine::check(chart));
     tell(checked, 0, report)
 }
 
@@ -94,7 +94,7 @@ pub fn qh_start(chart: &[i32], widget: &mut [i32], trace: &mut [i32], report: &m
         widget.new trace.new }
 {
     if widget.len() < STATE_NUMBERS { // 3 first, then 6
-        let verdict = engine::check(chart);
+        let verdict = Answer::from(engine::check(chart));
         let answer = too_few(verdict);
         clear(trace);
         return tell(answer, 0, report);

@@ -15,7 +15,7 @@ use Rattle.meaning.specs.Rules.{failing_rule, failing_rule_of, verdict}
 use Rattle.meaning.specs.Calls.{Outcome, called, lent, as_found, start, run, post, discard, start_of, run_of, post_of, discard_of}
 use Rattle.meaning.specs.Rules.{Ruled}
 use Rattle.promises.specs.Promises.{Checked, Started, Ran, Posted, Discarded}
-use Rattle.rules.proofs.Verdicts.{passed, failed}
+use Rattle.rules.proofs.Verdicts.{passed, failed, third}
 
 -- ---- the check: R0 first, then the others
 
@@ -34,6 +34,10 @@ accepted {v} {r} c z = passed (failing_rule_of v) r c.result z
 -- any other names the rule that fails
 pub rejected : {v : List ℤ} {r : Answer} → Checked v r → (r.number ≡ 0 → ⊥) → failing_rule_of v ≡ some r.place
 rejected {v} {r} c z = failed (failing_rule_of v) r c.result z
+
+-- which is answer 3
+as_told : {v : List ℤ} {r : Answer} (u : State) → Checked v r → (r.number ≡ 0 → ⊥) → as_found 3 r.place u ≡ as_found r.number r.place u
+as_told {v} {r} u c z = ap (λ n. as_found n r.place u) (sym (third (failing_rule_of v) r c.result z))
 
 -- ---- a call by the verdict: x where no rule fails
 
@@ -93,20 +97,20 @@ module _ {v : List ℤ} {u : State} where
     pub discards : {r : Called} → r ≡ called (discard (chart_of v) u) → Discarded v u r
     discards d = record { result = d ∙ ap called (sym (discard_on v u h)) }
 
-  -- ---- on a chart that fails a rule: 3 with the rule
+  -- ---- on a chart that fails a rule: the check's answer
   module _ {c : Answer} (k : Checked v c) (z : c.number ≡ 0 → ⊥) where
-    pub start_3 : {t : List ℤ} {r : Called} {t₁ : List ℤ} → Ends (as_found 3 c.place u) t r t₁ → Started v u t r t₁
+    pub start_3 : {t : List ℤ} {r : Called} {t₁ : List ℤ} → Ends (as_found c.number c.place u) t r t₁ → Started v u t r t₁
     start_3 {t} d =
-        let e = sym (start_by v u (some c.place) (rejected k z) (length t)) in
+        let e = sym (start_by v u (some c.place) (rejected k z) (length t) ∙ as_told u k z) in
         record { result = d.0 ∙ ap called e; lent = d.1 ∙ ap (lent (length t)) e }
 
-    pub run_3 : {t : List ℤ} {r : Called} {t₁ : List ℤ} → Ends (as_found 3 c.place u) t r t₁ → Ran v u t r t₁
+    pub run_3 : {t : List ℤ} {r : Called} {t₁ : List ℤ} → Ends (as_found c.number c.place u) t r t₁ → Ran v u t r t₁
     run_3 {t} d =
-        let e = sym (run_by v u (some c.place) (rejected k z) (length t)) in
+        let e = sym (run_by v u (some c.place) (rejected k z) (length t) ∙ as_told u k z) in
         record { result = d.0 ∙ ap called e; lent = d.1 ∙ ap (lent (length t)) e }
 
-    pub post_3 : {x a : ℤ} {r : Called} → r ≡ called (as_found 3 c.place u) → Posted v u x a r
-    post_3 {x} {a} d = record { result = d ∙ ap called (sym (post_by v u (some c.place) (rejected k z) x a)) }
+    pub post_3 : {x a : ℤ} {r : Called} → r ≡ called (as_found c.number c.place u) → Posted v u x a r
+    post_3 {x} {a} d = record { result = d ∙ ap called (sym (post_by v u (some c.place) (rejected k z) x a ∙ as_told u k z)) }
 
-    pub discard_3 : {r : Called} → r ≡ called (as_found 3 c.place u) → Discarded v u r
-    discard_3 d = record { result = d ∙ ap called (sym (discard_by v u (some c.place) (rejected k z))) }
+    pub discard_3 : {r : Called} → r ≡ called (as_found c.number c.place u) → Discarded v u r
+    discard_3 d = record { result = d ∙ ap called (sym (discard_by v u (some c.place) (rejected k z) ∙ as_told u k z)) }

@@ -4,6 +4,8 @@
 -- In the order: the functions that require nothing; those on a checked chart. Assumes nothing.
 use mathlib.Core.Path.{refl}
 use contract.Lifetimes.{Lfts}
+use Rattle.meaning.specs.Answers.{answer_by}
+use Rattle.meaning.proofs.Refusals.{same_answer}
 use Rattle.promises.proofs.Settles.{Settles, nothing, one}
 use Rattle.meaning.specs.Rules.{Ruled}
 use Rattle.promises.specs.Promises.{Checked, Read, Wrote, Unstarted, Started, Ran, Posted, Discarded}
@@ -23,11 +25,11 @@ use Rattle.chart_engine.proofs.checked.discard_checked.Reads as discard-checked-
 -- ---- the functions that require nothing
 
 pub check_settles : (κs : Lfts 1) → Settles nothing (check-reads.Asked κs) (check-reads.Learnt κs)
-    (λ a r x. Checked a.0.now r) (λ x. tt {0})
+    (λ a r x. Checked a.0.now (answer_by r)) (λ x. tt {0})
 check_settles κs = record {
   asks = λ a g. tt;
   promised = λ a r x p. p;
-  unique = λ a r s x y p q. (one p.result q.result, refl);
+  unique = λ a r s x y p q. (same_answer r s (one p.result q.result), refl);
 }
 
 pub read_settles : (κs : Lfts 2) → Settles nothing (read-reads.Asked κs) (read-reads.Learnt κs)

@@ -6,29 +6,27 @@
 
 pub mod checked;
 
+ghost use Rattle.meaning.specs.Answers.{answer_by};
 ghost use Rattle.promises.specs.Promises.{Checked, Read, Wrote, Unstarted, Started, Ran, Posted, Discarded};
 
 use checked::{discard_checked, post_checked, run_checked, start_checked};
 use ends::refuse;
-use meaning::answers::{RULE_FAILS, Refusal};
+use meaning::answers::{DONE, Refusal};
 use meaning::{Answer, Called, State, Written};
 use queue::Queue;
 use queue_calls::answers::refused;
-use reader::read::{clear, read_rows};
+use reader::read::read_rows;
 use rules::check_rows;
 use rules::value::rule_0;
 use sizes::{STATES, VARIABLES};
 use writer::write_passed;
 
 // The rules in order: R0, which is only for a chart handed over as a value; then R1 to R7.
-pub fn check(chart: &[i32]) -> Answer
-    ensures { Checked chart.now result }
+pub fn check(chart: &[i32]) -> Result<(), Refusal>
+    ensures { Checked chart.now (answer_by result) }
 {
     if !rule_0(chart) {
-        return Answer {
-            number: RULE_FAILS,
-            place: 0,
-        };
+        return Err(Refusal::RuleFails(0));
     }
     check_rows(chart)
 }
@@ -41,22 +39,30 @@ pub fn read(text: &[u8], chart: &mut [i32]) -> Answer
     if lines.number != 0 {
         return lines;
     }
-    let ruled = check_rows(chart);
-    if ruled.number != 0 {
-        clear(chart);
+    if let Err(refusal) = check_rows(chart) {
+        chart.fill(0);
+        return Answer {
+            number: refusal.number(),
+            place: refusal.place(),
+        };
     }
-    ruled
+    Answer {
+        number: DONE,
+        place: 0,
+    }
 }
 
 // A chart written as text into lent bytes: 3 where it fails a rule, 13 where the text is longer. A refusal leaves all of the bytes 0.
 pub fn write(chart: &[i32], out: &mut [u8]) -> Written
     ensures { Wrote chart.now out.old result out.new }
 {
-    let verdict = check(chart);
-    if verdict.number != 0 { // before 13
-        writer::clear(out);
+    if let Err(refusal) = check(chart) { // before 13
+        out.fill(0);
         return Written {
-            answer: verdict,
+            answer: Answer {
+                number: refusal.number(),
+                place: refusal.place(),
+            },
             length: 0,
         };
     }
@@ -83,9 +89,8 @@ pub fn unstarted() -> State
 pub fn start(chart: &[i32], state: State, trace: &mut [i32]) -> Called
     ensures { Started chart.now state trace.old result trace.new }
 {
-    let verdict = check(chart);
-    if verdict.number != 0 { // "chart 3 .. first"
-        return refuse(Refusal::RuleFails(verdict.place), state, trace); // before the first refusal met
+    if let Err(refusal) = check(chart) { // "chart 3 .. first"
+        return refuse(refusal, state, trace); // before the first refusal met
     }
     start_checked(chart, state, trace)
 }
@@ -94,9 +99,8 @@ pub fn start(chart: &[i32], state: State, trace: &mut [i32]) -> Called
 pub fn run(chart: &[i32], state: State, trace: &mut [i32]) -> Called
     ensures { Ran chart.now state trace.old result trace.new }
 {
-    let verdict = check(chart);
-    if verdict.number != 0 {
-        return refuse(Refusal::RuleFails(verdict.place), state, trace); // before 7, 6, 8
+    if let Err(refusal) = check(chart) {
+        return refuse(refusal, state, trace); // before 7, 6, 8
     }
     run_checked(chart, state, trace)
 }
@@ -105,9 +109,8 @@ pub fn run(chart: &[i32], state: State, trace: &mut [i32]) -> Called
 pub fn post(chart: &[i32], state: State, event: i32, arg: i32) -> Called
     ensures { Posted chart.now state event arg result }
 {
-    let verdict = check(chart);
-    if verdict.number != 0 {
-        return refused(RULE_FAILS, verdict.place, state); // before 7, 6, 10, 9
+    if let Err(refusal) = check(chart) {
+        return refused(refusal.number(), refusal.place(), state); // before 7, 6, 10, 9
     }
     post_checked(chart, state, event, arg)
 }
@@ -116,9 +119,8 @@ pub fn post(chart: &[i32], state: State, event: i32, arg: i32) -> Called
 pub fn discard(chart: &[i32], state: State) -> Called
     ensures { Discarded chart.now state result }
 {
-    let verdict = check(chart);
-    if verdict.number != 0 {
-        return refused(RULE_FAILS, verdict.place, state); // before 7, 6, 8
+    if let Err(refusal) = check(chart) {
+        return refused(refusal.number(), refusal.place(), state); // before 7, 6, 8
     }
     discard_checked(chart, state)
 }

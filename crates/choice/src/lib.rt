@@ -169,9 +169,7 @@ pub fn choose(
     let sources = sources_of(chart, event, active);
     let mut gone = [false; STATES];
     let mut count: usize = 0;
-    let mut s = state_count(chart);
-    'sources: while 0 < s {
-        s -= 1;
+    'sources: for s in (0..state_count(chart)).rev() {
         if !sources[s] {
             continue;
         }

@@ -129,26 +129,23 @@ same_sized xs ys l l₁ at p e = sym (puts_size xs (pen l₁ p)) ∙ ap (λ q. l
 
 -- ---- the order, transition by transition
 
-module _ {c : Chart} {order : List ℕ} {count : ℕ} (o : InOrder c order count) where
-  pub order_long : count ≡ length (head_order c)
-  order_long = sym (length-take-le count order (omega (arith, o.size, o.few))) ∙ ap length o.is
+pub order_long : {c : Chart} {order : List ℕ} {count : ℕ} → InOrder c order count → count ≡ length (head_order c)
+order_long {order = order} {count} o = sym (length-take-le count order (omega (arith, o.size, o.few))) ∙ ap length o.is
 
-  order_at : (j : ℕ) → j < count → get_or order j 0 ≡ get_or (head_order c) j 0
-  order_at j l = sym (get_or-take count order j 0 l) ∙ ap (λ ts. get_or ts j 0) o.is
-
-  order_drop : (j : ℕ) → j < count → drop j (head_order c) ≡ get_or order j 0 ∷ drop (j + 1) (head_order c)
+module _ (c : Chart) {order : List ℕ} (o : order ≡ head_order c) where
+  order_drop : (j : ℕ) → j < length order → drop j (head_order c) ≡ get_or order j 0 ∷ drop (j + 1) (head_order c)
   order_drop j l =
-      drop-cons (head_order c) j 0 (omega (arith, order_long)) ∙ ap (λ t. t ∷ drop (suc j) (head_order c)) (sym (order_at j l))
-      ∙ ap (λ k. get_or order j 0 ∷ drop k (head_order c)) (sym (add-one j))
+      ap (drop j) (sym o) ∙ drop-cons order j 0 l ∙ ap (λ k. get_or order j 0 ∷ drop k order) (sym (add-one j))
+      ∙ ap (λ ts. get_or order j 0 ∷ drop (j + 1) ts) o
 
-  order_end : (j : ℕ) → count ≤ j → drop j (head_order c) ≡ []
-  order_end j l = drop_of_length-le (head_order c) {i = j} (omega (arith, order_long))
+  order_end : (j : ℕ) → length order ≤ j → drop j (head_order c) ≡ []
+  order_end j l = ap (drop j) (sym o) ∙ drop_of_length-le order {i = j} l
 
-pub order_inside : (v : List ℤ) → Ruled v → {order : List ℕ} {count : ℕ}
-    → InOrder (chart_of v) order count → (j : ℕ) → j < count → get_or order j 0 < length (chart_of v).transitions
-order_inside v r {order} {count} o j l =
-    subst (λ t. t < length (chart_of v).transitions)
-    (sym (order_at o j l)) (each_at _ (head_order (chart_of v)) (order_each v r) j (omega (arith, order_long o)) 0)
+pub order_inside : (v : List ℤ) → Ruled v → {order : List ℕ}
+    → order ≡ head_order (chart_of v) → (j : ℕ) → j < length order → get_or order j 0 < length (chart_of v).transitions
+order_inside v r {order} o j l =
+    subst (λ ts. get_or ts j 0 < length (chart_of v).transitions)
+    (sym o) (each_at _ (head_order (chart_of v)) (order_each v r) j (omega (arith, ap length o)) 0)
 
 -- ---- the heads
 
@@ -161,21 +158,21 @@ pub record Heading (c : Chart) (start : ℕ) (l : List ℤ) (at j : ℕ) (l₁ :
 pub heading_begin : (c : Chart) (start : ℕ) (l : List ℤ) (at : ℕ) → Heading c start l at 0 l at start
 heading_begin c start l at = record { sofar = refl; placed = omega arith; owes = refl }
 
-module _ {c : Chart} {order : List ℕ} {count start : ℕ} {l : List ℤ}
-    {at j : ℕ} {l₁ : List ℤ} {p here : ℕ} (o : InOrder c order count) (h : Heading c start l at j l₁ p here) where
-  pub heading_end : count ≤ j → pen l₁ p ≡ puts (concat_map head_numbers (heads_from c start (head_order c))) (pen l at)
+module _ {c : Chart} {order : List ℕ} {start : ℕ} {l : List ℤ}
+    {at j : ℕ} {l₁ : List ℤ} {p here : ℕ} (o : order ≡ head_order c) (h : Heading c start l at j l₁ p here) where
+  pub heading_end : length order ≤ j → pen l₁ p ≡ puts (concat_map head_numbers (heads_from c start (head_order c))) (pen l at)
   unfolding heads_from concat_map
-  heading_end n = sym (ap (λ ts. puts (concat_map head_numbers (heads_from c here ts)) (pen l₁ p)) (order_end o j n)
+  heading_end n = sym (ap (λ ts. puts (concat_map head_numbers (heads_from c here ts)) (pen l₁ p)) (order_end c o j n)
       ∙ puts_none (pen l₁ p)) ∙ h.owes
 
-  module _ (n : j < count) where
+  module _ (n : j < length order) where
     pub heading_few : here + length (block c (get_or order j 0)) ≤ start + length (concat_map (block c) (head_order c))
     unfolding concat_map
     heading_few =
         omega (
           arith,
           h.sofar,
-          ap (λ ts. length (concat_map (block c) ts)) (order_drop o j n),
+          ap (λ ts. length (concat_map (block c) ts)) (order_drop c o j n),
           length-append (block c (get_or order j 0)) (concat_map (block c) (drop (j + 1) (head_order c))),
         )
 
@@ -190,12 +187,12 @@ module _ {c : Chart} {order : List ℕ} {count start : ℕ} {l : List ℤ}
         ≡ puts (concat_map head_numbers (heads_from c start (head_order c))) (pen l at)
         = ap (λ x. puts (head_numbers (head_of c here x t)
         ++ concat_map head_numbers (heads_from c (here + x) (drop (j + 1) (head_order c)))) (pen l₁ p)) e
-        ∙ ap (λ ts. puts (concat_map head_numbers (heads_from c here ts)) (pen l₁ p)) (sym (order_drop o j n)) ∙ h.owes in
+        ∙ ap (λ ts. puts (concat_map head_numbers (heads_from c here ts)) (pen l₁ p)) (sym (order_drop c o j n)) ∙ h.owes in
         record {
           sofar = omega (
             arith,
             h.sofar,
-            ap (λ ts. length (concat_map (block c) ts)) (order_drop o j n),
+            ap (λ ts. length (concat_map (block c) ts)) (order_drop c o j n),
             length-append (block c (get_or order j 0)) (concat_map (block c) (drop (j + 1) (head_order c))),
           );
           placed = omega (arith, h.placed, puts_at (head_numbers (head_of c here k t)) l₁ p w, head_ten (head_of c here k t));
@@ -208,17 +205,17 @@ module _ {c : Chart} {order : List ℕ} {count start : ℕ} {l : List ℤ}
 pub record Blocking (c : Chart) (l : List ℤ) (at j : ℕ) (l₁ : List ℤ) (p : ℕ) : Type 0 where
   pub owes : emits (concat_map (block c) (drop j (head_order c))) (pen l₁ p) ≡ emits (concat_map (block c) (head_order c)) (pen l at)
 
-module _ {c : Chart} {order : List ℕ} {count : ℕ} {l : List ℤ}
-    {at j : ℕ} {l₁ : List ℤ} {p : ℕ} (o : InOrder c order count) (h : Blocking c l at j l₁ p) where
-  pub blocking_end : count ≤ j → pen l₁ p ≡ emits (concat_map (block c) (head_order c)) (pen l at)
+module _ {c : Chart} {order : List ℕ} {l : List ℤ}
+    {at j : ℕ} {l₁ : List ℤ} {p : ℕ} (o : order ≡ head_order c) (h : Blocking c l at j l₁ p) where
+  pub blocking_end : length order ≤ j → pen l₁ p ≡ emits (concat_map (block c) (head_order c)) (pen l at)
   unfolding concat_map
-  blocking_end n = owes_none (pen l₁ p) (ap (λ ts. emits (concat_map (block c) ts) (pen l₁ p)) (sym (order_end o j n)) ∙ h.owes)
+  blocking_end n = owes_none (pen l₁ p) (ap (λ ts. emits (concat_map (block c) ts) (pen l₁ p)) (sym (order_end c o j n)) ∙ h.owes)
 
-  module _ (n : j < count) where
+  module _ (n : j < length order) where
     blocks_due : emits (block c (get_or order j 0) ++ concat_map (block c) (drop (j + 1) (head_order c))) (pen l₁ p)
         ≡ emits (concat_map (block c) (head_order c)) (pen l at)
     unfolding concat_map
-    blocks_due = ap (λ ts. emits (concat_map (block c) ts) (pen l₁ p)) (sym (order_drop o j n)) ∙ h.owes
+    blocks_due = ap (λ ts. emits (concat_map (block c) ts) (pen l₁ p)) (sym (order_drop c o j n)) ∙ h.owes
 
     pub blocking_room : Room (concat_map (block c) (head_order c)) at → Room (block c (get_or order j 0)) p
     blocking_room = owes_room (block c (get_or order j 0))

@@ -8,27 +8,20 @@ ghost use Rattle.meaning.specs.Value.{chart_of};
 ghost use Rattle.meaning.specs.Rules.{Ruled};
 ghost use Rattle.choice.specs.Choice.{Reads};
 ghost use Rattle.emitter.specs.Pen.{pen, puts};
-ghost use Rattle.acts.specs.Index.{Prepared};
-ghost use Rattle.compiler.specs.Plans.{InOrder};
 
-use acts::index::INDEX;
+use acts::index::Runnable;
 use blocks::block_length;
 use chart_rows::trans_row;
 use choice::span_of;
 use emitter::put_all;
 use meaning::chart::{Guard, Sign};
 use numbers::number;
-use sizes::TRANSITIONS;
 
 // "sign (0 none, 1 =, 2 <, 3 >)"
 fn sign_number(sign: Sign) -> i32
     ensures { result ≡ sign_number sign }
 {
-    match sign {
-        Sign::Equal => 1,
-        Sign::Less => 2,
-        Sign::More => 3,
-    }
+    sign as i32
 }
 
 // "guard variable (-1 none), sign (0 none, ..), constant (0 if none)"
@@ -80,26 +73,17 @@ fn put_head(
 }
 
 // The heads of all transitions, whose blocks follow one another behind the start block.
-pub fn put_heads(
-    chart: &[i32],
-    index: &[u16; INDEX],
-    order: &[usize; TRANSITIONS],
-    count: usize,
-    start: usize,
-    plan: &mut [i32],
-    at: usize,
-) -> usize
-    requires { Prepared chart.now index.now × InOrder (chart_of chart.now) order.now count
-        × (start ≡ count_of (start_block (chart_of chart.now))) × (at + 10 * count < NOWHERE) }
-    ensures { pen plan.new result ≡ puts (concat_map head_numbers (heads_from (chart_of chart.now)
-        start (head_order (chart_of chart.now)))) (pen plan.old at) }
+pub fn put_heads(c: &Runnable, order: &[usize], start: usize, plan: &mut [i32], at: usize) -> usize
+    requires { (order.now ≡ head_order (chart_of c.now.chart.now))
+        × (start ≡ count_of (start_block (chart_of c.now.chart.now))) × (at + 10 * count_of order.now < NOWHERE) }
+    ensures { pen plan.new result ≡ puts (concat_map head_numbers (heads_from (chart_of c.now.chart.now)
+        start (head_order (chart_of c.now.chart.now)))) (pen plan.old at) }
 {
     let mut p = at;
     let mut from = start;
-    for j in 0..count {
-        let t = order[j];
-        let k = block_length(chart, index, t);
-        p = put_head(chart, t, from, k, plan, p);
+    for t in order {
+        let k = block_length(c, *t);
+        p = put_head(c.chart, *t, from, k, plan, p);
         from += k;
     }
     p

@@ -14,10 +14,9 @@ ghost use Rattle.meaning.specs.Plan.{var_numbers, six};
 ghost use Rattle.meaning.specs.Value.{chart_of};
 ghost use Rattle.meaning.specs.Rules.{Ruled};
 ghost use Rattle.emitter.specs.Pen.{pen, puts, emits, Room};
-ghost use Rattle.acts.specs.Index.{Prepared};
-ghost use Rattle.compiler.specs.Plans.{InOrder, Compiles};
+ghost use Rattle.compiler.specs.Plans.{Compiles};
 
-use acts::index::{INDEX, index_of};
+use acts::index::Runnable;
 use blocks::{put_block, put_start};
 use chart_rows::{event_count, state_count, var_count, var_row};
 use emitter::{WIDTH, put_all};
@@ -31,67 +30,41 @@ use sizes::TRANSITIONS;
 use widget::clear_from;
 
 // "the blocks in head order"
-fn put_blocks(
-    chart: &[i32],
-    index: &[u16; INDEX],
-    order: &[usize; TRANSITIONS],
-    count: usize,
-    plan: &mut [i32],
-    at: usize,
-) -> usize
-    requires { Prepared chart.now index.now × InOrder (chart_of chart.now) order.now count
-        × Room (concat_map (block (chart_of chart.now)) (head_order (chart_of chart.now))) at }
-    ensures { pen plan.new result ≡ emits (concat_map (block (chart_of chart.now))
-        (head_order (chart_of chart.now))) (pen plan.old at) }
+fn put_blocks(c: &Runnable, order: &[usize], plan: &mut [i32], at: usize) -> usize
+    requires { (order.now ≡ head_order (chart_of c.now.chart.now))
+        × Room (concat_map (block (chart_of c.now.chart.now)) (head_order (chart_of c.now.chart.now))) at }
+    ensures { pen plan.new result ≡ emits (concat_map (block (chart_of c.now.chart.now))
+        (head_order (chart_of c.now.chart.now))) (pen plan.old at) }
 {
     let mut p = at;
-    for j in 0..count {
-        let t = order[j];
-        p = put_block(chart, index, t, plan, p);
+    for t in order {
+        p = put_block(c, *t, plan, p);
     }
     p
 }
 
 // "the start block, then the blocks in head order, no gaps"
-fn put_code(
-    chart: &[i32],
-    index: &[u16; INDEX],
-    order: &[usize; TRANSITIONS],
-    count: usize,
-    plan: &mut [i32],
-    at: usize,
-) -> usize
-    requires { Prepared chart.now index.now
-        × InOrder (chart_of chart.now) order.now count × Room (code_of (chart_of chart.now)) at }
-    ensures { pen plan.new result ≡ emits (code_of (chart_of chart.now)) (pen plan.old at) }
+fn put_code(c: &Runnable, order: &[usize], plan: &mut [i32], at: usize) -> usize
+    requires { (order.now ≡ head_order (chart_of c.now.chart.now)) × Room (code_of (chart_of c.now.chart.now)) at }
+    ensures { pen plan.new result ≡ emits (code_of (chart_of c.now.chart.now)) (pen plan.old at) }
 {
-    let p = put_start(chart, index, plan, at);
-    put_blocks(chart, index, order, count, plan, p)
+    let p = put_start(c, plan, at);
+    put_blocks(c, order, plan, p)
 }
 
 // How many instructions the start block has.
-fn start_length(chart: &[i32], index: &[u16; INDEX]) -> usize
-    requires { Prepared chart.now index.now }
-    ensures { result ≡ count_of (start_block (chart_of chart.now)) }
+fn start_length(c: &Runnable) -> usize
+    ensures { result ≡ count_of (start_block (chart_of c.now.chart.now)) }
 {
-    let mut none = [0i32; 1];
-    let end = put_start(chart, index, &mut none, 0);
-    end / WIDTH
+    put_start(c, &mut [], 0) / WIDTH
 }
 
 // How many instructions there are in all.
-fn code_length(
-    chart: &[i32],
-    index: &[u16; INDEX],
-    order: &[usize; TRANSITIONS],
-    count: usize,
-) -> usize
-    requires { Prepared chart.now index.now × InOrder (chart_of chart.now) order.now count }
-    ensures { result ≡ count_of (code_of (chart_of chart.now)) }
+fn code_length(c: &Runnable, order: &[usize]) -> usize
+    requires { (order.now ≡ head_order (chart_of c.now.chart.now)) }
+    ensures { result ≡ count_of (code_of (chart_of c.now.chart.now)) }
 {
-    let mut none = [0i32; 1];
-    let end = put_code(chart, index, order, count, &mut none, 0);
-    end / WIDTH
+    put_code(c, order, &mut [], 0) / WIDTH
 }
 
 // "low, high, first for each variable"
@@ -127,25 +100,26 @@ fn compile_passed(chart: &[i32], plan: &mut [i32]) -> Compiled
     requires { Ruled chart.now }
     ensures { Compiles chart.now plan.old result plan.new }
 {
-    let index = index_of(chart);
-    let mut order = [0usize; TRANSITIONS];
-    let heads = order_of(chart, &mut order);
-    let start = start_length(chart, &index);
-    let code = code_length(chart, &index, &order, heads);
-    let vars = var_count(chart);
+    let c = Runnable::new(chart);
+    let mut numbers = [0usize; TRANSITIONS];
+    let heads = order_of(c.chart, &mut numbers);
+    let order = &numbers[..heads];
+    let start = start_length(&c);
+    let code = code_length(&c, order);
+    let vars = var_count(c.chart);
     let length = 6 + 3 * vars + 10 * heads + WIDTH * code;
     if plan.len() < length {
-        clear_from(plan, 0);
+        clear_from(plan, 0); // too long
         let answer = Answer {
             number: PLAN_TOO_LONG,
             place: 0,
         };
         return Compiled { answer, length: 0 };
     }
-    let p0 = put_six(chart, heads, code, start, plan);
-    let p1 = put_vars(chart, plan, p0);
-    let p2 = put_heads(chart, &index, &order, heads, start, plan, p1);
-    let end = put_code(chart, &index, &order, heads, plan, p2);
+    let p0 = put_six(c.chart, heads, code, start, plan);
+    let p1 = put_vars(c.chart, plan, p0);
+    let p2 = put_heads(&c, order, start, plan, p1);
+    let end = put_code(&c, order, plan, p2);
     clear_from(plan, end);
     let answer = Answer {
         number: 0,
@@ -162,13 +136,13 @@ fn compile_passed(chart: &[i32], plan: &mut [i32]) -> Compiled
 pub fn compile(chart: &[i32], plan: &mut [i32]) -> Compiled
     ensures { Compiles chart.now plan.old result plan.new }
 {
-    let verdict = rules::check(chart);
-    if verdict.number == 0 {
-        return compile_passed(chart, plan);
+    if let Err(refusal) = rules::check(chart) {
+        clear_from(plan, 0);
+        let answer = Answer {
+            number: refusal.number(),
+            place: refusal.place(),
+        };
+        return Compiled { answer, length: 0 };
     }
-    clear_from(plan, 0);
-    Compiled {
-        answer: verdict,
-        length: 0,
-    }
+    compile_passed(chart, plan)
 }

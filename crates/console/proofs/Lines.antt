@@ -35,7 +35,8 @@ broken [] = refl
 broken (b ∷ bs) = broken bs
 
 -- one byte after digits of a value: the field and the value agree where they do so after one more digit
-module _ (b w : ℕ) (bs : List ℕ) (p : Digits) (f : Option ℕ → Result ℤ Fault) (n : f None ≡ Err fault.Wrong) (ih : read p bs ≡ f (value w bs)) where
+module _ (b w : ℕ) (bs : List ℕ) (p : Digits) (f : Option ℕ → Result ℤ Fault)
+    (n : f None ≡ Err fault.Wrong) (ih : read p bs ≡ f (value w bs)) where
   digit_on : (s t : Bool) → read (cond s Broken (cond t Broken p)) bs ≡ f (cond s None (cond t None (value w bs)))
   digit_on true t = broken bs ∙ sym n
   digit_on false true = broken bs ∙ sym n

@@ -48,7 +48,8 @@ fn put_entries(out: &mut [u8], at: usize, trace: &[i32], n: usize) -> usize
 // The report of an answer and of the first entries of a trace; of a trace too short for so many, those that it holds. Where the slice
 // has room for the largest report of such a trace, all of the report is in it.
 pub fn report(out: &mut [u8], at: usize, number: usize, trace: &[i32], entries: usize) -> usize
-    ensures { (pen out.new result ≡ put_all (printed number (shown entries trace.now)) (pen out.old at))
+    ensures { (pen out.new result
+        ≡ put_all (printed number (shown entries trace.now)) (pen out.old at))
         × (at + largest trace.now ≤ length out.old → result ≤ at + largest trace.now) }
 {
     let n = entries.min(trace.len() / ENTRY);

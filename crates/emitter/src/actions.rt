@@ -2,44 +2,35 @@
 ghost use Rattle.std.specs.Prelude.{◌≡◌, length};
 ghost use Rattle.meaning.specs.Compile.{code_acts};
 ghost use Rattle.meaning.specs.Value.{chart_of};
-ghost use Rattle.acts.specs.Index.{Fits, Prepared};
+ghost use Rattle.acts.specs.Index.{Fits};
 ghost use Rattle.emitter.specs.Pen.{pen, emits, Room};
 
 use super::{WIDTH, put_instr};
-use acts::index::{INDEX, first_row, next_row};
+use acts::index::Runnable;
 use chart_rows::{action_count, action_row};
 use meaning::chart::Owner;
 use meaning::plan::Instr;
 
 // The actions of an owner.
-pub fn put_acts(
-    chart: &[i32],
-    index: &[u16; INDEX],
-    owner: Owner,
-    plan: &mut [i32],
-    at: usize,
-) -> usize
-    requires { Prepared chart.now index.now × Fits owner × Room (code_acts (chart_of chart.now) owner) at }
-    ensures { pen plan.new result ≡ emits (code_acts (chart_of chart.now) owner) (pen plan.old at) }
+pub fn put_acts(c: &Runnable, owner: Owner, plan: &mut [i32], at: usize) -> usize
+    requires { Fits owner × Room (code_acts (chart_of c.now.chart.now) owner) at }
+    ensures { pen plan.new result ≡ emits (code_acts (chart_of c.now.chart.now) owner) (pen plan.old at) }
 {
-    let n = action_count(chart);
-    let mut i = first_row(chart, index, owner);
+    let n = action_count(c.chart);
+    let mut i = c.first_row(owner);
     let mut p = at;
     while i < n {
-        let row = action_row(chart, i);
-        let act = row.act;
-        p = put_instr(plan, p, Instr::Does(act));
-        i = next_row(chart, index, i);
+        let row = action_row(c.chart, i);
+        p = put_instr(plan, p, Instr::Does(row.act));
+        i = c.next_row(i);
     }
     p
 }
 
 // How many actions an owner has: what they come to in a slice without room.
-pub fn act_count(chart: &[i32], index: &[u16; INDEX], owner: Owner) -> usize
-    requires { Prepared chart.now index.now × Fits owner }
-    ensures { result ≡ length (code_acts (chart_of chart.now) owner) }
+pub fn act_count(c: &Runnable, owner: Owner) -> usize
+    requires { Fits owner }
+    ensures { result ≡ length (code_acts (chart_of c.now.chart.now) owner) }
 {
-    let mut none = [0i32; 1];
-    let end = put_acts(chart, index, owner, &mut none, 0);
-    end / WIDTH
+    put_acts(c, owner, &mut [], 0) / WIDTH
 }

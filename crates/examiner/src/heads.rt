@@ -8,7 +8,7 @@ ghost use Rattle.examiner.specs.Examined.{Whole};
 
 use super::fits::{count_fits, one_of};
 use meaning::plan::Counts;
-use numbers::{in_range, same};
+use numbers::in_range;
 use plan_rows::layout::{
     GUARD_CONSTANT, GUARD_SIGN, GUARD_VAR, HEAD_ROW, SOURCE, SPAN_FIRST, SPAN_LAST, TRANSITION,
     TRIGGER,
@@ -20,7 +20,7 @@ use sizes::TRANSITIONS;
 fn guard_absent(v: i32, g: i32, x: i32) -> bool
     ensures { result ≡ eq_z v (negsuc 0) && (eq_z g (pos 0) && eq_z x (pos 0)) }
 {
-    same(v, -1) && same(g, 0) && same(x, 0)
+    v == -1 && g == 0 && x == 0
 }
 
 // The guard is -1, 0, 0 or a variable, 1 to 3 and a number in range.

@@ -10,7 +10,7 @@ ghost use Rattle.examiner.specs.Examined.{Whole};
 
 use super::fits::{count_fits, one_of};
 use meaning::plan::Counts;
-use numbers::{in_range, same};
+use numbers::in_range;
 use plan_rows::code::Code;
 use plan_rows::layout::{CODE, FIRST, HEAD_ROW, INSTR_ROW, SECOND, THIRD};
 use plan_rows::{block_length, code_at, heads_at, named, read};
@@ -19,7 +19,7 @@ use plan_rows::{block_length, code_at, heads_at, named, read};
 fn parent_fits(k: Counts, z: i32) -> bool
     ensures { result ≡ eq_z z (negsuc 0) || one_of k.states z }
 {
-    same(z, -1) || one_of(k.states, z)
+    z == -1 || one_of(k.states, z)
 }
 
 // A skip stays within its block, of which so many instructions follow.
@@ -50,17 +50,17 @@ fn instr_fits(plan: &[i32], k: Counts, left: usize, at: usize) -> bool
     let y = read(plan, at + SECOND);
     let z = read(plan, at + THIRD);
     match code {
-        Code::In => all_three(one_of(k.states, x), same(y, 0), same(z, 0)),
-        Code::Out => all_three(one_of(k.states, x), parent_fits(k, y), same(z, 0)),
-        Code::SkipOut => all_three(one_of(k.states, x), skip_fits(left, y), same(z, 0)),
-        Code::SkipEmpty => all_three(one_of(k.states, x), skip_fits(left, y), same(z, 0)),
-        Code::SkipFull => all_three(one_of(k.states, x), skip_fits(left, y), same(z, 0)),
+        Code::In => all_three(one_of(k.states, x), y == 0, z == 0),
+        Code::Out => all_three(one_of(k.states, x), parent_fits(k, y), z == 0),
+        Code::SkipOut => all_three(one_of(k.states, x), skip_fits(left, y), z == 0),
+        Code::SkipEmpty => all_three(one_of(k.states, x), skip_fits(left, y), z == 0),
+        Code::SkipFull => all_three(one_of(k.states, x), skip_fits(left, y), z == 0),
         Code::SkipNot => { all_three(one_of(k.states, x), one_of(k.states, y), skip_fits(left, z)) }
-        Code::Set => all_three(one_of(k.vars, x), in_range(y), same(z, 0)),
-        Code::Add => all_three(one_of(k.vars, x), in_range(y), same(z, 0)),
-        Code::Take => all_three(one_of(k.vars, x), same(y, 0), same(z, 0)),
-        Code::Send => all_three(count_fits(1, k.events, x), in_range(y), same(z, 0)),
-        Code::Tell => all_three(in_range(x), same(y, 0), same(z, 0)),
+        Code::Set => all_three(one_of(k.vars, x), in_range(y), z == 0),
+        Code::Add => all_three(one_of(k.vars, x), in_range(y), z == 0),
+        Code::Take => all_three(one_of(k.vars, x), y == 0, z == 0),
+        Code::Send => all_three(count_fits(1, k.events, x), in_range(y), z == 0),
+        Code::Tell => all_three(in_range(x), y == 0, z == 0),
     }
 }
 

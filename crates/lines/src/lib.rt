@@ -77,7 +77,8 @@ pub fn line(
     at: usize,
 ) -> Result<(), Fault>
     requires { at + 2 * entries ≤ nowhere }
-    ensures { Took (beside (a_line (room n most) []) (read_by (form_at entry) n (rest_of (fields s.now))))
+    ensures { Took
+        (beside (a_line (room n most) []) (read_by (form_at entry) n (rest_of (fields s.now))))
         at chart.old (mark_of result) chart.new }
 {
     let Some(rest) = cut_at(s, TAB).rest else {

@@ -9,11 +9,9 @@ use mathlib.Core.List.{List, ◌++◌, map}
 use lib.ListN.{length, take, drop, replicate, set, length-map, length-replicate}
 use lib.Seq.{take_all}
 use lib.IntN.{ℤ, pos, negsuc}
-use Rattle.sizes.specs.Sizes.{STATES, VARIABLES, QUEUE}
-use Rattle.queue.specs.Queue.{no_item, empty_queue}
-use Rattle.queue.specs.Numbers.{QUEUE_NUMBERS, queue_by, numbers_of}
+use Rattle.sizes.specs.Sizes.{STATES, VARIABLES}
+use Rattle.queue.specs.Queue.{empty_queue}
 use Rattle.queue.proofs.Copy.{copied, copied_suc}
-use Rattle.queue.proofs.Numbers.{held_lent, numbers_long}
 use Rattle.meaning.specs.declared.State.{State}
 use Rattle.meaning.specs.declared.Called.{Called}
 use Rattle.meaning.specs.declared.plan.Counts.{Counts}
@@ -27,11 +25,13 @@ use Rattle.meaning.specs.Calls.{fresh_by, outcome}
 use Rattle.meaning.specs.Machine.{run_block, plan_settle, plan_start_steps, plan_start}
 use Rattle.meaning.specs.WellFormed.{plan_by}
 use Rattle.laws.proofs.Value.{get_d_map}
-use Rattle.widget.specs.View.{Lent, all_lent, widget, went}
-use Rattle.widget.specs.declared.Went.{Went}
+use Rattle.std.specs.Prelude.{Result, Ok, Err}
+use Rattle.meaning.specs.declared.answers.Refusal.{Refusal}
+use Rattle.queue.specs.declared.Queue.{Queue}
+use Rattle.widget.specs.View.{went, Did}
 use Rattle.widget.proofs.Going as going
 use Rattle.plan_choice.specs.Heads.{Examined}
-use Rattle.plan_code.specs.Code.{Ran, block_of}
+use Rattle.plan_code.specs.Code.{block_of}
 use Rattle.ends.proofs.Ending.{Ends, ends_steps}
 
 -- ---- the first values
@@ -65,51 +65,36 @@ filled_all vs now v e q =
 
 -- ---- the start block, then null steps
 
-module _ (ns : List ℤ) {k : Counts} (x : Examined ns k) {before : Lent} {w : Went} {after : Lent} (d : Ran (block_of ns
-    (pos 0) 0 k.start) before 0 w after) where
-  begun : Ran (run_block (plan_by ns).vars (pos 0) (take (plan_by ns).start_length (plan_by ns).code)) before 0 w after
-  unfolding plan_by
-  begun = subst (λ c. Ran (run_block (plan_by ns).vars (pos 0) (take c.start (plan_by ns).code)) before 0 w after) x.counted d
+-- the start block of a plan that was examined
+pub begun : (ns : List ℤ) {k : Counts} → Examined ns k → {u : State} {t : List ℤ} {w : Result ℕ Refusal} {u₁ : State} {t₁ : List ℤ}
+    → Did (block_of ns (pos 0) 0 k.start) u t 0 w u₁ t₁
+    → Did (run_block (plan_by ns).vars (pos 0) (take (plan_by ns).start_length (plan_by ns).code)) u t 0 w u₁ t₁
+unfolding plan_by
+begun ns x {u} {t} {w} {u₁} {t₁} d =
+    subst (λ c. Did (run_block (plan_by ns).vars (pos 0) (take c.start (plan_by ns).code)) u t 0 w u₁ t₁) x.counted d
 
-  pub begin_stop : (w.number ≡ 0 → ⊥) → Ran (plan_start_steps (plan_by ns)) before 0 w after
+module _ (ns : List ℤ) {k : Counts} (x : Examined ns k) {u : State} {t : List ℤ} {u₁ : State} {t₁ : List ℤ} where
+  pub begin_stop : {e : Refusal} → Did (block_of ns (pos 0) 0 k.start) u t 0 (Err e) u₁ t₁
+      → Did (plan_start_steps (plan_by ns)) u t 0 (Err e) u₁ t₁
   unfolding plan_start_steps
-  begin_stop z = record { did = going.then_stop _ begun.did z; slotted = λ y. absurd (z y) }
+  begin_stop d = going.then_stop _ (begun ns x d)
 
-  pub begin_on : w.number ≡ 0 → {r : Went} {after₂ : Lent} → Ran (plan_settle (plan_by ns)) after w.at r after₂
-      → Ran (plan_start_steps (plan_by ns)) before 0 r after₂
+  pub begin_on : {n : ℕ} → Did (block_of ns (pos 0) 0 k.start) u t 0 (Ok n) u₁ t₁
+      → {r : Result ℕ Refusal} {u₂ : State} {t₂ : List ℤ} → Did (plan_settle (plan_by ns)) u₁ t₁ n r u₂ t₂
+      → Did (plan_start_steps (plan_by ns)) u t 0 r u₂ t₂
   unfolding plan_start_steps
-  begin_on z g = record { did = going.then_on begun.did z g.did; slotted = λ y. g.slotted y ∙ begun.slotted z }
+  begin_on d g = going.then_on (begun ns x d) g
 
 -- ---- the fresh widget
 
-none_lent : queue_by (numbers_of empty_queue) ≡ empty_queue
-unfolding empty_queue
-none_lent = held_lent empty_queue (omega arith)
-
-none_whole : length (numbers_of empty_queue) ≡ QUEUE_NUMBERS
-unfolding empty_queue
-none_whole = numbers_long empty_queue (length-replicate QUEUE no_item)
-
--- a fresh widget as it is lent
-abbrev pub fresh_lent : List VarRow → List ℤ → Lent
-fresh_lent vs t = all_lent (replicate STATES false) (replicate STATES (negsuc 0)) (fresh_by vs).vars (numbers_of empty_queue) t
-
-fresh_is : (vs : List VarRow) (t : List ℤ) → widget (fresh_lent vs t) ≡ fresh_by vs
+pub fresh_is : (vs : List VarRow) {xs : List ℤ} {q : Queue} → xs ≡ (fresh_by vs).vars → q ≡ empty_queue
+    → record { started = true; active = replicate STATES false; slots = replicate STATES (negsuc 0); vars = xs; queue = q } ≡ fresh_by vs
 unfolding fresh_by
-fresh_is vs t =
-    ap {B = State} (λ q. record {
-      started = true;
-      active = replicate STATES false;
-      slots = replicate STATES
-          (negsuc 0);
-      vars = padded VARIABLES (pos 0) (firsts vs);
-      queue = q;
-    }) none_lent
+fresh_is vs e f = rw (e, f)
 
-pub start_ends : (p : Plan) (u : State) (t : List ℤ) {w : Went} {k₁ : Lent} (r : Called) (t₂ : List ℤ)
-    → Ran (plan_start_steps p) (fresh_lent p.vars t) 0 w k₁
-    → Ends (outcome u (went w k₁)) k₁.trace r t₂ → Ends (plan_start p u (length t)) t r t₂
+pub start_ends : (p : Plan) (u v : State) (t : List ℤ) {w : Result ℕ Refusal} {v₁ : State} {t₁ : List ℤ} (r : Called) (t₂ : List ℤ)
+    → v ≡ fresh_by p.vars → Did (plan_start_steps p) v t 0 w v₁ t₁
+    → Ends (outcome u (went w v₁ t₁)) t₁ r t₂ → Ends (plan_start p u (length t)) t r t₂
 unfolding plan_start
-start_ends p u t r t₂ g f =
-    ends_steps u (plan_start p u (length t)) r t₂ none_whole g.did
-    (ap (λ v. outcome u (plan_start_steps p (begin v (length t)))) (sym (fresh_is p.vars t))) f
+start_ends p u v t r t₂ h g f =
+    ends_steps u (plan_start p u (length t)) r t₂ g (ap (λ y. outcome u (plan_start_steps p (begin y (length t)))) (sym h)) f

@@ -12,7 +12,7 @@ ghost use Rattle.meaning.specs.Machine.{machine_start, machine_run, machine_post
 
 use ends::refuse;
 use examiner::examine;
-use meaning::answers::NOT_A_PLAN;
+use meaning::answers::{NOT_A_PLAN, Refusal};
 use meaning::{Called, State};
 use plan_rows::counts;
 use queue_calls::answers::refused;
@@ -27,7 +27,7 @@ pub fn start(plan: &[i32], state: State, trace: &mut [i32]) -> Called
 {
     let verdict = examine(plan);
     if verdict.number != 0 {
-        return refuse(NOT_A_PLAN, 0, state, trace);
+        return refuse(Refusal::NotAPlan, state, trace);
     }
     start_examined(plan, counts(plan), state, trace)
 }
@@ -39,7 +39,7 @@ pub fn run(plan: &[i32], state: State, trace: &mut [i32]) -> Called
 {
     let verdict = examine(plan);
     if verdict.number != 0 {
-        return refuse(NOT_A_PLAN, 0, state, trace);
+        return refuse(Refusal::NotAPlan, state, trace);
     }
     run_examined(plan, counts(plan), state, trace)
 }

@@ -26,12 +26,9 @@ pub fn post_examined(plan: &[i32], k: Counts, state: State, event: i32, arg: i32
     if !event_fits(k.events, event, arg) {
         return refused(NO_SUCH_EVENT, 0, state);
     }
-    let queue = state.queue;
-    let queued = queue.append(event, arg);
-    if !queued.done {
+    let Ok(after) = state.queue.append(event, arg) else {
         return refused(QUEUE_FULL, 0, state);
-    }
-    let after = queued.queue;
+    };
     done(with_queue(state, after))
 }
 
@@ -46,11 +43,9 @@ pub fn discard_examined(plan: &[i32], k: Counts, state: State) -> Called
     if !own(plan, k, state) {
         return refused(FOREIGN, 0, state);
     }
-    let queue = state.queue;
-    let removed = queue.remove();
-    if !removed.done {
+    let (front, after) = state.queue.remove();
+    let Some(_) = front else {
         return refused(QUEUE_EMPTY, 0, state);
-    }
-    let after = removed.queue;
+    };
     done(with_queue(state, after))
 }

@@ -2,3 +2,4 @@ pub mod Starred
 pub mod Computed
 pub mod TextExamples
 pub mod Tried
+pub mod Refusals

@@ -1,6 +1,8 @@
 // The answer numbers of document 01, "Answer numbers": one name each. specs/Answers.antt has the same.
 ghost use Rattle.std.specs.Prelude.{◌≡◌};
-ghost use Rattle.meaning.specs.Answers.{number_by, place_by};
+ghost use Rattle.meaning.specs.Answers.{number_by, place_by, answer_by};
+
+use crate::Answer;
 
 // Done.
 pub const DONE: usize = 0;
@@ -112,6 +114,24 @@ impl Refusal {
             Refusal::OutsideSize(line) => line,
             Refusal::RuleFails(rule) => rule,
             _ => 0,
+        }
+    }
+}
+
+// What a call that is done or refused answers: 0, or the refusal's number and its place.
+impl<A: Drop> From<Result<A, Refusal>> for Answer {
+    ghost from_gives = { λ ended answer. answer ≡ answer_by ended };
+
+    fn from(ended: Result<A, Refusal>) -> Answer {
+        match ended {
+            Ok(_) => Answer {
+                number: DONE,
+                place: 0,
+            },
+            Err(refusal) => Answer {
+                number: refusal.number(),
+                place: refusal.place(),
+            },
         }
     }
 }

@@ -10,12 +10,12 @@ pub enum Kind {
     B,
 }
 
-// guard sign (=, <, >)
+// guard sign (=, <, >), by the number that a plan has for it (1 =, 2 <, 3 >)
 #[derive(Clone, Copy, PartialEq, Eq)]
 pub enum Sign {
-    Equal,
-    Less,
-    More,
+    Equal = 1,
+    Less = 2,
+    More = 3,
 }
 
 // "The three guard fields are all - or none is": variable, sign, constant.

@@ -29,6 +29,10 @@ head_of ns base h = head_at ns (base + h * HEAD_ROW)
 abbrev pub picked : List ℤ → ℕ → ℕ → List ℕ → List Head
 picked ns base count picks = map (head_of ns base) (take count picks)
 
+-- numbers of heads of a plan with so many
+abbrev pub Heads : ℕ → List ℕ → Type 0
+Heads heads picks = (j : ℕ) → j < length picks → get_or picks j 0 < heads
+
 -- picks that are heads of the plan
 pub record Picks (heads count : ℕ) (picks : List ℕ) : Type 0 where
   pub named : (j : ℕ) → j < count → get_or picks j 0 < heads

@@ -4,21 +4,21 @@
 #![tactic(auto)]
 
 pub mod links;
+pub mod planned;
 
 ghost use Rattle.std.specs.Prelude.{◌≡◌, ◌+◌, ◌≤◌, ◌<◌, pos, length, get_or};
-ghost use Rattle.sizes.specs.Sizes.{STATES as states, TRANSITIONS as transitions};
+ghost use Rattle.sizes.specs.Sizes.{STATES as states};
 ghost use Rattle.numbers.specs.Reference.{ref, NOWHERE};
 ghost use Rattle.meaning.specs.Machine.{head_enabled, spans_meet};
 ghost use Rattle.meaning.specs.WellFormed.{HEAD_ROW};
 ghost use Rattle.choice.specs.Choice.{seen, Reads};
-ghost use Rattle.plan_choice.specs.Heads.{Examined, head_at, Spanned, Chose};
-ghost use Rattle.plan_choice.specs.Links.{Linked};
+ghost use Rattle.plan_choice.specs.Heads.{head_at, Spanned, Chose};
 
 use choice::guard_true;
-use links::{LINKS, SOURCES, STARTS};
-use meaning::plan::Counts;
+use links::{SOURCES, STARTS};
 use plan_rows::layout::{HEAD_ROW, SPAN_FIRST, SPAN_LAST};
 use plan_rows::{guard_at, heads_at, read};
+use planned::Plan;
 use sizes::{EVENTS, STATES, TRANSITIONS, VARIABLES};
 
 // What the number at i names, where it is known to name something, as in a plan that was examined: its sign is not tested.
@@ -43,11 +43,7 @@ fn enabled(
     ensures { result ≡ head_enabled (head_at plan.now at).trigger
         (seen active.now vars.now) (head_at plan.now at) }
 {
-    if !active[source] {
-        return false;
-    }
-    let guard = guard_at(plan, at);
-    guard_true(guard, vars)
+    active[source] && guard_true(guard_at(plan, at), vars)
 }
 
 // Whether the spans of two heads, whose rows begin at these places, have a state in common.
@@ -56,43 +52,36 @@ fn meet(plan: &[i32], at: usize, other: usize) -> bool
         × (other + HEAD_ROW ≤ length plan.now) × Spanned (head_at plan.now at) × Spanned (head_at plan.now other) }
     ensures { result ≡ spans_meet (head_at plan.now at) (head_at plan.now other) }
 {
-    if known(plan, other + SPAN_LAST) < known(plan, at + SPAN_FIRST) {
-        return false;
-    }
-    known(plan, other + SPAN_FIRST) <= known(plan, at + SPAN_LAST)
+    known(plan, at + SPAN_FIRST) <= known(plan, other + SPAN_LAST)
+        && known(plan, other + SPAN_FIRST) <= known(plan, at + SPAN_LAST)
 }
 
 // The enabled heads in their order, less any whose span meets that of one already chosen: their numbers stand in picks.
 pub fn choose(
-    plan: &[i32],
-    k: Counts,
-    links: &[u16; LINKS],
+    plan: &Plan,
     event: usize,
     active: &[bool; STATES],
     vars: &[i32; VARIABLES],
     picks: &mut [usize; TRANSITIONS],
 ) -> usize
-    requires { Examined plan.now k × (length picks.old ≡ transitions) × Linked plan.now k links.now }
-    ensures { Chose plan.now k event active.now vars.now result picks.new }
+    ensures { Chose plan.now.numbers.now plan.now.counts event active.now vars.now result picks.new }
 {
     if EVENTS < event {
         return 0;
     }
-    let base = heads_at(k);
+    let base = heads_at(plan.counts);
     let mut count: usize = 0;
-    let mut i = links[STARTS + event] as usize;
-    let end = links[STARTS + event + 1] as usize;
-    'heads: while i < end {
-        let h = links[i] as usize;
-        let source = links[SOURCES + i] as usize;
+    let start = plan.links[STARTS + event] as usize;
+    let end = plan.links[STARTS + event + 1] as usize;
+    'heads: for i in start..end {
+        let h = plan.links[i] as usize;
+        let source = plan.links[SOURCES + i] as usize;
         let at = base + h * HEAD_ROW;
-        i += 1;
-        if !enabled(plan, at, source, active, vars) {
+        if !enabled(plan.numbers, at, source, active, vars) {
             continue;
         }
-        for j in 0..count {
-            let pick = picks[j];
-            if meet(plan, at, base + pick * HEAD_ROW) {
+        for pick in &picks[..count] {
+            if meet(plan.numbers, at, base + *pick * HEAD_ROW) {
                 continue 'heads;
             }
         }

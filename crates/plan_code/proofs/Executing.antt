@@ -1,9 +1,11 @@
 -- One instruction, over plain variables: what its effect or its test makes of what is lent. Assumes nothing.
-use Rattle.std.specs.Prelude.{Option, None, Some}
+use Rattle.std.specs.Prelude.{Option, None, Some, Result, Ok, Err, IfOk, is_some}
+use Rattle.std.specs.Option.{option_eq}
+use Rattle.std.proofs.Common.{nat_eq}
 use mathlib.Core.Path.{◌≡◌, refl, sym, ap, ◌∙◌, subst}
 use Prim.Native.Nat.{ℕ, zero, suc, ◌+◌, ◌*◌, ◌≤◌, ◌<◌}
 use native.Mathlib.Omega.{arith}
-use mathlib.Core.Bool.{Bool, true, false, cond, not}
+use mathlib.Core.Bool.{Bool, true, false, cond, not, false≢true}
 use mathlib.Core.List.{List, [], ◌∷◌}
 use lib.ListN.{length, get_or, replicate, length-replicate, length-set}
 use lib.Dec.{eqb, leb}
@@ -22,114 +24,82 @@ use Rattle.meaning.specs.Effects.{mark_left, mark_entered, assign, act_on, act_v
 use Rattle.meaning.specs.Widget.{Ctx, ENTRY, is_active, slot, is_empty, is_filled}
 use Rattle.meaning.specs.Widget.{set_active, set_slot, change, add_numbers, emit, numbers}
 use Rattle.meaning.specs.declared.Entry.TheVariants.{Left as left, Told as told}
-use Rattle.meaning.specs.Machine.{go_on, on_if, holds_it, exec_now}
+use Rattle.meaning.specs.Machine.{passing, go_on, on_if, holds_it, exec_now}
 use Rattle.meaning.specs.Value.{VAR_ROW, var_by}
 use Rattle.meaning.specs.WellFormed.{SIX, counts_of, plan_by}
 use Rattle.plan_rows.specs.Rows.{row}
 use Rattle.plan_rows.proofs.Rows.{sized, var_of_plan, var_there}
 use Rattle.plan_choice.proofs.Facts.{passes}
 use Rattle.widget.specs.Acts.{adding, sending}
-use Rattle.queue.specs.Numbers.{QUEUE_NUMBERS}
-use Rattle.widget.specs.View.{Lent, with_active, with_slots, with_trace, ctx, tracing, said, went, Did}
-use Rattle.widget.proofs.Going.{said_ok}
-use Rattle.widget.specs.declared.Went.{Went}
+use Rattle.meaning.specs.declared.answers.Refusal.{Refusal}
+use Rattle.meaning.specs.declared.State.{State}
+use Rattle.widget.specs.View.{ctx, went, Did}
 use Rattle.plan_code.specs.declared.Moved.{Moved}
-use Rattle.plan_code.specs.Code.{Varied, moved_by, moved, Execs, Slotted}
+use Rattle.plan_code.specs.Code.{Varied, onward_of, moved, Execs}
 
 -- ---- an effect
 
-said_moves : (n : ℕ) (k : Ctx) → moved_by n 0 k ≡ go_on (said n k)
-unfolding moved_by go_on said
-said_moves zero k = refl
-said_moves (suc n) k = refl
+onward_moves : (w : Result ℕ Refusal) (u : State) (t : List ℤ) → moved (onward_of w) u t ≡ go_on (went w u t)
+unfolding moved go_on went
+onward_moves (Ok n) u t = refl
+onward_moves (Err e) u t = refl
 
-module _ {vs : List VarRow} {a : ℤ} {before after : Lent} {at : ℕ} {w : Went} {r : Moved}
-    (e : r ≡ record { number = w.number; at = w.at; over = 0 }) where
-  effect : {i : Instr} (x : Instr) → i ≡ x → (D : Step Ctx) → ((k : Ctx) → exec_now vs a x k ≡ go_on (D k)) → Did D before at w after
-      → (w.number ≡ 0 → length after.slots ≡ length before.slots) → Execs vs a i before at r after
-  unfolding moved went
-  effect {i} x q D f d h =
-      let m₀ : Moved = record { number = w.number; at = w.at; over = 0 } in
-      subst (λ m. Execs vs a i before at m after) (sym e) (subst (λ y. Execs vs a y before at m₀ after) (sym q)
+onward_fits : (w : Result ℕ Refusal) (n : ℕ) → IfOk w (λ m. m ≤ n) → IfOk (onward_of w) (λ m. m.at ≤ n)
+onward_fits (Ok m) n h = h
+onward_fits (Err e) n h = tt
+
+onward_near : (w : Result ℕ Refusal) → IfOk (onward_of w) (λ m. m.over ≤ INSTRUCTIONS)
+onward_near (Ok m) = omega arith
+onward_near (Err e) = tt
+
+module _ {vs : List VarRow} {a : ℤ} {u : State} {t : List ℤ} {at : ℕ} {u' : State} {t' : List ℤ} {w : Result ℕ Refusal}
+    {r : Result Moved Refusal} (e : r ≡ onward_of w) where
+  effect : {i : Instr} (x : Instr) → i ≡ x → (D : Step Ctx) → ((k : Ctx) → exec_now vs a x k ≡ go_on (D k)) → Did D u t at w u' t'
+      → Execs vs a i u t at r u' t'
+  effect {i} x q D f d =
+      subst (λ m. Execs vs a i u t at m u' t') (sym e) (subst (λ y. Execs vs a y u t at (onward_of w) u' t') (sym q)
       (record {
-        does = λ l. said_moves w.number (ctx after w.at) ∙ ap go_on (d.does l) ∙ sym (f (ctx before at));
-        fits = d.fits;
+        does = onward_moves w u' t' ∙ ap go_on d.does ∙ sym (f (ctx u t at));
+        fits = onward_fits w (length t') d.fits;
         kept = d.kept;
-        whole = d.whole;
-        near = omega arith;
-        slotted = h;
+        near = onward_near w;
       }))
 
-  pub enters : {i : Instr} {s : ℕ} → i ≡ go_in s → Did (mark_entered s) before at w after → after.slots ≡ before.slots
-      → Execs vs a i before at r after
+  pub enters : {i : Instr} {s : ℕ} → i ≡ go_in s → Did (mark_entered s) u t at w u' t' → Execs vs a i u t at r u' t'
   unfolding exec_now
-  enters {i} {s} q d h = effect (go_in s) q (mark_entered s) (λ k. refl) d (λ z. ap length h)
+  enters {i} {s} q d = effect (go_in s) q (mark_entered s) (λ k. refl) d
 
-  pub leaves : {i : Instr} {s : ℕ} {p : Option ℕ} → i ≡ go_out s p → Did (mark_left p s) before at w after
-      → (w.number ≡ 0 → length after.slots ≡ length before.slots) → Execs vs a i before at r after
+  pub leaves : {i : Instr} {s : ℕ} {p : Option ℕ} → i ≡ go_out s p → Did (mark_left p s) u t at w u' t' → Execs vs a i u t at r u' t'
   unfolding exec_now
-  leaves {i} {s} {p} q d h = effect (go_out s p) q (mark_left p s) (λ k. refl) d h
+  leaves {i} {s} {p} q d = effect (go_out s p) q (mark_left p s) (λ k. refl) d
 
-  pub sets : {i : Instr} (v : ℕ) (x : ℤ) → i ≡ does (set_to v x) → Did (assign (var_row vs v) v x) before at w after
-      → after.slots ≡ before.slots → Execs vs a i before at r after
+  pub sets : {i : Instr} (v : ℕ) (x : ℤ) → i ≡ does (set_to v x) → Did (assign (var_row vs v) v x) u t at w u' t'
+      → Execs vs a i u t at r u' t'
   unfolding exec_now perform act_on act_var
-  sets v x q d h = effect (does (set_to v x)) q (assign (var_row vs v) v x) (λ k. refl) d (λ z. ap length h)
+  sets v x q d = effect (does (set_to v x)) q (assign (var_row vs v) v x) (λ k. refl) d
 
-  pub adds : {i : Instr} (v : ℕ) (x : ℤ) → i ≡ does (add_to v x) → Did (adding (var_row vs v) v x) before at w after
-      → after.slots ≡ before.slots → Execs vs a i before at r after
+  pub adds : {i : Instr} (v : ℕ) (x : ℤ) → i ≡ does (add_to v x) → Did (adding (var_row vs v) v x) u t at w u' t'
+      → Execs vs a i u t at r u' t'
   unfolding exec_now perform act_on act_var adding
-  adds v x q d h = effect (does (add_to v x)) q (adding (var_row vs v) v x) (λ k. refl) d (λ z. ap length h)
+  adds v x q d = effect (does (add_to v x)) q (adding (var_row vs v) v x) (λ k. refl) d
 
-  pub takes : {i : Instr} (v : ℕ) → i ≡ does (take_to v) → Did (assign (var_row vs v) v a) before at w after
-      → after.slots ≡ before.slots → Execs vs a i before at r after
+  pub takes : {i : Instr} (v : ℕ) → i ≡ does (take_to v) → Did (assign (var_row vs v) v a) u t at w u' t'
+      → Execs vs a i u t at r u' t'
   unfolding exec_now perform act_on act_var
-  takes v q d h = effect (does (take_to v)) q (assign (var_row vs v) v a) (λ k. refl) d (λ z. ap length h)
+  takes v q d = effect (does (take_to v)) q (assign (var_row vs v) v a) (λ k. refl) d
 
-  pub sends : {i : Instr} (e : ℕ) (x : ℤ) → i ≡ does (send e x) → Did (sending e x) before at w after
-      → after.slots ≡ before.slots → Execs vs a i before at r after
+  pub sends : {i : Instr} (e : ℕ) (x : ℤ) → i ≡ does (send e x) → Did (sending e x) u t at w u' t' → Execs vs a i u t at r u' t'
   unfolding exec_now perform act_on sending
-  sends e x q d h = effect (does (send e x)) q (sending e x) (λ k. refl) d (λ z. ap length h)
+  sends e x q d = effect (does (send e x)) q (sending e x) (λ k. refl) d
 
-  pub tells : {i : Instr} (x : ℤ) → i ≡ does (tell x) → Did (emit (told x)) before at w after
-      → after.slots ≡ before.slots → Execs vs a i before at r after
+  pub tells : {i : Instr} (x : ℤ) → i ≡ does (tell x) → Did (emit (told x)) u t at w u' t' → Execs vs a i u t at r u' t'
   unfolding exec_now perform act_on
-  tells x q d h = effect (does (tell x)) q (emit (told x)) (λ k. refl) d (λ z. ap length h)
-
--- leaving a state keeps the count of slots
-Long : ℕ → Res Ctx → Type 0
-Long n (ok k) = length k.state.slots ≡ n
-Long n (refuse m) = Unit {0}
-
-left_long : (p : Option ℕ) (s : ℕ) (k : Ctx) → Long (length k.state.slots) (mark_left p s k)
-unfolding Long mark_left emit ◌then◌ bind require add_numbers change store_in set_active set_slot
-left_long p s k = go p (leb ENTRY k.room)
-  where
-    go : (p : Option ℕ) (b : Bool) → Long (length k.state.slots) (bind (bind (require 11 b k) (add_numbers (numbers (left s))))
-        (change (λ u. store_in p s (set_active s false u))))
-    go None true = refl
-    go (Some q) true = length-set k.state.slots q (pos s)
-    go p false = tt
-
-pub left_slots : (p : Option ℕ) (s : ℕ) {a a₁ : List Bool} {sl sl₁ t t₁ : List ℤ} {at : ℕ} {w : Went}
-    → ((k : Lent) → Did (mark_left p s) (with_active a (with_slots sl (with_trace t k))) at w (with_active a₁ (with_slots sl₁
-    (with_trace t₁ k))))
-    → w.number ≡ 0 → length sl₁ ≡ length sl
-unfolding Long went ctx tracing
-left_slots p s {a} {a₁} {sl} {sl₁} {t} {t₁} {at} {w} d z =
-    let k : Lent = record { active = []; slots = []; vars = []; queue = replicate QUEUE_NUMBERS (pos 0); trace = [] } in
-    let before = with_active a (with_slots sl (with_trace t k)) in
-    let after = with_active a₁ (with_slots sl₁ (with_trace t₁ k)) in
-    let e = sym (said_ok w.number (ctx after w.at) z) ∙ (d k).does (length-replicate QUEUE_NUMBERS (pos 0)) in
-    subst (Long (length sl)) (sym e) (left_long p s (ctx before at))
+  tells x q d = effect (does (tell x)) q (emit (told x)) (λ k. refl) d
 
 -- ---- a test
 
-pub passed_over : {b : Bool} {at n m : ℕ} → b ≡ false → n ≡ m
-    → ◌≡◌ {A = Moved} (record { number = 0; at = at; over = n }) (record { number = 0; at = at; over = cond b 0 m })
-passed_over e f = rw (e, f)
-
-on_if_moves : (b : Bool) (n : ℕ) (k : Ctx) → moved_by 0 (cond b 0 n) k ≡ on_if b n k
-unfolding moved_by on_if
+on_if_moves : (b : Bool) (n : ℕ) (k : Ctx) → ok (passing (cond b 0 n) k) ≡ on_if b n k
+unfolding on_if
 on_if_moves true n k = refl
 on_if_moves false n k = refl
 
@@ -137,81 +107,68 @@ over_near : (c : Bool) (n : ℕ) → n ≤ INSTRUCTIONS → cond c 0 n ≤ INSTR
 over_near true n l = omega arith
 over_near false n l = l
 
-not_filled : (p : Option ℕ) → not (is_filled p) ≡ is_empty p
-unfolding is_filled is_empty
-not_filled None = refl
-not_filled (Some d) = refl
-
 get_d_any : {A : Type 0} (xs : List A) (i : ℕ) (d e : A) → i < length xs → get_or xs i d ≡ get_or xs i e
 get_d_any [] i d e l = absurd (omega arith)
 get_d_any (x ∷ xs) zero d e l = refl
 get_d_any (x ∷ xs) (suc i) d e l = get_d_any xs i d e (omega arith)
 
--- what stands in a slot that is there
-slot_there : (k : Lent) (s : ℕ) → s < STATES → Slotted k.slots
-    → place_of (get_or k.slots s (pos 0)) ≡ place_of (get_or k.slots s (negsuc 0))
-slot_there k s h g = ap place_of (get_d_any k.slots s (pos 0) (negsuc 0) (omega (arith, h, g)))
+slot_there : (slots : List ℤ) (s : ℕ) → s < length slots → place_of (get_or slots s (pos 0)) ≡ place_of (get_or slots s (negsuc 0))
+slot_there slots s h = ap place_of (get_d_any slots s (pos 0) (negsuc 0) h)
 
-module _ {vs : List VarRow} {a : ℤ} {k : Lent} {at : ℕ} {b : Bool} {n : ℕ} {r : Moved}
-    (e : r ≡ record { number = 0; at = at; over = cond b 0 n })
-    (l : at ≤ length k.trace) (m : n ≤ INSTRUCTIONS) where
-  test : {i : Instr} (x : Instr) → i ≡ x → (c : Bool) → b ≡ c → (exec_now vs a x (ctx k at) ≡ on_if c n (ctx k at))
-      → Execs vs a i k at r k
+-- what stands in a slot that is there
+in_slot : (u : State) (s : ℕ) {held : Option ℕ} → s < length u.slots → held ≡ place_of (get_or u.slots s (pos 0)) → held ≡ slot u s
+unfolding slot
+in_slot u s h g = g ∙ slot_there u.slots s h
+
+module _ {vs : List VarRow} {a : ℤ} {u : State} {t : List ℤ} {at : ℕ} (b : Bool) {n : ℕ} {r : Moved}
+    (e : r ≡ record { at = at; over = cond b 0 n }) (l : at ≤ length t) (m : n ≤ INSTRUCTIONS) where
+  test : {i : Instr} (x : Instr) → i ≡ x → (exec_now vs a x (ctx u t at) ≡ on_if b n (ctx u t at)) → Execs vs a i u t at (Ok r) u t
   unfolding moved
-  test {i} y p c q f =
-      let m₀ : Moved = record { number = 0; at = at; over = cond b 0 n } in
-      subst (λ x. Execs vs a i k at x k) (sym e) (subst (λ x. Execs vs a x k at m₀ k) (sym p)
+  test {i} y p f =
+      let m₀ : Moved = record { at = at; over = cond b 0 n } in
+      subst (λ x. Execs vs a i u t at (Ok x) u t) (sym e) (subst (λ x. Execs vs a x u t at (Ok m₀) u t) (sym p)
       (record {
-        does = λ h. on_if_moves b n (ctx k at) ∙ ap (λ x. on_if x n (ctx k at)) q ∙ sym f;
+        does = on_if_moves b n (ctx u t at) ∙ sym f;
         fits = l;
         kept = refl;
-        whole = refl;
         near = over_near b n m;
-        slotted = λ z. refl;
       }))
 
-  pub skips_out : {i : Instr} {s : ℕ} → i ≡ skip_out s n → b ≡ get_or k.active s false → Execs vs a i k at r k
-  unfolding exec_now is_active ctx tracing
-  skips_out {i} {s} p q = test (skip_out s n) p (get_or k.active s false) q refl
+  pub skips_out : {i : Instr} {s : ℕ} → i ≡ skip_out s n → b ≡ get_or u.active s false → Execs vs a i u t at (Ok r) u t
+  unfolding exec_now is_active ctx
+  skips_out {i} {s} p q = test (skip_out s n) p (ap (λ c. on_if c n (ctx u t at)) (sym q))
 
-  pub skips_empty : {i : Instr} {s : ℕ} → i ≡ skip_empty s n → s < STATES → Slotted k.slots
-      → b ≡ is_filled (place_of (get_or k.slots s (pos 0)))
-      → Execs vs a i k at r k
-  unfolding exec_now slot ctx tracing
-  skips_empty {i} {s} p h g q = test (skip_empty s n) p (is_filled (place_of (get_or k.slots s (negsuc 0)))) (q
-      ∙ ap is_filled (slot_there k s h g)) refl
+  module _ {s : ℕ} (h : s < length u.slots) {held : Option ℕ} (g : held ≡ place_of (get_or u.slots s (pos 0))) where
+    pub skips_empty : {i : Instr} → i ≡ skip_empty s n → b ≡ is_filled held → Execs vs a i u t at (Ok r) u t
+    unfolding exec_now ctx
+    skips_empty p q = test (skip_empty s n) p (ap (λ c. on_if c n (ctx u t at)) (ap is_filled (sym (in_slot u s h g)) ∙ sym q))
 
-  pub skips_full : {i : Instr} {s : ℕ} {f : Bool} → i ≡ skip_full s n → s < STATES → Slotted k.slots → b ≡ not f
-      → f ≡ is_filled (place_of (get_or k.slots s (pos 0))) → Execs vs a i k at r k
-  unfolding exec_now slot ctx tracing
-  skips_full {i} {s} {f} p h g q u =
-      test (skip_full s n) p (is_empty (place_of (get_or k.slots s (negsuc 0))))
-      (q ∙ ap not (u ∙ ap is_filled (slot_there k s h g)) ∙ not_filled (place_of (get_or k.slots s (negsuc 0)))) refl
+    pub skips_full : {i : Instr} → i ≡ skip_full s n → b ≡ is_empty held → Execs vs a i u t at (Ok r) u t
+    unfolding exec_now ctx
+    skips_full p q = test (skip_full s n) p (ap (λ c. on_if c n (ctx u t at)) (ap is_empty (sym (in_slot u s h g)) ∙ sym q))
 
-  pub skips_not : {i : Instr} {s d : ℕ} → i ≡ skip_not s d n → s < STATES → Slotted k.slots
-      → b ≡ holds_it d (place_of (get_or k.slots s (pos 0)))
-      → Execs vs a i k at r k
-  unfolding exec_now slot ctx tracing
-  skips_not {i} {s} {d} p h g q =
-      test (skip_not s d n) p (holds_it d (place_of (get_or k.slots s (negsuc 0)))) (q ∙ ap (holds_it d) (slot_there k s h g)) refl
+    pub skips_not : {i : Instr} {d : ℕ} → i ≡ skip_not s d n → b ≡ holds_it d held → Execs vs a i u t at (Ok r) u t
+    unfolding exec_now ctx
+    skips_not {d = d} p q = test (skip_not s d n) p (ap (λ c. on_if c n (ctx u t at)) (ap (holds_it d) (sym (in_slot u s h g)) ∙ sym q))
 
--- ---- slots
+-- ---- what a slot holds
 
-pub filled_empty : {p : Option ℕ} → p ≡ None → false ≡ is_filled p
+pub is_some_filled : (p : Option ℕ) → is_some p ≡ is_filled p
 unfolding is_filled
-filled_empty e = rw e
+is_some_filled None = refl
+is_some_filled (Some d) = refl
 
-pub filled_at : {p : Option ℕ} {d : ℕ} → p ≡ Some d → true ≡ is_filled p
-unfolding is_filled
-filled_at e = rw e
+pub not_some_empty : (b : Bool) (p : Option ℕ) → is_some p ≡ not b → b ≡ is_empty p
+unfolding is_empty
+not_some_empty true None e = refl
+not_some_empty false None e = absurd (false≢true e)
+not_some_empty true (Some d) e = absurd (false≢true (sym e))
+not_some_empty false (Some d) e = refl
 
-pub holds_empty : {p : Option ℕ} (d : ℕ) → p ≡ None → false ≡ holds_it d p
+pub same_holds : (d : ℕ) (p : Option ℕ) → option_eq nat_eq (Some d) p ≡ holds_it d p
 unfolding holds_it
-holds_empty d e = rw e
-
-pub holds_at : {p : Option ℕ} (d : ℕ) {s : ℕ} → p ≡ Some s → eqb d s ≡ holds_it d p
-unfolding holds_it
-holds_at d e = rw e
+same_holds d None = refl
+same_holds d (Some x) = refl
 
 -- ---- variables
 

@@ -14,11 +14,13 @@ use Rattle.meaning.specs.WellFormed.{INSTR_ROW, counts_of, code_at, plan_by}
 use Rattle.meaning.specs.Steps.{Res, ok, refuse, Step, bind, each}
 use Rattle.meaning.specs.Widget.{Ctx}
 use Rattle.meaning.specs.Machine.{Mach, passing, exec_now, exec_at, exec, run_code, end_code, run_block}
-use Rattle.widget.specs.View.{Lent, ctx, tracing, said, went, Owes}
-use Rattle.widget.specs.declared.Went.{Went}
+use Rattle.std.specs.Prelude.{Result, Ok, Err}
+use Rattle.meaning.specs.declared.answers.Refusal.{Refusal}
+use Rattle.meaning.specs.declared.State.{State}
+use Rattle.widget.specs.View.{ctx, went, Did, Owes}
 use Rattle.widget.proofs.Going as going
 use Rattle.plan_code.specs.declared.Moved.{Moved}
-use Rattle.plan_code.specs.Code.{moved_by, moved, Execs, Ran, Same, Passed}
+use Rattle.plan_code.specs.Code.{moved, Execs, Same, Passed}
 
 -- ---- passing over
 
@@ -79,129 +81,95 @@ abbrev pub rest : List VarRow → ℤ → List Instr → ℕ → ℕ → Step Ct
 rest vs a code end i = run_block vs a (take (end - i) (drop i code))
 
 -- at i: what is left of the block is still owed
-pub record Walking (vs : List VarRow) (a : ℤ) (code : List Instr) (end from : ℕ) (before : Lent) (at i : ℕ) (after : Lent)
-    (next : ℕ) : Type 0 where
-  pub owes : Owes (rest vs a code end from) before at (rest vs a code end i) after next
+pub record Walking (vs : List VarRow) (a : ℤ) (code : List Instr) (end from : ℕ) (u : State) (t : List ℤ) (at i : ℕ)
+    (u' : State) (t' : List ℤ) (next : ℕ) : Type 0 where
+  pub owes : Owes (rest vs a code end from) u t at (rest vs a code end i) u' t' next
   pub onward : from ≤ i
-  pub slotted : length after.slots ≡ length before.slots
 
-module _ {vs : List VarRow} {a : ℤ} {code : List Instr} {end from : ℕ} {before : Lent} {at : ℕ} where
-  pub walking_begin : at ≤ length before.trace → Walking vs a code end from before at from before at
-  walking_begin l = record { owes = going.owes_all l; onward = omega arith; slotted = refl }
+module _ {vs : List VarRow} {a : ℤ} {code : List Instr} {end from : ℕ} {u : State} {t : List ℤ} {at : ℕ} where
+  pub walking_begin : at ≤ length t → Walking vs a code end from u t at from u t at
+  walking_begin l = record { owes = going.owes_all l; onward = omega arith }
 
-  module _ {i : ℕ} {after : Lent} {next : ℕ} (w : Walking vs a code end from before at i after next) where
-    pub walking_end : end ≤ i → Ran (rest vs a code end from) before at (record { number = 0; at = next }) after
-    walking_end l = record {
-      did = going.owes_none w.owes (ap (λ is. run_block vs a is (ctx after next)) (left_none code end i l)
-          ∙ block_none vs a (ctx after next));
-      slotted = λ z. w.slotted;
-    }
+  module _ {i : ℕ} {u₁ : State} {t₁ : List ℤ} {next : ℕ} (w : Walking vs a code end from u t at i u₁ t₁ next) where
+    pub walking_end : end ≤ i → Did (rest vs a code end from) u t at (Ok next) u₁ t₁
+    walking_end l = going.owes_none w.owes (ap (λ is. run_block vs a is (ctx u₁ t₁ next)) (left_none code end i l)
+        ∙ block_none vs a (ctx u₁ t₁ next))
 
     -- past instructions that act on nothing
-    pub walking_past : {j : ℕ} → i ≤ j → Same code end after.active i j → Walking vs a code end from before at j after next
-    unfolding ctx tracing
-    walking_past l s = record {
-      owes = record {
-        gives = λ h. sym (s vs a (ctx after next) refl) ∙ w.owes.gives h;
-        fits = w.owes.fits;
-        kept = w.owes.kept;
-        whole = w.owes.whole;
-      };
+    pub walking_past : {j : ℕ} → i ≤ j → Same code end u₁.active i j → Walking vs a code end from u t at j u₁ t₁ next
+    unfolding ctx
+    walking_past {j} l s = record {
+      owes = going.owes_as (rest vs a code end j) w.owes (sym (s vs a (ctx u₁ t₁ next) refl));
       onward = omega (arith, w.onward, l);
-      slotted = w.slotted;
     }
 
-    module _ {ins : Instr} {r : Moved} {after₂ : Lent} (l : i < end) (m : i < length code) (q : get_or code i ins ≡ ins)
-        (d : Execs vs a ins after next r after₂) where
-      moved_on : (n o : ℕ) (k : Ctx) → n ≡ 0 → (F : Mach → Res Ctx) → bind (moved_by n o k) F ≡ F (passing o k)
-      unfolding moved_by bind
-      moved_on zero o k z F = refl
-      moved_on (suc n) o k z F = absurd (omega arith)
-
-      moved_no : (n o : ℕ) (k : Ctx) → (n ≡ 0 → ⊥) → (F : Mach → Res Ctx) → bind (moved_by n o k) F ≡ said n k
-      unfolding moved_by bind said
-      moved_no zero o k z F = absurd (z refl)
-      moved_no (suc n) o k z F = refl
-
+    module _ {ins : Instr} (l : i < end) (m : i < length code) (q : get_or code i ins ≡ ins) where
       further : Mach → Res Ctx
       further = go_further vs a (take (end - (i + 1)) (drop (i + 1) code))
 
       -- what is owed at i, by way of what the instruction gave
-      turn : rest vs a code end i (ctx after next) ≡ bind (exec_now vs a ins (ctx after next)) further
+      turn : rest vs a code end i (ctx u₁ t₁ next) ≡ bind (exec_now vs a ins (ctx u₁ t₁ next)) further
       unfolding go_further further bind
       turn =
-          ap (λ is. run_block vs a is (ctx after next)) (left_first code end i ins l m)
-          ∙ block_first vs a (get_or code i ins) (take (end - (i + 1)) (drop (i + 1) code)) (ctx after next)
-          ∙ ap (λ x. bind (exec_now vs a x (ctx after next)) further) q
+          ap (λ is. run_block vs a is (ctx u₁ t₁ next)) (left_first code end i ins l m)
+          ∙ block_first vs a (get_or code i ins) (take (end - (i + 1)) (drop (i + 1) code)) (ctx u₁ t₁ next)
+          ∙ ap (λ x. bind (exec_now vs a x (ctx u₁ t₁ next)) further) q
 
-      pub walking_stop : (r.number ≡ 0 → ⊥) → Ran (rest vs a code end from) before at (record { number = r.number; at = r.at }) after₂
-      unfolding went moved
-      walking_stop z = record {
-        did = record {
-          does = λ h.
-              sym (moved_no r.number r.over (ctx after₂ r.at) z further)
-              ∙ ap (λ x. bind x further) (d.does (w.owes.whole ∙ h))
-              ∙ sym turn ∙ w.owes.gives h;
-          fits = d.fits;
-          kept = d.kept ∙ w.owes.kept;
-          whole = d.whole ∙ w.owes.whole;
-        };
-        slotted = λ y. absurd (z y);
+      pub walking_stop : {e : Refusal} {u₂ : State} {t₂ : List ℤ} → Execs vs a ins u₁ t₁ next (Err e) u₂ t₂ → Did (rest vs a code end from) u t at (Err e) u₂ t₂
+      unfolding went moved bind
+      walking_stop d = record {
+        does = ap (λ x. bind x further) d.does ∙ sym turn ∙ w.owes.gives;
+        fits = tt;
+        kept = d.kept ∙ w.owes.kept;
       }
 
-      here : run_block vs a (take (end - (i + 1 + r.over)) (drop (i + 1 + r.over) code)) (ctx after₂ r.at)
-          ≡ further (passing r.over (ctx after₂ r.at))
+      here : (o : ℕ) (k : Ctx) → run_block vs a (take (end - (i + 1 + o)) (drop (i + 1 + o) code)) k ≡ further (passing o k)
       unfolding passing go_further further
-      here = ap (λ is. run_block vs a is (ctx after₂ r.at)) (sym (left_further code end i r.over))
+      here o k = ap (λ is. run_block vs a is k) (sym (left_further code end i o))
 
-      pub walking_on : r.number ≡ 0 → Walking vs a code end from before at (i + 1 + r.over) after₂ r.at
-      unfolding moved
-      walking_on z = record {
+      pub walking_on : {r : Moved} {u₂ : State} {t₂ : List ℤ} → Execs vs a ins u₁ t₁ next (Ok r) u₂ t₂
+          → Walking vs a code end from u t at (i + 1 + r.over) u₂ t₂ r.at
+      unfolding moved bind
+      walking_on {r} {u₂} {t₂} d = record {
         owes = record {
-          gives = λ h.
-              here ∙ sym (moved_on r.number r.over (ctx after₂ r.at) z further)
-              ∙ ap (λ x. bind x further) (d.does (w.owes.whole ∙ h))
-              ∙ sym turn ∙ w.owes.gives h;
+          gives = here r.over (ctx u₂ t₂ r.at) ∙ ap (λ x. bind x further) d.does ∙ sym turn ∙ w.owes.gives;
           fits = d.fits;
           kept = d.kept ∙ w.owes.kept;
-          whole = d.whole ∙ w.owes.whole;
         };
         onward = omega (arith, w.onward);
-        slotted = d.slotted z ∙ w.slotted;
       }
 
 -- the same at the place where the row of an instruction begins, where the rows of the plan begin at base
-pub record Standing (vs : List VarRow) (a : ℤ) (code : List Instr) (base end from : ℕ) (before : Lent) (at row : ℕ) (after : Lent)
-    (next : ℕ) : Type 0 where
+pub record Standing (vs : List VarRow) (a : ℤ) (code : List Instr) (base end from : ℕ) (u : State) (t : List ℤ) (at row : ℕ)
+    (u' : State) (t' : List ℤ) (next : ℕ) : Type 0 where
   pub i : ℕ
   pub here : row ≡ base + i * INSTR_ROW
-  pub walking : Walking vs a code end from before at i after next
+  pub walking : Walking vs a code end from u t at i u' t' next
 
-module _ {vs : List VarRow} {a : ℤ} {code : List Instr} {base end from : ℕ} {before : Lent} {at row : ℕ} {after : Lent} {next : ℕ}
-    (s : Standing vs a code base end from before at row after next) where
-  pub standing_on : {ins : Instr} {r : Moved} {after₂ : Lent} → s.i < end → s.i < length code → get_or code s.i ins ≡ ins
-      → Execs vs a ins after next r after₂ → r.number ≡ 0
-      → Standing vs a code base end from before at (row + (1 + r.over) * INSTR_ROW) after₂ r.at
-  standing_on {r = r} l m q d z = record {
+module _ {vs : List VarRow} {a : ℤ} {code : List Instr} {base end from : ℕ} {u : State} {t : List ℤ} {at row : ℕ}
+    {u₁ : State} {t₁ : List ℤ} {next : ℕ} (s : Standing vs a code base end from u t at row u₁ t₁ next) where
+  pub standing_on : {ins : Instr} {r : Moved} {u₂ : State} {t₂ : List ℤ} → s.i < end → s.i < length code → get_or code s.i ins ≡ ins
+      → Execs vs a ins u₁ t₁ next (Ok r) u₂ t₂ → Standing vs a code base end from u t at (row + (1 + r.over) * INSTR_ROW) u₂ t₂ r.at
+  standing_on {r = r} l m q d = record {
     i = s.i + 1 + r.over;
     here = omega (arith, s.here);
-    walking = walking_on s.walking l m q d z;
+    walking = walking_on s.walking l m q d;
   }
 
   pub standing_past : {ns : List ℤ} {to : ℕ} → code ≡ (plan_by ns).code → base ≡ code_at (counts_of ns)
-      → Passed ns (base + end * INSTR_ROW) row after.active to → Standing vs a code base end from before at to after next
+      → Passed ns (base + end * INSTR_ROW) row u₁.active to → Standing vs a code base end from u t at to u₁ t₁ next
   standing_past e b p = record {
     i = s.i + p.over;
     here = omega (arith, s.here, p.there);
     walking = walking_past s.walking (omega arith)
-        (subst (λ c. Same c end after.active s.i (s.i + p.over)) (sym e)
+        (subst (λ c. Same c end u₁.active s.i (s.i + p.over)) (sym e)
         (p.same s.i end (omega (arith, s.here, b)) (omega (arith, b))));
   }
 
 -- a block from its start on, by its length
-pub block_by : (vs : List VarRow) (a : ℤ) (code : List Instr)
-    (end start len : ℕ) {before : Lent} {at : ℕ} {r : Went} {after : Lent} → end ≡ start + len
-    → Ran (rest vs a code end start) before at r after → Ran (run_block vs a (take len (drop start code))) before at r after
-block_by vs a code end start len {before} {at} {r} {after} e d =
+pub block_by : (vs : List VarRow) (a : ℤ) (code : List Instr) (end start len : ℕ) {u : State} {t : List ℤ} {at : ℕ}
+    {r : Result ℕ Refusal} {u' : State} {t' : List ℤ} → end ≡ start + len
+    → Did (rest vs a code end start) u t at r u' t' → Did (run_block vs a (take len (drop start code))) u t at r u' t'
+block_by vs a code end start len {u} {t} {at} {r} {u'} {t'} e d =
     let q : end - start ≡ len = omega arith in
-    subst (λ n. Ran (run_block vs a (take n (drop start code))) before at r after) q d
+    subst (λ n. Did (run_block vs a (take n (drop start code))) u t at r u' t') q d

@@ -1,12 +1,15 @@
 -- What running the instructions of a plan asks and says
 -- (01, "The plan"): what an instruction names, what one instruction gives over what is
 -- lent, and a block of a plan that was examined. Assumes nothing.
-use Rattle.std.specs.Prelude.{◌≡◌, ℕ, zero, suc, ◌+◌, ◌-◌, ◌*◌, ◌<◌, ◌≤◌, Bool, true, List, length, get_or, take, drop, ℤ, pos}
+use Rattle.std.specs.Prelude.{◌≡◌, ℕ, ◌+◌, ◌-◌, ◌*◌, ◌<◌, ◌≤◌, Bool, true, List, length, get_or, take, drop, ℤ, pos, Result, Ok, Err, IfOk}
 use Rattle.sizes.specs.Sizes.{STATES, INSTRUCTIONS}
 use Rattle.numbers.specs.Reference.{ref, NOWHERE}
 use Rattle.meaning.specs.declared.chart.Act.{Act}
 use Rattle.meaning.specs.declared.chart.Act.TheVariants.{SetTo as set_to, AddTo as add_to, TakeTo as take_to, Send as send, Tell as tell}
 use Rattle.meaning.specs.declared.chart.VarRow.{VarRow}
+use Rattle.meaning.specs.Answers.{number_by}
+use Rattle.meaning.specs.declared.answers.Refusal.{Refusal}
+use Rattle.meaning.specs.declared.State.{State}
 use Rattle.meaning.specs.declared.plan.Counts.{Counts}
 use Rattle.meaning.specs.declared.plan.Instr.{Instr}
 use Rattle.meaning.specs.declared.plan.Instr.TheVariants.{In as go_in, Out as go_out, SkipOut as skip_out, SkipEmpty as skip_empty}
@@ -16,8 +19,7 @@ use Rattle.meaning.specs.Widget.{Ctx}
 use Rattle.meaning.specs.Machine.{Mach, passing, exec_now, run_block}
 use Rattle.meaning.specs.WellFormed.{INSTR_ROW, counts_of, code_at, instr_by, plan_by, left_after_each, code_fits, well_formed}
 use Rattle.widget.specs.Acts.{Below}
-use Rattle.widget.specs.View.{Lent, Whole, ctx, Did}
-use Rattle.widget.specs.declared.Went.{Went}
+use Rattle.widget.specs.View.{ctx}
 use Rattle.plan_choice.specs.Heads.{Examined}
 use Rattle.plan_code.specs.declared.Moved.{Moved}
 
@@ -63,34 +65,23 @@ Varied ns v = (well_formed ns ≡ true) × (v < (counts_of ns).vars)
 
 -- ---- one instruction
 
--- an answer number: 0 goes on, so many instructions passed over; any other is the refusal met
-unfoldable pub moved_by : ℕ → ℕ → Ctx → Res Mach
-moved_by zero n k = ok (passing n k)
-moved_by (suc m) n k = refuse (suc m)
+-- an effect goes on to the next instruction, or is refused
+abbrev pub onward_of : Result ℕ Refusal → Result Moved Refusal
+onward_of (Ok at) = Ok (record { at = at; over = 0 })
+onward_of (Err e) = Err e
 
--- what its function's result says, over what is lent after it
-unfoldable pub moved : Moved → Lent → Res Mach
-moved r after = moved_by r.number r.over (ctx after r.at)
+-- what its function's result says, over what is lent after it: so many instructions passed over, or the refusal met
+unfoldable pub moved : Result Moved Refusal → State → List ℤ → Res Mach
+moved (Ok m) u trace = ok (passing m.over (ctx u trace m.at))
+moved (Err e) u trace = refuse (number_by e)
 
 -- the promise of running one instruction
-pub record Execs (vs : List VarRow) (a : ℤ) (i : Instr) (before : Lent) (at : ℕ) (r : Moved) (after : Lent) : Type 0 where
-  pub does : Whole before → moved r after ≡ exec_now vs a i (ctx before at)
-  pub fits : r.at ≤ length after.trace
-  pub kept : length after.trace ≡ length before.trace
-  pub whole : length after.queue ≡ length before.queue
-  pub near : r.over ≤ INSTRUCTIONS
-  pub slotted : r.number ≡ 0 → length after.slots ≡ length before.slots
-
--- ---- step functions that read slots
-
--- all slots are lent
-abbrev pub Slotted : List ℤ → Type 0
-Slotted slots = length slots ≡ STATES
-
--- the promise of a step function that goes on with all slots
-pub record Ran (D : Step Ctx) (before : Lent) (at : ℕ) (r : Went) (after : Lent) : Type 0 where
-  pub did : Did D before at r after
-  pub slotted : r.number ≡ 0 → length after.slots ≡ length before.slots
+pub record Execs (vs : List VarRow) (a : ℤ) (i : Instr) (u : State) (trace : List ℤ) (at : ℕ) (r : Result Moved Refusal)
+    (u' : State) (trace' : List ℤ) : Type 0 where
+  pub does : moved r u' trace' ≡ exec_now vs a i (ctx u trace at)
+  pub fits : IfOk r (λ m. m.at ≤ length trace')
+  pub kept : length trace' ≡ length trace
+  pub near : IfOk r (λ m. m.over ≤ INSTRUCTIONS)
 
 -- ---- a block
 

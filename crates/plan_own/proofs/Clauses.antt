@@ -2,9 +2,10 @@
 use mathlib.Core.Path.{◌≡◌, refl, sym, ap, ◌∙◌, subst}
 use Prim.Native.Nat.{ℕ, ◌+◌, ◌*◌, ◌≤◌, ◌<◌}
 use native.Mathlib.Omega.{arith}
-use mathlib.Core.Bool.{Bool, true, false, not}
-use mathlib.Core.List.{List}
+use mathlib.Core.Bool.{Bool, true, false, not, ◌&&◌}
+use mathlib.Core.List.{List, [], ◌∷◌}
 use borrow.Author.Tests.{le-ltb}
+use Rattle.std.specs.List.{list_all}
 use lib.Dec.{ltb}
 use lib.IntN.{ℤ, pos, negsuc}
 use lib.ListN.{length, get_or, take, drop}
@@ -27,6 +28,12 @@ use Rattle.plan_rows.specs.Rows.{row}
 use Rattle.plan_rows.proofs.Rows.{vars_length, var_of_plan, var_there}
 use Rattle.plan_choice.specs.Heads.{Examined}
 use Rattle.plan_choice.proofs.Facts.{passes}
+
+-- what `all` says of a list
+pub all_every : (p : ℤ → Bool) (l : List ℤ) → list_all p l ≡ every p l
+unfolding every
+all_every p [] = refl
+all_every p (x ∷ xs) = ap (λ b. p x && b) (all_every p xs)
 
 -- ---- one slot
 

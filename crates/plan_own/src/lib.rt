@@ -13,7 +13,7 @@ ghost use Rattle.plan_choice.specs.Heads.{Examined};
 
 use meaning::State;
 use meaning::plan::Counts;
-use numbers::{between, reference, same};
+use numbers::{between, reference};
 use plan_rows::var_row;
 use queue_calls::own::rest_empty;
 use sizes::{STATES, VARIABLES};
@@ -28,21 +28,14 @@ fn value_fits(plan: &[i32], k: Counts, v: usize, x: i32) -> bool
         let row = var_row(plan, v);
         return between(row.low, x, row.high);
     }
-    same(0, x)
+    x == 0
 }
 
 fn values_fit(plan: &[i32], k: Counts, vars: [i32; VARIABLES]) -> bool
     requires { Examined plan.now k }
     ensures { result ≡ values_fit (plan_by plan.now).vars vars }
 {
-    let mut v: usize = 0;
-    while v < VARIABLES {
-        if !value_fits(plan, k, v, vars[v]) {
-            return false;
-        }
-        v += 1;
-    }
-    true
+    (0..VARIABLES).all(|v| value_fits(plan, k, v, vars[v]))
 }
 
 // A slot is -1 or a state of the plan: any other number below 0 is neither.
@@ -50,10 +43,7 @@ fn slot_fits(states: usize, x: i32) -> bool
     requires { states ≤ most }
     ensures { result ≡ plan_slot_fits states x }
 {
-    if same(x, -1) {
-        return true;
-    }
-    reference(x) < states
+    x == -1 || reference(x) < states
 }
 
 // The slots of the plan's states.
@@ -61,14 +51,7 @@ fn slots_fit(states: usize, slots: [i32; STATES]) -> bool
     requires { states ≤ most }
     ensures { result ≡ every (plan_slot_fits states) (take states slots) }
 {
-    let mut s: usize = 0;
-    while s < states {
-        if !slot_fits(states, slots[s]) {
-            return false;
-        }
-        s += 1;
-    }
-    true
+    slots[..states].iter().all(|x| slot_fits(states, *x))
 }
 
 // Whether a started state is one that the plan machine runs; else answer 6.
@@ -78,23 +61,9 @@ pub fn own(plan: &[i32], k: Counts, state: State) -> bool
         (plan_by plan.now).vars (plan_by plan.now).events state }
 {
     let active = state.active;
-    if !active[0] {
-        return false;
-    }
-    if !marks_fit(k.states, active) {
-        return false;
-    }
-    let vars = state.vars;
-    if !values_fit(plan, k, vars) {
-        return false;
-    }
-    let slots = state.slots;
-    if !slots_fit(k.states, slots) {
-        return false;
-    }
-    if !rest_empty(k.states, &slots) {
-        return false;
-    }
-    let queue = state.queue;
-    queue_fits(k.events, queue)
+    active[0]
+        && (marks_fit(k.states, active)
+            && (values_fit(plan, k, state.vars)
+                && (slots_fit(k.states, state.slots)
+                    && (rest_empty(k.states, &state.slots) && queue_fits(k.events, state.queue)))))
 }

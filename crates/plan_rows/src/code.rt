@@ -1,6 +1,6 @@
 // The codes of the instructions (01, "The plan"): an instruction's first number, 1 to 11.
 ghost use Rattle.std.specs.Prelude.{◌≡◌, pos};
-ghost use Rattle.plan_rows.specs.Codes.{code_number, code_of};
+ghost use Rattle.plan_rows.specs.Codes.{code_number, code_of, Says};
 
 // What an instruction does, by the number that stands for it in a plan.
 #[derive(Clone, Copy, PartialEq, Eq)]
@@ -44,5 +44,25 @@ impl Code {
         ensures { result ≡ pos (code_number self) }
     {
         self as i32
+    }
+}
+
+// The same in a plan that was examined, where each number is a code: what is none of the others is TELL, so that nothing is tested twice.
+#[inline]
+pub fn code_by(code: usize) -> Code
+    ensures { Says result code }
+{
+    match code {
+        1 => Code::In,
+        2 => Code::Out,
+        3 => Code::SkipOut,
+        4 => Code::SkipEmpty,
+        5 => Code::SkipFull,
+        6 => Code::SkipNot,
+        7 => Code::Set,
+        8 => Code::Add,
+        9 => Code::Take,
+        10 => Code::Send,
+        _ => Code::Tell,
     }
 }

@@ -1,5 +1,5 @@
 // What the numbers of a head's guard say, turned into its declared type in one place, on every input as the definition of the same name
-// in the crate meaning. An instruction is run and examined by its code, where its numbers stand.
+// in the crate meaning. An instruction's numbers are read where they stand.
 ghost use Rattle.std.specs.Prelude.{◌≡◌};
 ghost use Rattle.meaning.specs.WellFormed.{head_guard_by};
 
@@ -10,8 +10,7 @@ use numbers::reference;
 pub fn head_guard_by(v: i32, g: i32, x: i32) -> Guard
     ensures { result ≡ head_guard_by v g x }
 {
-    let sign = reference(g);
-    match sign {
+    match reference(g) {
         1 => Guard::Compares(reference(v), Sign::Equal, x),
         2 => Guard::Compares(reference(v), Sign::Less, x),
         3 => Guard::Compares(reference(v), Sign::More, x),

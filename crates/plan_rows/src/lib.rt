@@ -29,10 +29,7 @@ fn count_at(plan: &[i32], i: usize, most: usize) -> usize
     ensures { result ≡ size_by most (get_or plan.now i (pos 0)) }
 {
     let n = reference(number_at(plan, i));
-    if n <= most {
-        return n;
-    }
-    0
+    if n <= most { n } else { 0 }
 }
 
 // The header of any numbers: a count that does not keep its size counts as none.

@@ -1,10 +1,14 @@
 -- One step and null steps, turn by turn, over plain variables: what is still owed after so many turns. Assumes nothing.
 use mathlib.Core.Path.{◌≡◌, refl, sym, ap, ◌∙◌, fun_ext}
-use Prim.Native.Nat.{ℕ, zero, suc, ◌+◌, ◌-◌, ◌≤◌}
+use Prim.Native.Nat.{ℕ, zero, suc, ◌+◌, ◌-◌, ◌≤◌, ◌<◌}
 use native.Mathlib.Omega.{arith}
 use mathlib.Core.Bool.{Bool}
 use mathlib.Core.List.{List, [], ◌∷◌}
-use lib.ListN.{length, get_or, replicate, length-replicate}
+use lib.ListN.{length, get_or, take, replicate, length-replicate}
+use lib.Seq.{length-take-le, get_or-take}
+use Rattle.std.specs.Prelude.{Result, Ok, Err}
+use Rattle.meaning.specs.declared.answers.Refusal.{Refusal}
+use Rattle.meaning.specs.declared.answers.Refusal.TheVariants.{Unsettled}
 use lib.IntN.{ℤ, pos}
 use Rattle.sizes.specs.Sizes.{NULL_STEPS, TRANSITIONS}
 use Rattle.meaning.specs.declared.State.{State}
@@ -17,16 +21,13 @@ use Rattle.meaning.specs.Reaction.{if_any}
 use Rattle.meaning.specs.Widget.{Ctx, is_active}
 use Rattle.meaning.specs.Machine.{head_enabled, thin_heads, chosen_heads, fire_head, plan_step, plan_settle_in, plan_settle}
 use Rattle.meaning.specs.WellFormed.{heads_at, plan_by}
-use Rattle.widget.specs.View.{Lent, ctx, tracing, said, went, Owes}
-use Rattle.widget.specs.declared.Went.{Went}
+use Rattle.widget.specs.View.{ctx, Did, Owes}
 use Rattle.widget.proofs.Going as going
 use Rattle.choice.specs.Choice.{seen}
 use Rattle.choice.proofs.Seen.{guard_seen}
-use Rattle.plan_choice.specs.Heads.{Examined, picked, Chose}
+use Rattle.plan_choice.specs.Heads.{Examined, Heads, head_of, picked, Chose}
 use Rattle.plan_choice.specs.Links.{STARTS, Linked}
-use Rattle.plan_choice.proofs.Loop.{chose_empty}
-use Rattle.plan_code.specs.Code.{Ran}
-use Rattle.plan_steps.proofs.Firing.{fires_long}
+use Rattle.plan_choice.proofs.Loop.{picked_long, chose_empty}
 
 -- ---- what is chosen depends on the active marks and the values alone
 
@@ -40,27 +41,26 @@ chosen_seen p e u = ap (λ f. thin_heads [] (keep f p.heads)) (fun_ext (enabled_
 
 -- ---- the chosen of a widget
 
-module _ {ns : List ℤ} {k : Counts} {e : ℕ} {a : List Bool} {vs : List ℤ} {count : ℕ} {picks : List ℕ}
-    (h : Chose ns k e a vs count picks) where
-  pub chose_here : (sl q t : List ℤ) (at : ℕ)
-      → chosen_heads (plan_by ns) e (ctx (record { active = a; slots = sl; vars = vs; queue = q; trace = t }) at).state
-      ≡ picked ns (heads_at k) count picks
-  unfolding ctx tracing
-  chose_here sl q t at = chosen_seen (plan_by ns) e _ ∙ sym h.is
+module _ {ns : List ℤ} {k : Counts} {e : ℕ} (u : State) {count : ℕ} {picks : List ℕ}
+    (h : Chose ns k e u.active u.vars count picks) where
+  pub chose_here : chosen_heads (plan_by ns) e u ≡ picked ns (heads_at k) count picks
+  chose_here = chosen_seen (plan_by ns) e u ∙ sym h.is
+
+  -- they are heads of the plan
+  pub all_heads : Heads k.heads (take count picks)
+  all_heads j l =
+      let n = length-take-le count picks (omega (arith, h.stands.few, h.stands.size)) in
+      let q : j < count = omega (arith, n) in
+      omega (arith, get_or-take count picks j 0 q, h.stands.named j q)
 
   -- one step fires them all
-  pub step_here : (arg : ℤ) {sl q t : List ℤ} {at : ℕ} {w : Went} {after : Lent}
-      → Ran (each (fire_head (plan_by ns) arg) (picked ns (heads_at k) count picks))
-      (record { active = a; slots = sl; vars = vs; queue = q; trace = t }) at w after
-      → Ran (plan_step (plan_by ns) e arg) (record { active = a; slots = sl; vars = vs; queue = q; trace = t }) at w after
-  unfolding plan_step look
-  step_here arg {sl} {q} {t} {at} d = record {
-    did = going.same_step (plan_step (plan_by ns) e arg)
-        (ap (λ hs. each (fire_head (plan_by ns) arg) hs (ctx
-        (record { active = a; slots = sl; vars = vs; queue = q; trace = t }) at)) (sym (chose_here sl q t at)))
-        d.did;
-    slotted = d.slotted;
-  }
+  pub step_here : (arg : ℤ) {t : List ℤ} {at : ℕ} {r : Result ℕ Refusal} {u' : State} {t' : List ℤ}
+      → Did (each (fire_head (plan_by ns) arg) (picked ns (heads_at k) count picks)) u t at r u' t'
+      → Did (plan_step (plan_by ns) e arg) u t at r u' t'
+  unfolding plan_step look ctx
+  step_here arg {t} {at} d =
+      going.same_step (plan_step (plan_by ns) e arg)
+      (ap (λ hs. each (fire_head (plan_by ns) arg) hs (ctx u t at)) (sym chose_here)) d
 
 -- ---- null steps
 
@@ -91,94 +91,68 @@ module _ (p : Plan) (k : Ctx) (hs : List Head) (e : chosen_heads p 0 k.state ≡
         any_some (chosen_heads p 0 k.state) _ k (λ q. z (sym (ap length e) ∙ q))
         ∙ ap (λ ts. bind (each (fire_head p (pos 0)) ts k) (plan_settle_in p n)) e
 
-pub record Settling (p : Plan) (before : Lent) (at turns : ℕ) (after : Lent) (next : ℕ) : Type 0 where
-  pub owes : Owes (plan_settle p) before at (plan_settle_in p (NULL_STEPS - turns)) after next
+pub record Settling (p : Plan) (u : State) (t : List ℤ) (at turns : ℕ) (u' : State) (t' : List ℤ) (next : ℕ) : Type 0 where
+  pub owes : Owes (plan_settle p) u t at (plan_settle_in p (NULL_STEPS - turns)) u' t' next
   pub few : turns ≤ NULL_STEPS
-  pub slotted : length after.slots ≡ length before.slots
 
-module _ {p : Plan} {before : Lent} {at : ℕ} where
-  pub settling_begin : at ≤ length before.trace → Settling p before at 0 before at
-  unfolding plan_settle
-  settling_begin h = record { owes = going.owes_all h; few = omega arith; slotted = refl }
+pub settling_begin : {p : Plan} {u : State} {t : List ℤ} {at : ℕ} → at ≤ length t → Settling p u t at 0 u t at
+unfolding plan_settle
+settling_begin h = record { owes = going.owes_all h; few = omega arith }
 
-module _ {ns : List ℤ} {k : Counts} {before : Lent} {at turns : ℕ} {a : List Bool} {sl vs q t : List ℤ} {next : ℕ}
-    (w : Settling (plan_by ns) before at turns (record { active = a; slots = sl; vars = vs; queue = q; trace = t }) next)
-    {count : ℕ} {picks : List ℕ} (g : Chose ns k 0 a vs count picks) where
-  here : Ctx
-  here = ctx (record { active = a; slots = sl; vars = vs; queue = q; trace = t }) next
-
+module _ {ns : List ℤ} {k : Counts} {u : State} {t : List ℤ} {at turns : ℕ} {u₁ : State} {t₁ : List ℤ} {next : ℕ}
+    (w : Settling (plan_by ns) u t at turns u₁ t₁ next)
+    {count : ℕ} {picks : List ℕ} (g : Chose ns k 0 u₁.active u₁.vars count picks) where
   long : length (picked ns (heads_at k) count picks) ≡ count
-  long = fires_long ns (heads_at k) g.stands
+  long = picked_long (head_of ns (heads_at k)) picks count (omega (arith, g.stands.few, g.stands.size))
 
-  chosen_now : chosen_heads (plan_by ns) 0 here.state ≡ picked ns (heads_at k) count picks
-  unfolding here
-  chosen_now = chose_here g sl q t next
+  chosen_now : chosen_heads (plan_by ns) 0 (ctx u₁ t₁ next).state ≡ picked ns (heads_at k) count picks
+  unfolding ctx
+  chosen_now = chose_here u₁ g
 
-  pub settling_end : count ≡ 0
-      → Ran (plan_settle (plan_by ns)) before at (record { number = 0; at = next })
-      (record { active = a; slots = sl; vars = vs; queue = q; trace = t })
-  unfolding here
-  settling_end z = record {
-    did = going.owes_none w.owes (settled (plan_by ns) here (picked ns (heads_at k) count picks) chosen_now
-        (NULL_STEPS - turns) (long ∙ z));
-    slotted = λ y. w.slotted;
-  }
+  pub settling_end : count ≡ 0 → Did (plan_settle (plan_by ns)) u t at (Ok next) u₁ t₁
+  settling_end z =
+      going.owes_none w.owes
+      (settled (plan_by ns) (ctx u₁ t₁ next) (picked ns (heads_at k) count picks) chosen_now (NULL_STEPS - turns) (long ∙ z))
 
   module _ (z : count ≡ 0 → ⊥) where
-    pub settling_full : turns ≡ NULL_STEPS
-        → Ran (plan_settle (plan_by ns)) before at (record { number = 12; at = next })
-        (record { active = a; slots = sl; vars = vs; queue = q; trace = t })
-    unfolding went said here
+    pub settling_full : turns ≡ NULL_STEPS → Did (plan_settle (plan_by ns)) u t at (Err Unsettled) u₁ t₁
     settling_full e =
         let n : NULL_STEPS - turns ≡ 0 = omega arith in
-        record {
-          did = record {
-            does = λ l.
-                sym (ap (λ m. plan_settle_in (plan_by ns) m here) n
-                ∙ too_many (plan_by ns) here (picked ns (heads_at k) count picks) chosen_now (λ y. z (sym long ∙ y))) ∙ w.owes.gives l;
-            fits = w.owes.fits;
-            kept = w.owes.kept;
-            whole = w.owes.whole;
-          };
-          slotted = λ y. w.slotted;
-        }
+        going.owes_refused Unsettled w.owes
+        (ap (λ m. plan_settle_in (plan_by ns) m (ctx u₁ t₁ next)) n
+        ∙ too_many (plan_by ns) (ctx u₁ t₁ next) (picked ns (heads_at k) count picks) chosen_now (λ y. z (sym long ∙ y)))
 
-    module _ (m : turns ≡ NULL_STEPS → ⊥) {r : Went} {after : Lent}
-        (d : Ran (each (fire_head (plan_by ns) (pos 0)) (picked ns (heads_at k) count picks))
-        (record { active = a; slots = sl; vars = vs; queue = q; trace = t }) next r after) where
-      due : Owes (plan_settle (plan_by ns)) before at
+    module _ (m : turns ≡ NULL_STEPS → ⊥) where
+      due : Owes (plan_settle (plan_by ns)) u t at
           (each (fire_head (plan_by ns) (pos 0)) (picked ns (heads_at k) count picks) then plan_settle_in (plan_by ns)
-          (NULL_STEPS - (turns + 1)))
-          (record { active = a; slots = sl; vars = vs; queue = q; trace = t }) next
-      unfolding here
+          (NULL_STEPS - (turns + 1))) u₁ t₁ next
       due =
           let l = w.few in
           let n : NULL_STEPS - turns ≡ suc (NULL_STEPS - (turns + 1)) = omega arith in
           going.owes_as _ w.owes
-          (sym (ap (λ x. plan_settle_in (plan_by ns) x here) n
-          ∙ one_more (plan_by ns) here (picked ns (heads_at k) count picks) chosen_now (λ y. z (sym long
+          (sym (ap (λ x. plan_settle_in (plan_by ns) x (ctx u₁ t₁ next)) n
+          ∙ one_more (plan_by ns) (ctx u₁ t₁ next) (picked ns (heads_at k) count picks) chosen_now (λ y. z (sym long
           ∙ y)) (NULL_STEPS - (turns + 1))))
 
-      pub settling_stop : (r.number ≡ 0 → ⊥) → Ran (plan_settle (plan_by ns)) before at r after
-      settling_stop y = record {
-        did = going.owes_stop (plan_settle_in (plan_by ns) (NULL_STEPS - (turns + 1))) due d.did y;
-        slotted = λ x. absurd (y x);
-      }
+      pub settling_stop : {e : Refusal} {u₂ : State} {t₂ : List ℤ}
+          → Did (each (fire_head (plan_by ns) (pos 0)) (picked ns (heads_at k) count picks)) u₁ t₁ next (Err e) u₂ t₂
+          → Did (plan_settle (plan_by ns)) u t at (Err e) u₂ t₂
+      settling_stop d = going.owes_stop (plan_settle_in (plan_by ns) (NULL_STEPS - (turns + 1))) due d
 
-      pub settling_on : r.number ≡ 0 → Settling (plan_by ns) before at (turns + 1) after r.at
-      settling_on y =
+      pub settling_on : {n : ℕ} {u₂ : State} {t₂ : List ℤ}
+          → Did (each (fire_head (plan_by ns) (pos 0)) (picked ns (heads_at k) count picks)) u₁ t₁ next (Ok n) u₂ t₂
+          → Settling (plan_by ns) u t at (turns + 1) u₂ t₂ n
+      settling_on d =
           let l = w.few in
           record {
-            owes = going.owes_on (plan_settle_in (plan_by ns) (NULL_STEPS - (turns + 1))) due d.did y;
+            owes = going.owes_on (plan_settle_in (plan_by ns) (NULL_STEPS - (turns + 1))) due d;
             few = omega arith;
-            slotted = d.slotted y ∙ w.slotted;
           }
 
 -- no head has trigger 0: there is no null step
 pub settles_none : {ns : List ℤ} {k : Counts} {links : List ℕ} → Examined ns k → Linked ns k links
-    → get_or links (STARTS + 1) 0 ≤ get_or links STARTS 0 → {a : List Bool} {sl vs q t : List ℤ} {at : ℕ} → at ≤ length t
-    → Ran (plan_settle (plan_by ns)) (record { active = a; slots = sl; vars = vs; queue = q; trace = t }) at
-    (record { number = 0; at = at }) (record { active = a; slots = sl; vars = vs; queue = q; trace = t })
+    → get_or links (STARTS + 1) 0 ≤ get_or links STARTS 0 → {u : State} {t : List ℤ} {at : ℕ} → at ≤ length t
+    → Did (plan_settle (plan_by ns)) u t at (Ok at) u t
 settles_none x v l g =
     settling_end (settling_begin g) {count = 0} {picks = replicate TRANSITIONS 0}
     (chose_empty x {picks = replicate TRANSITIONS 0} (length-replicate {A = ℕ} TRANSITIONS 0) v (omega arith) l) refl

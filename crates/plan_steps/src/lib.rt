@@ -2,165 +2,108 @@
 // What is lent is what the chart's runner works on, and the picks: the heads that the current step fires.
 #![tactic(auto)]
 
-ghost use Rattle.std.specs.Prelude.{◌≡◌, ◌≤◌, ◌<◌, length};
-ghost use Rattle.sizes.specs.Sizes.{TRANSITIONS as transitions};
+ghost use Rattle.std.specs.Prelude.{◌≡◌, ◌≤◌, ◌<◌, length, map};
 ghost use Rattle.meaning.specs.Steps.{each};
 ghost use Rattle.meaning.specs.Machine.{fire_head, plan_step, plan_settle};
 ghost use Rattle.meaning.specs.WellFormed.{heads_at, plan_by};
-ghost use Rattle.widget.specs.View.{all_lent};
-ghost use Rattle.plan_choice.specs.Heads.{Examined, head_of, picked, Picks};
-ghost use Rattle.plan_choice.specs.Links.{Linked};
-ghost use Rattle.plan_code.specs.Code.{Slotted, Ran};
+ghost use Rattle.widget.specs.View.{Did};
+ghost use Rattle.plan_choice.specs.Heads.{head_of, Heads};
 
-use meaning::answers::UNSETTLED;
-use meaning::plan::Counts;
-use plan_choice::links::LINKS;
+use meaning::State;
+use meaning::answers::Refusal;
+use plan_choice::planned::Plan;
 use plan_choice::{choose, known};
 use plan_code::run_block;
 use plan_rows::heads_at;
 use plan_rows::layout::{BLOCK_LENGTH, BLOCK_START, HEAD_ROW, TRANSITION};
-use queue::lent::QUEUE_NUMBERS;
-use sizes::{NULL_STEPS, STATES, TRANSITIONS, VARIABLES};
-use widget::{Went, mark_taken};
+use sizes::{NULL_STEPS, TRANSITIONS};
+use widget::mark_taken;
 
 // "Firing": its transition is taken, then its block is run.
 fn fire(
-    plan: &[i32],
-    k: Counts,
+    plan: &Plan,
     h: usize,
     arg: i32,
-    active: &mut [bool; STATES],
-    slots: &mut [i32; STATES],
-    vars: &mut [i32; VARIABLES],
-    queue: &mut [i32; QUEUE_NUMBERS],
+    widget: &mut State,
     trace: &mut [i32],
     at: usize,
-) -> Went
-    requires { Examined plan.now k × (h < k.heads) × Slotted slots.old × (at ≤ length trace.old) }
-    ensures { Ran (fire_head (plan_by plan.now) arg (head_of plan.now (heads_at k) h))
-        (all_lent active.old slots.old vars.old queue.old trace.old) at result
-        (all_lent active.new slots.new vars.new queue.new trace.new) }
+) -> Result<usize, Refusal>
+    requires { (h < plan.now.counts.heads) × (at ≤ length trace.old) }
+    ensures { Did (fire_head (plan_by plan.now.numbers.now) arg (head_of plan.now.numbers.now (heads_at plan.now.counts) h))
+        widget.old trace.old at result widget.new trace.new }
 {
-    let base = heads_at(k);
+    let base = heads_at(plan.counts);
     let row = base + h * HEAD_ROW;
-    let taken = mark_taken(known(plan, row + TRANSITION), trace, at);
-    if taken.number != 0 {
-        return taken;
-    }
-    let start = known(plan, row + BLOCK_START);
-    let len = known(plan, row + BLOCK_LENGTH);
-    run_block(
-        plan, k, start, len, arg, active, slots, vars, queue, trace, taken.at,
-    )
+    let numbers = plan.numbers;
+    let next = mark_taken(known(numbers, row + TRANSITION), trace, at)?;
+    let start = known(numbers, row + BLOCK_START);
+    let len = known(numbers, row + BLOCK_LENGTH);
+    run_block(plan, start, len, arg, widget, trace, next)
 }
 
 // "They fire in that order": the chosen, one after the other.
 fn fire_all(
-    plan: &[i32],
-    k: Counts,
+    plan: &Plan,
     arg: i32,
-    count: usize,
-    picks: &[usize; TRANSITIONS],
-    active: &mut [bool; STATES],
-    slots: &mut [i32; STATES],
-    vars: &mut [i32; VARIABLES],
-    queue: &mut [i32; QUEUE_NUMBERS],
+    picks: &[usize],
+    widget: &mut State,
     trace: &mut [i32],
     at: usize,
-) -> Went
-    requires { Examined plan.now k × Picks k.heads count picks.now × Slotted slots.old × (at ≤ length trace.old) }
-    ensures { Ran
-        (each (fire_head (plan_by plan.now) arg) (picked plan.now (heads_at k) count picks.now))
-        (all_lent active.old slots.old vars.old queue.old trace.old) at result
-        (all_lent active.new slots.new vars.new queue.new trace.new) }
+) -> Result<usize, Refusal>
+    requires { Heads plan.now.counts.heads picks.now × (at ≤ length trace.old) }
+    ensures { Did (each (fire_head (plan_by plan.now.numbers.now) arg)
+        (map (head_of plan.now.numbers.now (heads_at plan.now.counts)) picks.now))
+        widget.old trace.old at result widget.new trace.new }
 {
     let mut next = at;
-    let mut j: usize = 0;
-    while j < count {
-        let h = picks[j];
-        let went = fire(plan, k, h, arg, active, slots, vars, queue, trace, next);
-        if went.number != 0 {
-            return went;
-        }
-        next = went.at;
-        j += 1;
+    for h in picks {
+        next = fire(plan, *h, arg, widget, trace, next)?;
     }
-    Went {
-        number: 0,
-        at: next,
-    }
+    Ok(next)
 }
 
 // One step with an event and its argument.
 pub fn step(
-    plan: &[i32],
-    k: Counts,
-    links: &[u16; LINKS],
+    plan: &Plan,
     event: usize,
     arg: i32,
     picks: &mut [usize; TRANSITIONS],
-    active: &mut [bool; STATES],
-    slots: &mut [i32; STATES],
-    vars: &mut [i32; VARIABLES],
-    queue: &mut [i32; QUEUE_NUMBERS],
+    widget: &mut State,
     trace: &mut [i32],
     at: usize,
-) -> Went
-    requires { Examined plan.now k × (length picks.old ≡ transitions)
-        × Slotted slots.old × (at ≤ length trace.old) × Linked plan.now k links.now }
-    ensures { Ran (plan_step (plan_by plan.now) event arg) (all_lent active.old slots.old
-        vars.old queue.old trace.old) at result (all_lent active.new slots.new
-        vars.new queue.new trace.new) × (length picks.new ≡ transitions) }
+) -> Result<usize, Refusal>
+    requires { at ≤ length trace.old }
+    ensures { Did (plan_step (plan_by plan.now.numbers.now) event arg)
+        widget.old trace.old at result widget.new trace.new }
 {
-    let count = choose(plan, k, links, event, active, vars, picks);
-    fire_all(
-        plan, k, arg, count, picks, active, slots, vars, queue, trace, at,
-    )
+    let count = choose(plan, event, &widget.active, &widget.vars, picks);
+    fire_all(plan, arg, &picks[..count], widget, trace, at)
 }
 
 // "null steps follow: trigger 0, argument 0, all chosen fire, until none is enabled"; 12 where a 33rd is needed.
 pub fn settle(
-    plan: &[i32],
-    k: Counts,
-    links: &[u16; LINKS],
+    plan: &Plan,
     picks: &mut [usize; TRANSITIONS],
-    active: &mut [bool; STATES],
-    slots: &mut [i32; STATES],
-    vars: &mut [i32; VARIABLES],
-    queue: &mut [i32; QUEUE_NUMBERS],
+    widget: &mut State,
     trace: &mut [i32],
     at: usize,
-) -> Went
-    requires { Examined plan.now k × (length picks.old ≡ transitions)
-        × Slotted slots.old × (at ≤ length trace.old) × Linked plan.now k links.now }
-    ensures { Ran (plan_settle (plan_by plan.now)) (all_lent active.old slots.old
-        vars.old queue.old trace.old) at result (all_lent active.new slots.new
-        vars.new queue.new trace.new) × (length picks.new ≡ transitions) }
+) -> Result<usize, Refusal>
+    requires { at ≤ length trace.old }
+    ensures { Did (plan_settle (plan_by plan.now.numbers.now))
+        widget.old trace.old at result widget.new trace.new }
 {
     let mut next = at;
     let mut turns: usize = 0;
-    let out = loop {
-        let count = choose(plan, k, links, 0, active, vars, picks);
+    // the form that 01 names: a loop that yields the settled widget or the refusal
+    loop {
+        let count = choose(plan, 0, &widget.active, &widget.vars, picks);
         if count == 0 {
-            break Went {
-                number: 0,
-                at: next,
-            };
+            break Ok(next);
         }
         if turns == NULL_STEPS {
-            break Went {
-                number: UNSETTLED,
-                at: next,
-            };
+            break Err(Refusal::Unsettled);
         }
-        let went = fire_all(
-            plan, k, 0, count, picks, active, slots, vars, queue, trace, next,
-        );
-        if went.number != 0 {
-            break went;
-        }
-        next = went.at;
+        next = fire_all(plan, 0, &picks[..count], widget, trace, next)?;
         turns += 1;
-    };
-    out
+    }
 }

@@ -1,5 +1,5 @@
 -- Post and discard over a chart that passes the rules, test by test (01, "Answer numbers", the order). Assumes nothing.
-use mathlib.Core.Path.{◌≡◌, refl, sym, ap, ◌∙◌}
+use mathlib.Core.Path.{◌≡◌, sym, ap, ◌∙◌}
 use mathlib.Core.Bool.{Bool, true, false}
 use Prim.Native.Nat.{ℕ}
 use lib.IntN.{ℤ}
@@ -9,7 +9,7 @@ use Rattle.queue.specs.Queue.{Removed}
 use Rattle.queue.specs.Queue.{appended, removed}
 use Rattle.meaning.specs.declared.State.{State}
 use Rattle.meaning.specs.Chart.{Chart}
-use Rattle.meaning.specs.Steps.{Res, ok, refuse, Step, bind, ◌then◌, require, look}
+use Rattle.meaning.specs.Steps.{Res, refuse, Step, bind, ◌then◌, require, look}
 use Rattle.meaning.specs.Widget.{Ctx, set_queue, change, begin}
 use Rattle.meaning.specs.Effects.{take_queue, enqueue}
 use Rattle.meaning.specs.Foreign.{event_fits, own}

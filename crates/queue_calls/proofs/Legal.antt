@@ -3,10 +3,11 @@ use mathlib.Core.Path.{◌≡◌, refl, sym, ap, ◌∙◌, subst}
 use mathlib.Core.Logic.{◌⊎◌, inl, inr, ⊎_elim}
 use Prim.Native.Nat.{ℕ, ◌+◌, ◌≤◌, ◌<◌}
 use native.Mathlib.Omega.{arith}
-use mathlib.Core.Bool.{Bool, true, false, not, ◌&&◌}
+use mathlib.Core.Bool.{Bool, true, false, not}
 use mathlib.Core.List.{List}
 use lib.Dec.{eqb}
-use lib.ListN.{length, get_or, drop, set, replicate, length-set, length-replicate, get_or-replicate}
+use mir.Val.{bool_byte}
+use lib.ListN.{length, get_or, set, replicate, length-set, length-replicate, get_or-replicate}
 use lib.Seq.{get_or-set_same, get_or-set_other}
 use borrow.Author.Tests.{eq-eqb, ne_eqb, eqb-true, eqb-false}
 use Rattle.sizes.specs.Sizes.{STATES}
@@ -20,7 +21,7 @@ use Rattle.meaning.specs.Tree.{parent_of, kind_of, all_states, is_child, childre
 use Rattle.meaning.specs.Widget.{is_active}
 use Rattle.meaning.specs.Foreign.{children_legal, legal_at, legal}
 use Rattle.queue_calls.specs.declared.own.Tally.{Tally}
-use Rattle.queue_calls.specs.Parts.{tally_of, Tallied}
+use Rattle.queue_calls.specs.Parts.{tally_of, no_children, Tallied}
 use Rattle.queue_calls.proofs.Kept.{Counted, counted_start, counted_skip, counted_on, counted_off, counted_all}
 use Rattle.queue_calls.proofs.Kept.{counted_on_all, none_counted, all_counted}
 
@@ -44,69 +45,62 @@ tallied c marks s {n} e k h =
 
 -- ---- the pass: after d of n states, at each place the counts of that state's children
 
-pub record Tallying (c : Chart) (marks : List Bool) (n d : ℕ) (all on : List ℕ) : Type 0 where
-  pub all_long : length all ≡ STATES
-  pub on_long : length on ≡ STATES
-  pub counted : (s : ℕ) → s < STATES → Counted (is_child c s) (marked marks) n d (get_or all s 0) (get_or on s 0)
+pub record Tallying (c : Chart) (marks : List Bool) (n d : ℕ) (ts : List Tally) : Type 0 where
+  pub long : length ts ≡ STATES
+  pub counted : (s : ℕ) → s < STATES → Counted (is_child c s) (marked marks) n d (get_or ts s no_children).all (get_or ts s no_children).on
 
-pub tally_none : (c : Chart) (marks : List Bool) (n : ℕ) → Tallying c marks n 0 (replicate STATES 0) (replicate STATES 0)
+pub tally_none : (c : Chart) (marks : List Bool) (n : ℕ) → Tallying c marks n 0 (replicate STATES no_children)
 tally_none c marks n = record {
-  all_long = length-replicate {A = ℕ} STATES 0;
-  on_long = length-replicate {A = ℕ} STATES 0;
-  counted = λ s l. rw (get_or-replicate {A = ℕ} STATES s 0 0 l) (counted_start _ _ n);
+  long = length-replicate {A = Tally} STATES no_children;
+  counted = λ s l. rw (get_or-replicate {A = Tally} STATES s no_children no_children l) (counted_start _ _ n);
 }
 
-module _ (c : Chart) (marks : List Bool) {n d : ℕ} {all on : List ℕ} (h : Tallying c marks n d all on) (l : d < n) where
-  tally_skip : ((s : ℕ) → s < STATES → is_child c s d ≡ false) → Tallying c marks n (d + 1) all on
-  tally_skip e = record {
-    all_long = h.all_long;
-    on_long = h.on_long;
+module _ (c : Chart) (marks : List Bool) {n d : ℕ} {ts : List Tally} (h : Tallying c marks n d ts) where
+  tally_skip : d < n → ((s : ℕ) → s < STATES → is_child c s d ≡ false) → Tallying c marks n (d + 1) ts
+  tally_skip l e = record {
+    long = h.long;
     counted = λ s k. counted_skip _ _ n (h.counted s k) l (e s k);
   }
 
-  pub tally_root : d ≡ 0 → Tallying c marks n (d + 1) all on
-  tally_root e = tally_skip (λ s k. child_root c s d e)
+  pub tally_root : d < n → d ≡ 0 → Tallying c marks n (d + 1) ts
+  tally_root l e = tally_skip l (λ s k. child_root c s d e)
 
-  pub tally_far : {p : ℕ} → (d ≡ 0 → ⊥) → p ≡ parent_of c d → STATES ≤ p → Tallying c marks n (d + 1) all on
-  tally_far z e far = tally_skip (λ s k. child_below c s d z ∙ ne_eqb (parent_of c d) s (λ q. omega arith))
+  pub tally_far : d < n → {p : ℕ} → (d ≡ 0 → ⊥) → p ≡ parent_of c d → STATES ≤ p → Tallying c marks n (d + 1) ts
+  tally_far l z e far = tally_skip l (λ s k. child_below c s d z ∙ ne_eqb (parent_of c d) s (λ q. omega arith))
 
   -- a child is counted at its parent p
-  module _ {p : ℕ} (z : d ≡ 0 → ⊥) (e : p ≡ parent_of c d) (k : p < STATES) where
+  module _ (l : d < n) {p : ℕ} (z : d ≡ 0 → ⊥) (e : p ≡ parent_of c d) (k : p < STATES) where
     mine : is_child c p d ≡ true
     mine = child_below c p d z ∙ eq-eqb (parent_of c d) p (sym e)
 
     other : (s : ℕ) → (s ≡ p → ⊥) → is_child c s d ≡ false
     other s q = child_below c s d z ∙ ne_eqb (parent_of c d) s (λ y. q (sym (e ∙ y)))
 
-    pub tally_off : marked marks d ≡ false → Tallying c marks n (d + 1) (set all p (get_or all p 0 + 1)) on
-    tally_off m = record {
-      all_long = length-set all p _ ∙ h.all_long;
-      on_long = h.on_long;
+    abbrev pub there : Tally
+    there = get_or ts p no_children
+
+    tally_set : (t : Tally) → Counted (is_child c p) (marked marks) n (d + 1) t.all t.on → Tallying c marks n (d + 1) (set ts p t)
+    tally_set t f = record {
+      long = length-set ts p t ∙ h.long;
       counted = λ s b. ⊎_elim
-          (λ q. subst (λ y. Counted (is_child c y) (marked marks) n (d + 1) (get_or (set all p (get_or all p 0 + 1)) y 0) (get_or on y 0))
-          (sym q)
-          (rw (get_or-set_same all p (get_or all p 0 + 1) 0 (rw h.all_long k)) (counted_off _ _ n (h.counted p k) l mine m)))
-          (λ q. rw (get_or-set_other all p s (get_or all p 0 + 1) 0 q) (counted_skip _ _ n (h.counted s b) l (other s q)))
+          (λ q. subst (λ y. Counted (is_child c y) (marked marks) n (d + 1) (get_or (set ts p t) y no_children).all
+          (get_or (set ts p t) y no_children).on) (sym q)
+          (rw (get_or-set_same ts p t no_children (rw h.long k)) f))
+          (λ q. rw (get_or-set_other ts p s t no_children q) (counted_skip _ _ n (h.counted s b) l (other s q)))
           (same_or s p);
     }
 
-    pub tally_on : marked marks d ≡ true → Tallying c marks n (d + 1) (set all p (get_or all p 0 + 1)) (set on p (get_or on p 0 + 1))
-    tally_on m = record {
-      all_long = length-set all p _ ∙ h.all_long;
-      on_long = length-set on p _ ∙ h.on_long;
-      counted = λ s b. ⊎_elim
-          (λ q. subst (λ y. Counted (is_child c y) (marked marks) n (d + 1) (get_or (set all p (get_or all p 0 + 1)) y 0)
-          (get_or (set on p (get_or on p 0 + 1)) y 0)) (sym q)
-          (rw (get_or-set_same all p (get_or all p 0 + 1) 0 (rw h.all_long k), get_or-set_same on p (get_or on p 0 + 1) 0 (rw h.on_long k))
-          (counted_on _ _ n (h.counted p k) l mine m)))
-          (λ q. rw (get_or-set_other all p s (get_or all p 0 + 1) 0 q, get_or-set_other on p s (get_or on p 0 + 1) 0 q)
-          (counted_skip _ _ n (h.counted s b) l (other s q)))
-          (same_or s p);
-    }
+    counted_more : (b : Bool) → marked marks d ≡ b → Counted (is_child c p) (marked marks) n (d + 1) (there.all + 1) (there.on + bool_byte b)
+    counted_more true m = counted_on _ _ n (h.counted p k) l mine m
+    counted_more false m = let y : there.on + 0 ≡ there.on = omega arith in rw y (counted_off _ _ n (h.counted p k) l mine m)
 
-pub tally_end : (c : Chart) (marks : List Bool) {n d : ℕ} {all on : List ℕ} → n ≡ length c.states → Tallying c marks n d all on → n ≤ d
-    → Tallied c marks all on
-tally_end c marks e h l = record { all_long = h.all_long; on_long = h.on_long; told = λ s k. tallied c marks s e (h.counted s k) l }
+    pub tally_more : {x : ℕ} → x ≡ bool_byte (marked marks d)
+        → Tallying c marks n (d + 1) (set ts p record { all = there.all + 1; on = there.on + x })
+    tally_more m = rw m (tally_set _ (counted_more (marked marks d) refl))
+
+pub tally_end : (c : Chart) (marks : List Bool) {n d : ℕ} {ts : List Tally} → n ≡ length c.states → Tallying c marks n d ts → n ≤ d
+    → Tallied c marks ts
+tally_end c marks e h l = record { long = h.long; told = λ s k. tallied c marks s e (h.counted s k) l }
 
 module _ (c : Chart) (u : State) (s : ℕ) {marks : List Bool} {t : Tally} (e : u.active ≡ marks) (f : t ≡ tally_of c marks s) where
   counts : t ≡ tally_of c u.active s

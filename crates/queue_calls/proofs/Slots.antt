@@ -1,11 +1,13 @@
 -- The slots of a started state, one at a time: empty, or at an o state a child of it that leads on. Assumes nothing.
 use Rattle.std.specs.Prelude.{Option, None, Some}
+use Rattle.std.specs.Option.{is_some, option_eq}
 use mathlib.Core.Path.{◌≡◌, refl, sym, ap, ◌∙◌}
 use Prim.Native.Nat.{ℕ, zero, suc, ◌+◌, ◌-◌, ◌≤◌, ◌<◌}
 use mathlib.Core.Bool.{Bool, true, false, false≢true}
 use mathlib.Core.List.{List, [], ◌∷◌}
 use native.Mathlib.Omega.{arith}
 use borrow.Author.Tests.{lt-ltb, le-ltb}
+use lib.Dec.{eqb}
 use lib.IntN.{ℤ, pos, negsuc}
 use lib.ListN.{length, get_or, drop}
 use Rattle.sizes.specs.Sizes.{STATES}
@@ -19,7 +21,7 @@ use Rattle.meaning.specs.Chart.{Chart}
 use Rattle.meaning.specs.Tree.{kind_of, is_o, is_child}
 use Rattle.meaning.specs.Widget.{slot, is_filled}
 use Rattle.numbers.proofs.Laws.{eq_z_true}
-use Rattle.queue_calls.specs.Parts.{leads_if, slot_if, slots_if}
+use Rattle.queue_calls.specs.Parts.{leads_if, slot_if, slots_if, is_at}
 use Rattle.widget.proofs.Every.{every_more, every_no, upto_more, upto_done}
 
 -- what stands at a place of a list does not depend on what would stand past its end
@@ -28,13 +30,16 @@ get_d_any [] i d e h = absurd (omega arith)
 get_d_any (x ∷ xs) zero d e h = refl
 get_d_any (x ∷ xs) (suc i) d e h = get_d_any xs i d e (omega arith)
 
-pub filled_empty : {p : Option ℕ} → p ≡ None → false ≡ is_filled p
+-- what std's tests of an Option say
+pub filled_is : (p : Option ℕ) → is_some p ≡ is_filled p
 unfolding is_filled
-filled_empty e = rw e
+filled_is None = refl
+filled_is (Some n) = refl
 
-pub filled_at : {p : Option ℕ} {n : ℕ} → p ≡ Some n → true ≡ is_filled p
-unfolding is_filled
-filled_at e = rw e
+pub at_is : (d : ℕ) (p : Option ℕ) → option_eq eqb p (Some d) ≡ is_at d p
+unfolding is_at
+at_is d None = refl
+at_is d (Some e) = refl
 
 -- a slot of the lent array
 pub slot_read : (u : State) {slots : List ℤ} → u.slots ≡ slots → (d : ℕ) → d < length slots → {b : Bool}

@@ -20,11 +20,14 @@ use Rattle.queue_calls.specs.declared.own.Tally.{Tally}
 unfoldable pub tally_of : Chart → List Bool → ℕ → Tally
 tally_of c marks s = record { all = length (children c s); on = length (keep (λ d. get_or marks d false) (children c s)) }
 
+-- before any child is counted
+abbrev pub no_children : Tally
+no_children = record { all = 0; on = 0 }
+
 -- the same of every state
-pub record Tallied (c : Chart) (marks : List Bool) (all on : List ℕ) : Type 0 where
-  pub all_long : length all ≡ STATES
-  pub on_long : length on ≡ STATES
-  pub told : (s : ℕ) → s < STATES → record { all = get_or all s 0; on = get_or on s 0 } ≡ tally_of c marks s
+pub record Tallied (c : Chart) (marks : List Bool) (tallies : List Tally) : Type 0 where
+  pub long : length tallies ≡ STATES
+  pub told : (s : ℕ) → s < STATES → get_or tallies s no_children ≡ tally_of c marks s
 
 -- "value out of range", or an unused variable that is not 0
 unfoldable pub value_fits : List VarRow → ℕ → ℤ → Bool

@@ -10,32 +10,30 @@ ghost use Rattle.meaning.specs.Tree.{kind_of};
 ghost use Rattle.meaning.specs.Value.{chart_of};
 ghost use Rattle.meaning.specs.Widget.{is_filled, slot};
 ghost use Rattle.meaning.specs.Foreign.{legal_at, legal, values_fit, slots_fit, own as owns};
-ghost use Rattle.queue_calls.specs.Parts.{tally_of, Tallied, value_fits, leads_if, slot_if, slots_if, is_at, in_slot, Completes};
+ghost use Rattle.queue_calls.specs.Parts.{tally_of, no_children, Tallied, value_fits, leads_if, slot_if, slots_if, is_at, in_slot, Completes};
 
-use chart_rows::{kind_of, parent_of, state_count, var_count, var_row};
+use chart_rows::{event_count, kind_of, parent_of, state_count, var_count, var_row};
 use meaning::State;
 use meaning::chart::Kind;
-use numbers::{between, place_of, same};
+use numbers::{between, place_of};
 use sizes::{STATES, VARIABLES};
 use tree::kin::{is_child, is_o};
 use widget::fits::{marks_fit, queue_fits};
 
 // How many children a state has, and how many of them are active.
-#[derive(Drop)]
+#[derive(Clone, Copy)]
 pub struct Tally {
     pub all: u16,
     pub on: u16,
 }
 
+// Before any child is counted.
+const NO_CHILDREN: Tally = Tally { all: 0, on: 0 };
+
 // The same of every state. One pass over the states: each is counted at its parent.
-fn count_children(
-    chart: &[i32],
-    active: &[bool; STATES],
-    all: &mut [u16; STATES],
-    on: &mut [u16; STATES],
-)
-    requires { (all.old ≡ replicate states 0) × (on.old ≡ replicate states 0) }
-    ensures { Tallied (chart_of chart.now) active.now all.new on.new }
+fn count_children(chart: &[i32], active: &[bool; STATES], tallies: &mut [Tally; STATES])
+    requires { tallies.old ≡ replicate states no_children }
+    ensures { Tallied (chart_of chart.now) active.now tallies.new }
 {
     let n = state_count(chart);
     for d in 0..n {
@@ -46,11 +44,11 @@ fn count_children(
         if STATES <= p {
             continue;
         }
-        all[p] += 1;
-        if !active[d] {
-            continue;
-        }
-        on[p] += 1;
+        let Tally { all, on } = tallies[p];
+        tallies[p] = Tally {
+            all: all + 1,
+            on: on + u16::from(active[d]),
+        };
     }
 }
 
@@ -77,15 +75,10 @@ fn legal(chart: &[i32], active: &[bool; STATES]) -> bool
         return false;
     }
     let n = state_count(chart);
-    let mut all = [0u16; STATES];
-    let mut on = [0u16; STATES];
-    count_children(chart, active, &mut all, &mut on);
+    let mut tallies = [NO_CHILDREN; STATES];
+    count_children(chart, active, &mut tallies);
     for s in 0..n {
-        let t = Tally {
-            all: all[s],
-            on: on[s],
-        };
-        if !legal_at(chart, active, s, t) {
+        if !legal_at(chart, active, s, tallies[s]) {
             return false;
         }
     }
@@ -100,7 +93,7 @@ fn value_fits(chart: &[i32], v: usize, x: i32) -> bool
         let row = var_row(chart, v);
         return between(row.low, x, row.high);
     }
-    same(0, x)
+    x == 0
 }
 
 // The variables from a place on are 0. Each is looked at, with no way out before the last: so the compiler tests many at once.
@@ -110,7 +103,7 @@ fn rest_zero(end: usize, vars: &[i32; VARIABLES]) -> bool
 {
     let mut fit = true;
     for v in end..VARIABLES {
-        fit &= same(0, vars[v]);
+        fit &= vars[v] == 0;
     }
     fit
 }
@@ -120,22 +113,14 @@ fn values_fit(chart: &[i32], vars: [i32; VARIABLES]) -> bool
     ensures { result ≡ values_fit (chart_of chart.now).vars vars }
 {
     let n = var_count(chart);
-    for v in 0..n {
-        if !value_fits(chart, v, vars[v]) {
-            return false;
-        }
-    }
-    rest_zero(n, &vars)
+    (0..n).all(|v| value_fits(chart, v, vars[v])) && rest_zero(n, &vars)
 }
 
 // An empty slot's marker is never taken for a state.
 fn filled(x: i32) -> bool
     ensures { result ≡ is_filled (place_of x) }
 {
-    match place_of(x) {
-        None => false,
-        Some(_) => true,
-    }
+    place_of(x).is_some()
 }
 
 // Whether a slot holds a state.
@@ -143,13 +128,7 @@ fn holds(slots: &[i32; STATES], s: usize, d: usize) -> bool
     requires { length slots.now ≡ states }
     ensures { (u : Widget) → u.slots ≡ slots.now → result ≡ is_at d (slot u s) }
 {
-    if STATES <= s {
-        return false;
-    }
-    let Some(e) = place_of(slots[s]) else {
-        return false;
-    };
-    e == d
+    s < STATES && place_of(slots[s]) == Some(d)
 }
 
 // An a state in the slot of its parent.
@@ -199,18 +178,10 @@ fn slot_fits(chart: &[i32], slots: &[i32; STATES], s: usize, x: i32, whole: bool
     ensures { (u : Widget) → u.slots ≡ slots.now → result ≡ slot_if whole (chart_of chart.now) u s x }
 {
     let Some(d) = place_of(x) else {
-        return same(x, -1);
+        return x == -1;
     };
-    if state_count(chart) <= d {
-        return false;
-    }
-    if !is_o(kind_of(chart, s)) {
-        return false;
-    }
-    if !is_child(chart, s, d) {
-        return false;
-    }
-    leads_on(chart, slots, d, whole)
+    d < state_count(chart)
+        && (is_o(kind_of(chart, s)) && (is_child(chart, s, d) && leads_on(chart, slots, d, whole)))
 }
 
 // The slots from a place on are empty. Each is looked at, with no way out before the last: so the compiler tests many at once.
@@ -220,7 +191,7 @@ pub fn rest_empty(end: usize, slots: &[i32; STATES]) -> bool
 {
     let mut fit = true;
     for s in end..STATES {
-        fit &= same(-1, slots[s]);
+        fit &= slots[s] == -1;
     }
     fit
 }
@@ -243,13 +214,8 @@ fn fit_below(chart: &[i32], slots: &[i32; STATES], end: usize) -> bool
     requires { (length slots.now ≡ states) × (end ≤ states) × (every (eq_z (negsuc 0)) (drop end slots.now) ≡ true) }
     ensures { (u : Widget) → u.slots ≡ slots.now → result ≡ slots_fit (chart_of chart.now) u }
 {
-    if each_fits(chart, slots, end, false) {
-        return true;
-    }
-    if !components_filled(chart, slots) {
-        return false;
-    }
-    each_fits(chart, slots, end, true)
+    each_fits(chart, slots, end, false)
+        || (components_filled(chart, slots) && each_fits(chart, slots, end, true))
 }
 
 // Where no slot past the chart's states is filled, only theirs are tested one by one.
@@ -268,22 +234,8 @@ fn slots_fit(chart: &[i32], slots: &[i32; STATES]) -> bool
 pub fn own(chart: &[i32], state: State) -> bool
     ensures { result ≡ owns (chart_of chart.now) state }
 {
-    let active = state.active;
-    if !legal(chart, &active) {
-        return false;
-    }
-    let marks = state.active;
-    if !marks_fit(state_count(chart), marks) {
-        return false;
-    }
-    let vars = state.vars;
-    if !values_fit(chart, vars) {
-        return false;
-    }
-    let slots = state.slots;
-    if !slots_fit(chart, &slots) {
-        return false;
-    }
-    let queue = state.queue;
-    queue_fits(chart_rows::event_count(chart), queue)
+    legal(chart, &state.active)
+        && (marks_fit(state_count(chart), state.active)
+            && (values_fit(chart, state.vars)
+                && (slots_fit(chart, &state.slots) && queue_fits(event_count(chart), state.queue))))
 }

@@ -67,6 +67,7 @@ pub fn settle(
     let mut next = at;
     let mut turns: usize = 0;
     let mut picks = [0; PICKS];
+    // the form that 01 names: a loop that yields the settled widget or the refusal
     loop {
         let count = choose(c.chart, 0, &widget.active, &widget.vars, &mut picks);
         if count == 0 {

@@ -19,7 +19,7 @@ use Rattle.meaning.specs.declared.Answer.{Answer}
 use Rattle.fields.specs.Parts.{Stop}
 use Rattle.fields.proofs.SplitLaws.{stop_is}
 use Rattle.lines.proofs.MarkLaws.{worse_last}
-use Rattle.std.proofs.Common.{Option, None, Some}
+use Rattle.std.proofs.Common.{Option, None, Some, ControlFlow, Break}
 use Rattle.std.specs.Prelude.{position}
 use Rattle.std.proofs.lemmas.List.{take_all}
 use Rattle.meaning.specs.Lists.{has}
@@ -29,7 +29,7 @@ use Rattle.lines.specs.Took.{Took}
 use Rattle.round_trip.specs.Rows.{Whole}
 use Rattle.reader.specs.Order.{turn_of, place_of, turns_after, Within, with_counts}
 use Rattle.reader.specs.Scanned.{zeros, Scanned}
-use Rattle.reader.specs.Onward.{laid_out, Walking, Onward, begun, over, no_turns}
+use Rattle.reader.specs.Onward.{laid_out, Walking, Onward, no_turns}
 use Rattle.reader.specs.declared.order.Turns.{Turns}
 use Rattle.reader.specs.declared.scan.Progress.{Progress}
 use Rattle.reader.proofs.LayLaws.{laid_none, length_zeros, next_numbers, counted_numbers}
@@ -62,7 +62,8 @@ module _ (s : List ℕ) (at : ℕ) where
     walk_next = rw lines_next
 
 -- the place of the first LF, in what is left of the text
-pub stop_left : (s : List ℕ) (at : ℕ) (r : Option ℕ) → r ≡ position (λ b. eqb b 10) (take (length s - at) (drop at s)) → Stop 10 (drop at s) r
+pub stop_left : (s : List ℕ) (at : ℕ) (r : Option ℕ) → r ≡ position (λ b. eqb b 10) (take (length s - at) (drop at s))
+    → Stop 10 (drop at s) r
 stop_left s at r e =
     let k : length (drop at s) ≤ length s - at = omega (arith, length-drop at s) in
     stop_is 10 (drop at s) r (rw (take_all (length s - at) (drop at s) k) at e)
@@ -194,7 +195,8 @@ module _ (s : List ℕ) (n0 : ℕ) (l : List ℤ) (at n : ℕ) (t : Turns) (w : 
           let hi = line_inside s at k q in
           let fits = row_fits r (turns_of w.read) fs (sym mark_is ∙ z) in
           let stored : VALUE ≤ n0 → l' ≡ sets (laid_out w.read (zeros (n0 - VALUE))) (place_of r t) y =
-          λ v. o.row z ∙ ap (λ (x : Line). sets l (place_of r t) x.row) as_read ∙ ap (λ (x : List ℤ). sets x (place_of r t) y) (w.numbers v) in
+          λ v. o.row z ∙ ap (λ (x : Line). sets l (place_of r t) x.row) as_read
+          ∙ ap (λ (x : List ℤ). sets x (place_of r t) y) (w.numbers v) in
           let at_row : place_of r t ≡ place (laid r) + length (w.read r) * row_size r =
           ap (λ (n : ℕ). place (laid r) + n * row_size r) (ap (λ (f : Record → ℕ). f r) turns_are) in
           record {
@@ -222,33 +224,7 @@ module _ (s : List ℕ) (n0 : ℕ) (l : List ℤ) (at n : ℕ) (t : Turns) (w : 
 
 -- ---- how far the reading has come
 
-no_clash : {A : Type 0} → true ≡ false → A
-no_clash f = let z : ◌≡◌ {A = ℕ} 0 1 = cc in absurd (omega arith)
-
-module _ (s : List ℕ) (n0 : ℕ) (l : List ℤ) where
-  -- before the first line
-  pub onward_start : l ≡ zeros n0 → Onward s n0 l begun
-  onward_start e = record { goes = λ f. walking_start s n0 l e; ends = no_clash }
-
-  pub onward_over : (at : ℕ) (a : Answer) (r : Progress) → r ≡ over a → Scanned (walk 1 no_rows (lines s)) a n0 l
-      → Onward s n0 l r × (r.going ≡ true → at < r.at)
-  onward_over at a r e h = subst (λ x. Onward s n0 l x × (x.going ≡ true
-      → at < x.at)) (sym e) (record { goes = λ f. no_clash (sym f); ends = λ f. h }, λ f. no_clash (sym f))
-
-  pub onward_next : (at next n : ℕ) (t : Turns) → Walking s n0 l next n t → at < next
-      → Onward s n0 l (record { going = true; at = next; line = n; turns = t; answer = answer 0 0 }) × (true ≡ true → at < next)
-  onward_next at next n t w h = (record { goes = λ f. w; ends = no_clash }, λ f. h)
-
--- what is left to read falls with each line
-pub left : List ℕ → Progress → ℕ
-left s p = cond p.going (suc (suc (length s)) - p.at) 0
-
-pub left_falls : (s : List ℕ) (n0 : ℕ) (l l' : List ℤ) (p r : Progress) → p.going ≡ true → Onward s n0 l p → Onward s n0 l' r
-    → (r.going ≡ true → p.at < r.at)
-    → left s r < left s p
-unfolding left
-left_falls s n0 l l' p r g h k less = subst (λ b. left s r < cond b (suc (suc (length s)) - p.at) 0) (sym g) (by r.going refl)
-  where
-    by : (b : Bool) → r.going ≡ b → cond b (suc (suc (length s)) - r.at) 0 < suc (suc (length s)) - p.at
-    by true e = omega (arith, less e, (k.goes e).inside)
-    by false e = omega (arith, (h.goes g).inside)
+module _ (s : List ℕ) (n0 : ℕ) (l : List ℤ) (at : ℕ) where
+  pub onward_over : (a : Answer) (r : ControlFlow Answer Progress) → r ≡ Break a → Scanned (walk 1 no_rows (lines s)) a n0 l
+      → Onward s n0 l at r
+  onward_over a r e h = subst (Onward s n0 l at) (sym e) h

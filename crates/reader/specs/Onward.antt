@@ -1,9 +1,11 @@
 -- What is held while a text is read line by line: how far the reading has come, and what the lent numbers hold then. Assumes nothing.
-use Rattle.std.specs.Prelude.{◌≡◌, true, false, List, [], ◌∷◌, ◌++◌, ℕ, ◌+◌, ◌-◌, ◌≤◌, ℤ, pos, length, drop}
+use Rattle.std.specs.Prelude.{◌≡◌, List, [], ◌∷◌, ◌++◌, ℕ, ◌+◌, ◌-◌, ◌<◌, ◌≤◌, ℤ, pos, length, drop}
+use Rattle.std.specs.declared.ops.ControlFlow.{ControlFlow}
+use Rattle.std.specs.declared.ops.ControlFlow.TheVariants.{Continue, Break}
 use Rattle.meaning.specs.Lists.{concat_map}
 use Rattle.meaning.specs.Value.{Rows, Part, counted, laid, PARTS, VALUE}
 use Rattle.meaning.specs.Split.{lines}
-use Rattle.meaning.specs.Text.{answer, part_of, no_rows, walk}
+use Rattle.meaning.specs.Text.{part_of, no_rows, walk}
 use Rattle.meaning.specs.declared.Answer.{Answer}
 use Rattle.round_trip.specs.Rows.{Fit}
 use Rattle.reader.specs.Order.{turns_in}
@@ -36,13 +38,9 @@ no_turns = turns_in no_rows
 
 -- before the first line
 abbrev pub begun : Progress
-begun = record { going = true; at = 0; line = 1; turns = no_turns; answer = answer 0 0 }
+begun = record { at = 0; line = 1; turns = no_turns }
 
--- no line is to be read any more
-abbrev pub over : Answer → Progress
-over a = record { going = false; at = 0; line = 0; turns = no_turns; answer = a }
-
--- so far: the next line is to be read, or the reading is over with its answer
-pub record Onward (s : List ℕ) (n0 : ℕ) (l : List ℤ) (p : Progress) : Type 0 where
-  pub goes : p.going ≡ true → Walking s n0 l p.at p.line p.turns
-  pub ends : p.going ≡ false → Scanned (walk 1 no_rows (lines s)) p.answer n0 l
+-- of the line that starts at a place: the next line, which starts further on, is to be read, or the reading is over with its answer
+abbrev pub Onward : List ℕ → ℕ → List ℤ → ℕ → ControlFlow Answer Progress → Type 0
+Onward s n0 l at (Continue p) = Walking s n0 l p.at p.line p.turns × (at < p.at)
+Onward s n0 l at (Break a) = Scanned (walk 1 no_rows (lines s)) a n0 l

@@ -13,6 +13,7 @@ ghost use Rattle.reader.specs.Scanned.{zeros, Scanned};
 
 use meaning::Answer;
 use scan::{begin, line_at};
+use std::ops::ControlFlow;
 
 #[derive(Drop)]
 pub struct Reader<'a> {
@@ -35,9 +36,12 @@ pub fn walk(text: &[u8], chart: &mut [i32]) -> Answer
 {
     let mut reader = open(text);
     let mut so_far = begin();
-    while so_far.going {
-        so_far = line_at(reader.text, reader.at, so_far, chart);
+    // The walk that 01 names: it counts nothing, and each line says whether another follows.
+    loop {
+        match line_at(reader.text, reader.at, so_far, chart) {
+            ControlFlow::Continue(next) => so_far = next,
+            ControlFlow::Break(answer) => return answer,
+        }
         reader.at = so_far.at;
     }
-    so_far.answer
 }

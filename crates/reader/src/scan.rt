@@ -1,65 +1,52 @@
 // One line of a text (01, "Chart text"): it is read into the chart's numbers, and the first faulty one is told. Here are plain slices and
 // numbers; the reader's struct, which walks over the lines, is in lib.rt.
-ghost use Rattle.std.specs.Prelude.{◌≡◌, true, ◌<◌, length};
+ghost use Rattle.std.specs.Prelude.{◌≡◌, length};
+ghost use Rattle.std.specs.declared.ops.ControlFlow.TheVariants.{Break};
 ghost use Rattle.meaning.specs.Line.{faulty as fault_of};
-ghost use Rattle.reader.specs.Onward.{Walking, Onward, begun, over as ended};
+ghost use Rattle.reader.specs.Onward.{Walking, Onward, begun};
 
 use crate::order::{Turns, line, put_counts};
 use chart_rows::kinds::Record;
 use fields::{LF, letter_at, stop};
 use meaning::answers::{OUTSIDE_SIZE, WRONG_LINE};
 use meaning::{Answer, Fault};
+use std::ops::ControlFlow;
 
-// How far the reading has come: whether it goes on, where the next line starts, its number, and what was counted; else the answer.
+// How far the reading has come: where the next line starts, its number, and what was counted.
 #[derive(Drop)]
 pub struct Progress {
-    pub going: bool,
     pub at: usize,
     pub line: usize,
     pub turns: Turns,
-    pub answer: Answer,
 }
 
 // Before the first line.
-const START: Turns = Turns {
-    states: 0,
-    vars: 0,
-    events: 0,
-    transitions: 0,
-    actions: 0,
-};
-
 pub fn begin() -> Progress
     ensures { result ≡ begun }
 {
     Progress {
-        going: true,
         at: 0,
         line: 1,
-        turns: START,
-        answer: Answer {
-            number: 0,
-            place: 0,
+        turns: Turns {
+            states: 0,
+            vars: 0,
+            events: 0,
+            transitions: 0,
+            actions: 0,
         },
     }
 }
 
 // No line is to be read any more.
-fn over(number: usize, place: usize) -> Progress
-    ensures { result ≡ ended (record { number = number; place = place }) }
+fn over(number: usize, place: usize) -> ControlFlow<Answer, Progress>
+    ensures { result ≡ Break (record { number = number; place = place }) }
 {
-    Progress {
-        going: false,
-        at: 0,
-        line: 0,
-        turns: START,
-        answer: Answer { number, place },
-    }
+    ControlFlow::Break(Answer { number, place })
 }
 
 // What is wrong with a line, at its number.
-fn faulty(fault: Fault, line: usize) -> Progress
-    ensures { result ≡ ended (record { number = (fault_of fault).mark; place = line }) }
+fn faulty(fault: Fault, line: usize) -> ControlFlow<Answer, Progress>
+    ensures { result ≡ Break (record { number = (fault_of fault).mark; place = line }) }
 {
     match fault {
         Fault::Wrong => over(WRONG_LINE, line),
@@ -68,17 +55,19 @@ fn faulty(fault: Fault, line: usize) -> Progress
 }
 
 // The line that starts at a place is read; behind the last LF the reading is over.
-pub fn line_at(text: &[u8], at: usize, p: Progress, chart: &mut [i32]) -> Progress
+pub fn line_at(
+    text: &[u8],
+    at: usize,
+    p: Progress,
+    chart: &mut [i32],
+) -> ControlFlow<Answer, Progress>
     requires { Walking text.now (length chart.old) chart.old at p.line p.turns }
-    ensures { Onward text.now (length chart.old) chart.new result × (result.going ≡ true → at < result.at) }
+    ensures { Onward text.now (length chart.old) chart.new at result }
 {
     let n = p.line;
     let turns = p.turns;
     let Some(k) = stop(&text[at..], LF) else {
-        if at < text.len() {
-            return over(WRONG_LINE, n);
-        }
-        if turns.events < 1 {
+        if at < text.len() || turns.events < 1 {
             return over(WRONG_LINE, n);
         }
         put_counts(chart, turns);
@@ -90,15 +79,10 @@ pub fn line_at(text: &[u8], at: usize, p: Progress, chart: &mut [i32]) -> Progre
     };
     match line(s, kind, turns, chart) {
         Err(fault) => faulty(fault, n),
-        Ok(()) => Progress {
-            going: true,
+        Ok(()) => ControlFlow::Continue(Progress {
             at: at + k + 1,
             line: n + 1,
             turns: turns.more(kind),
-            answer: Answer {
-                number: 0,
-                place: 0,
-            },
-        },
+        }),
     }
 }

@@ -5,7 +5,6 @@ use native.Mathlib.Omega.{arith}
 use mathlib.Core.Bool.{true, false}
 use mathlib.Core.List.{List, [], ◌∷◌}
 use lib.ListN.{length, get_or, take}
-use lib.Seq.{get_or-take, length-take-le, take_all}
 use lib.IntN.{ℤ, pos}
 use Rattle.queue.specs.Numbers.{places}
 use Rattle.queue.specs.Queue.{item, no_item}
@@ -32,31 +31,32 @@ places_enough (e ∷ []) n h = omega (arith, h)
 places_enough (e ∷ a ∷ ns) zero h = omega arith
 places_enough (e ∷ a ∷ ns) (suc n) h = let g = places_enough ns n (omega (arith, h)) in omega (arith, g)
 
--- so many of them are there
-pub so_many : (ns : List ℤ) (n : ℕ) → 2 * n ≤ length ns → length (take n (items_of ns)) ≡ n
-so_many ns n h = length-take-le n (places ns) (places_enough ns n h)
+-- half as many as numbers
+pub how_many : (ns : List ℤ) → length (items_of ns) ≡ length ns / 2
+how_many ns =
+    let f = places_few ns in
+    let g = places_enough ns (length ns / 2) (omega arith) in
+    omega (arith, f, g)
 
-pub half : (n : ℕ) → (2 * (n / 2) ≤ n) × (n ≤ 2 * (n / 2) + 1)
-half n = (omega arith, omega arith)
+-- the first so many of them are said by the numbers before the next one
+one_more : (d : ℕ) → ((xs : List ℤ) → places (take (2 * d) xs) ≡ take d (places xs)) → (ns : List ℤ)
+    → places (take (suc (suc (2 * d))) ns) ≡ take (suc d) (places ns)
+unfolding places
+one_more d f [] = refl
+one_more d f (e ∷ []) = refl
+one_more d f (e ∷ a ∷ ns) = ap (λ xs. item e a ∷ xs) (f ns)
 
--- half as many as numbers are all of them
-pub all_items : (ns : List ℤ) (n : ℕ) → length ns ≤ 2 * n + 1 → take n (items_of ns) ≡ items_of ns
-all_items ns n h = let g = places_few ns in take_all n (places ns) (omega (arith, g, h))
+pub first_of : (d : ℕ) (ns : List ℤ) → items_of (take (2 * d) ns) ≡ take d (items_of ns)
+unfolding places
+first_of zero ns = refl
+first_of (suc d) ns =
+    let s : 2 * suc d ≡ suc (suc (2 * d)) = omega arith in
+    ap (λ n. places (take n ns)) s ∙ one_more d (λ xs. first_of d xs) ns
 
 -- the event at a place, with its argument
-pub event_at : (ns : List ℤ) (n d : ℕ) (e a : ℤ) → d < n → 2 * n ≤ length ns → e ≡ get_or ns (2 * d) (pos 0)
-    → a ≡ get_or ns (2 * d + 1) (pos 0) → get_or (take n (items_of ns)) d no_item ≡ item e a
-event_at ns n d e a l h f g =
-    let s : suc (2 * d) ≡ 2 * d + 1 = omega arith in
-    get_or-take n (places ns) d no_item l
-    ∙ places_at ns d (pos 0) (omega (arith, l, h))
-    ∙ ap (λ x. item x (get_or ns (suc (2 * d)) (pos 0))) (sym f)
-    ∙ ap (item e) (ap (λ j. get_or ns j (pos 0)) s ∙ sym g)
-
--- the same of all of them
-pub event_here : (ns : List ℤ) (d : ℕ) (e a : ℤ) → d < length (items_of ns) → e ≡ get_or ns (2 * d) (pos 0)
+pub event_at : (ns : List ℤ) (d : ℕ) (e a : ℤ) → d < length (items_of ns) → e ≡ get_or ns (2 * d) (pos 0)
     → a ≡ get_or ns (2 * d + 1) (pos 0) → get_or (items_of ns) d no_item ≡ item e a
-event_here ns d e a l f g =
+event_at ns d e a l f g =
     let h = places_few ns in
     let s : suc (2 * d) ≡ 2 * d + 1 = omega arith in
     places_at ns d (pos 0) (omega (arith, l, h))

@@ -7,14 +7,10 @@ use mathlib.Core.List.{List, [], ◌++◌}
 use lib.ListN.{length, get_or, replicate, take}
 use lib.Seq.{length-take-le}
 use lib.IntN.{ℤ, pos}
-use Rattle.sizes.specs.Sizes.{QUEUE}
-use Rattle.queue.specs.Numbers.{numbers_of, queue_by}
+use Rattle.std.specs.Prelude.{Result, Ok, Err}
 use Rattle.queue.specs.Queue.{appended, no_item}
 use Rattle.queue.specs.declared.Item.{Item}
 use Rattle.queue.specs.declared.Queue.{Queue}
-use Rattle.queue.proofs.Numbers.{held_lent, numbers_long}
-use Rattle.invariants.specs.Good.{Sized}
-use Rattle.invariants.proofs.Values.{fits_len}
 use Rattle.meaning.specs.Calls.{Outcome, outcome, as_found}
 use Rattle.meaning.specs.Foreign.{event_fits}
 use Rattle.meaning.specs.Lists.{padded}
@@ -23,14 +19,14 @@ use Rattle.meaning.specs.Plan.{Plan}
 use Rattle.meaning.specs.Steps.{◌then◌, bind, require}
 use Rattle.meaning.specs.Widget.{ENTRY, begin, is_active, set_queue}
 use Rattle.meaning.specs.declared.State.{State}
-use Rattle.widget.specs.View.{Lent, all_lent, widget, with_queue}
 use Rattle.plan_invariants.specs.Replay.{post_on, replay_examined}
-use Rattle.plan_invariants.proofs.Calls.{own_fit}
 use Rattle.promises.specs.Replay.{Course, course, or_stop, replayed}
 use Rattle.promises.specs.declared.Replayed.{Replayed}
-use Rattle.replaying.specs.Course.{Broken, GoneThrough, Owned, Starts, Told, through}
-use Rattle.replaying.specs.declared.course.Gone.{Gone}
-use Rattle.replaying.proofs.Turning.{post_0, post_10, post_6, post_9}
+use Rattle.replaying.specs.Course.{Broken, GoneThrough, Halted, Starts, Told, through}
+use Rattle.replaying.specs.declared.course.Halt.{Halt}
+use Rattle.replaying.specs.declared.turns.Stopped.{Stopped}
+use Rattle.replaying.specs.declared.turns.Stopped.TheVariants.{AtPost, AtRun}
+use Rattle.replaying.proofs.Turning.{post_0, post_10, post_6, post_9, queued, queued_is}
 
 -- ---- what is told
 
@@ -39,18 +35,13 @@ pub told_none : (n : ℕ) (u : State) (t t₁ : List ℤ) → t₁ ≡ take 0 t 
 unfolding replayed padded
 told_none n u t t₁ e = record { result = refl; lent = e }
 
-pub told_all : (d n at : ℕ) (k : Lent) (t₁ : List ℤ) (q : Queue) → at ≤ length k.trace → q ≡ queue_by k.queue
-    → t₁ ≡ take at k.trace ++ replicate (length k.trace - at) (pos 0)
-    → Told (course d n (widget k) (take at k.trace)) k.trace (record {
-      answer = record { number = n; place = 0 };
-      state = record { started = true; active = k.active; slots = k.slots; vars = k.vars; queue = q };
-      done = d;
-      entries = at / ENTRY;
-    }) t₁
+pub told_all : (d n at : ℕ) (u : State) (t t₁ : List ℤ) → at ≤ length t → t₁ ≡ take at t ++ replicate (length t - at) (pos 0)
+    → Told (course d n u (take at t)) t
+    (record { answer = record { number = n; place = 0 }; state = u; done = d; entries = at / ENTRY }) t₁
 unfolding replayed padded
-told_all d n at k t₁ q l h e =
-    let m : length (take at k.trace) ≡ at = length-take-le at k.trace l in
-    record { result = rw (m, h); lent = rw m e }
+told_all d n at u t t₁ l e =
+    let m : length (take at t) ≡ at = length-take-le at t l in
+    record { result = rw m refl; lent = rw m e }
 
 pub told_as : {c b : Course} {t s : List ℤ} {r : Replayed} {t₁ : List ℤ} → c ≡ b → length t ≡ length s → Told b s r t₁ → Told c t r t₁
 told_as {c} {b} {t} e l h = record {
@@ -81,27 +72,6 @@ module _ (p : Plan) (u : State) (xs : List Item) (n : ℕ) where
   unfolding or_stop outcome require ◌then◌ bind begin
   once_on h = once_by true true h.started h.own
 
--- ---- a widget as it is lent
-
-module _ {p : Plan} {u : State} (h : Starts p u) (z : Sized u) {ns : List ℤ} (l : ns ≡ numbers_of u.queue) (t : List ℤ) where
-  short : u.queue.len ≤ QUEUE
-  short = fits_len p.events u.queue (own_fit p u z h.started h.own).queue
-
-  pub widget_is : u ≡ widget (all_lent u.active u.slots u.vars ns t)
-  widget_is = sym
-      (ap (λ b. record { started = b; active = u.active; slots = u.slots; vars = u.vars; queue = queue_by ns }) (sym h.started)
-      ∙ ap (λ r. record { started = u.started; active = u.active; slots = u.slots; vars = u.vars; queue = r })
-      (ap queue_by l ∙ held_lent u.queue short))
-
-  pub owned_lent : Owned p (all_lent u.active u.slots u.vars ns t)
-  owned_lent = record {
-    own = subst (λ v. plan_own p.states p.vars p.events v ≡ true) widget_is h.own;
-    active = z.active;
-    slots = z.slots;
-    vars = z.vars;
-    whole = ap length l ∙ numbers_long u.queue z.items;
-  }
-
 -- ---- a post that is done appends
 
 posted_after : (p : Plan) (x : Item) (u : State) → (post_on p x u).number ≡ 0
@@ -123,48 +93,40 @@ posted_after p x u z = go (is_active u 0) (event_fits p.events x.event x.arg) (a
 
 -- ---- the ends of the events
 
-module _ {p : Plan} {u : State} (h : Starts p u) (z : Sized u) {ns : List ℤ} (l : ns ≡ numbers_of u.queue) (t : List ℤ) where
-  module _ {xs ys : List Item} (e : xs ≡ ys) {g : Gone} {k : Lent}
-      (w : GoneThrough p xs (all_lent u.active u.slots u.vars ns t) g k) where
-    -- none is left, or a post is refused
-    pub ended_told : {r : Replayed} {t₁ : List ℤ} → g.posted ≡ false
-        → Told (course g.done g.number (widget k) (take g.at k.trace)) k.trace r t₁
-        → Told (replay_examined p u ys (length t)) t r t₁
-    ended_told y f = told_as
-        (ap (λ zs. replay_examined p u zs (length t)) (sym e) ∙ once_on p u xs (length t) h
-        ∙ ap (λ v. through p (length t) v xs) (widget_is h z l t) ∙ w.ended y) (sym w.kept) f
+module _ {p : Plan} {u : State} (h : Starts p u) {t t' : List ℤ} (l : length t' ≡ length t) where
+  -- none is left, or a post is refused
+  pub ended_told : (xs : List Item) {c : Course} → through p (length t) u xs ≡ c → {r : Replayed} {t₁ : List ℤ}
+      → Told c t' r t₁ → Told (replay_examined p u xs (length t)) t r t₁
+  ended_told xs y f = told_as (once_on p u xs (length t) h ∙ y) (sym l) f
 
-    -- a run is refused, seen from the state that it began with
-    pub broken_here : g.posted ≡ true → Broken p (length k.trace) ys u g.done g.number
-    broken_here y =
-        subst (λ n. Broken p n ys u g.done g.number) (sym w.kept)
-        (subst (λ zs. Broken p (length t) zs u g.done g.number) e
-        (subst (λ v. Broken p (length t) xs v g.done g.number) (sym (widget_is h z l t)) (w.broken y)))
+-- a run is refused, seen from the state that it began with
+pub broken_here : {p : Plan} {u : State} (t t' : List ℤ) → length t' ≡ length t → {xs : List Item} {d m : ℕ}
+    → Broken p (length t) xs u d m → Broken p (length t') xs u d m
+broken_here {p} {u} t t' l {xs} {d} {m} b = subst (λ n. Broken p n xs u d m) (sym l) b
 
-  module _ {xs : List Item} {d m : ℕ} (b : Broken p (length t) xs u d m) {g : Gone} {k : Lent}
-      (w : GoneThrough p (take d xs) (all_lent u.active u.slots u.vars ns t) g k) where
-    -- the same events once more are not refused, and what is lent says the state after them
-    again : (y : Bool) → g.posted ≡ y → (through p (length t) u (take d xs)).after ≡ widget k
-    again false y = ap (λ (c : Course). c.after) (ap (λ v. through p (length t) v (take d xs)) (widget_is h z l t) ∙ w.ended y)
-    again true y =
-        let s = ap (λ v. through p (length t) v (take d xs)) (widget_is h z l t) ∙ (w.broken y).ends in
-        absurd ((w.broken y).refused (ap (λ (c : Course). c.number) (sym s) ∙ b.done))
+-- the events before a refused run, once more, are not refused: what is lent says the state after them, and the trace keeps its length
+again_by : {p : Plan} {u : State} (t : List ℤ) {xs : List Item} {d m : ℕ} → Broken p (length t) xs u d m → (e at : ℕ) (s : Stopped)
+    (u' : State) (t' : List ℤ) → Halted p (take d xs) u t e at s u' t' → (through p (length t) u (take d xs)).after ≡ u'
+again_by t b e at (AtPost r) u' t' w = ap (λ (c : Course). c.after) w
+again_by t b e at (AtRun r) u' t' w = absurd (w.refused (ap (λ (c : Course). c.number) (sym w.ends) ∙ b.done))
 
-    module _ {x : Item} (i : get_or xs d no_item ≡ x) (ms : List ℤ)
-        (q : queue_by ms ≡ (appended (queue_by k.queue) x.event x.arg).queue)
-      where
-        after_is : post_on p (get_or xs d no_item) (through p (length t) u (take d xs)).after ≡ post_on p x (widget k)
-        after_is = ap (λ y. post_on p y (through p (length t) u (take d xs)).after) i ∙ ap (post_on p x) (again g.posted refl)
+again : {p : Plan} {u : State} (t : List ℤ) {xs : List Item} {d m : ℕ} → Broken p (length t) xs u d m → (r : Result ℕ Halt)
+    (u' : State) (t' : List ℤ) → GoneThrough p (take d xs) u t r u' t'
+    → ((through p (length t) u (take d xs)).after ≡ u') × (length t' ≡ length t)
+again t b (Ok at) u' t' w = (ap (λ (c : Course). c.after) w.0, w.2)
+again t b (Err g) u' t' w = (again_by t b g.done g.at g.why u' t' w.0, w.2)
 
-        state_is : (post_on p (get_or xs d no_item) (through p (length t) u (take d xs)).after).after ≡ widget (with_queue ms k)
-        unfolding set_queue
-        state_is =
-            ap (λ (o : Outcome). o.after) after_is
-            ∙ posted_after p x (widget k) (ap (λ (o : Outcome). o.number) (sym after_is) ∙ b.posted)
-            ∙ ap (λ y. record { started = true; active = k.active; slots = k.slots; vars = k.vars; queue = y }) (sym q)
-
-        pub broken_told : {r : Replayed} {t₁ : List ℤ}
-            → Told (course d m (widget (with_queue ms k)) (take 0 k.trace)) k.trace r t₁
-            → Told (replay_examined p u xs (length t)) t r t₁
-        broken_told f = told_as
-            (once_on p u xs (length t) h ∙ b.ends ∙ ap (λ v. course d m v []) state_is) (sym w.kept) f
+module _ {p : Plan} {u : State} (h : Starts p u) (t : List ℤ) {xs : List Item} {d m : ℕ} (b : Broken p (length t) xs u d m)
+    (r : Result ℕ Halt) (u' : State) (t' : List ℤ) (w : GoneThrough p (take d xs) u t r u' t') where
+  pub broken_told : {x : Item} → get_or xs d no_item ≡ x → {q : Queue} → q ≡ (appended u'.queue x.event x.arg).queue
+      → {s : Replayed} {t₁ : List ℤ} → Told (course d m (queued q u') (take 0 t')) t' s t₁
+      → Told (replay_examined p u xs (length t)) t s t₁
+  broken_told {x} i {q} j f =
+      let a : post_on p (get_or xs d no_item) (through p (length t) u (take d xs)).after ≡ post_on p x u' =
+      ap (λ y. post_on p y (through p (length t) u (take d xs)).after) i ∙ ap (post_on p x) (again t b r u' t' w).0 in
+      let n : (post_on p (get_or xs d no_item) (through p (length t) u (take d xs)).after).after ≡ queued q u' =
+      ap (λ (o : Outcome). o.after) a
+      ∙ posted_after p x u' (ap (λ (o : Outcome). o.number) (sym a) ∙ b.posted)
+      ∙ queued_is (appended u'.queue x.event x.arg).queue u'
+      ∙ ap (λ y. queued y u') (sym j) in
+      told_as (once_on p u xs (length t) h ∙ b.ends ∙ ap (λ v. course d m v []) n) (sym (again t b r u' t' w).1) f

@@ -1,21 +1,15 @@
 -- One event posted and run, test by test, over plain variables. Assumes nothing.
 use mathlib.Core.Path.{◌≡◌, refl, sym, ap, ◌∙◌, subst}
-use mathlib.Core.Logic.{⊎_elim}
-use Prim.Native.Nat.{ℕ, ◌≤◌, ◌<◌}
-use native.Mathlib.Omega.{arith}
-use mathlib.Core.Bool.{Bool, true, false, false≢true, true≢false}
+use Prim.Native.Nat.{ℕ}
+use mathlib.Core.Bool.{Bool, true, false}
 use mathlib.Core.List.{List, []}
 use lib.ListN.{length, get_or}
 use lib.IntN.{ℤ}
-use Rattle.sizes.specs.Sizes.{QUEUE}
 use Rattle.numbers.specs.Reference.{ref}
 use Rattle.queue.specs.Queue.{appended, removed}
-use Rattle.queue.specs.Numbers.{queue_by}
 use Rattle.queue.specs.declared.Item.{Item}
 use Rattle.queue.specs.declared.Queue.{Queue}
 use Rattle.queue.specs.Queue.{Removed}
-use Rattle.queue.proofs.Waiting.{appended_full}
-use Rattle.laws.proofs.Lists.{le_or_lt}
 use Rattle.meaning.specs.Calls.{outcome, as_found, take_front}
 use Rattle.meaning.specs.Effects.{enqueue, take_queue}
 use Rattle.meaning.specs.Foreign.{event_fits}
@@ -24,15 +18,18 @@ use Rattle.meaning.specs.Plan.{Plan}
 use Rattle.meaning.specs.Steps.{Step, ◌then◌, bind, look, require}
 use Rattle.meaning.specs.Widget.{Ctx, begin, change, is_active, set_queue}
 use Rattle.meaning.specs.declared.State.{State}
-use Rattle.widget.specs.View.{Lent, Whole, widget, with_queue}
-use Rattle.widget.specs.declared.Went.{Went}
+use Rattle.std.specs.Prelude.{Result, Ok, Err, None, Some, IsErrAnd, MatchResult}
+use Rattle.meaning.specs.Answers.{number_by}
+use Rattle.meaning.specs.declared.answers.Refusal.{Refusal}
+use Rattle.meaning.specs.declared.answers.Refusal.TheVariants.{Foreign, NoSuchEvent, QueueFull}
+use Rattle.replaying.specs.declared.turns.Stopped.{Stopped}
+use Rattle.replaying.specs.declared.turns.Stopped.TheVariants.{AtPost, AtRun}
+use Rattle.widget.specs.View.{Did}
 use Rattle.widget.proofs.Ending.{ended, ends_done, ends_refused}
-use Rattle.plan_code.specs.Code.{Ran}
 use Rattle.plan_invariants.specs.Replay.{post_on, run_on}
 use Rattle.machine.proofs.Gates.{require_no, require_on}
 use Rattle.replaying.specs.Turns.{Passes, Turned}
-use Rattle.replaying.specs.declared.turns.Passed.{Passed}
-use Rattle.replaying.proofs.Passing.{is_taken}
+use Rattle.replaying.proofs.Passing.{is_taken, room_len}
 
 -- ---- the post
 
@@ -84,96 +81,77 @@ unfolding run_on plan_react take_front change bind begin
 run_taken p n v d = ap (outcome v) (one_waits (change (set_queue (removed v.queue).queue)) (steps p (removed v.queue))
     (removed v.queue).done (begin v n) d)
 
--- room in a queue says its length
-room_len : (q : Queue) (e a : ℤ) → (appended q e a).done ≡ true → q.len < QUEUE
-room_len q e a d = ⊎_elim full room (le_or_lt QUEUE q.len)
-  where
-    full : QUEUE ≤ q.len → q.len < QUEUE
-    full l = absurd (false≢true (sym (ap (λ y. y.done) (appended_full q e a l)) ∙ d))
-
-    room : q.len < QUEUE → q.len < QUEUE
-    room l = l
-
 -- ---- the ways that an event goes
 
-module _ (p : Plan) (x : Item) (k : Lent) where
-  stays : (n : ℕ) → post_on p x (widget k) ≡ as_found n 0 (widget k) → (n ≡ 0 → ⊥)
-      → Turned p x k (record { posted = false; number = n; at = 0 }) k
-  stays n e z = record {
-    not_posted = λ y. (e, refl);
-    some_answer = λ y. z;
-    was_posted = λ y. absurd (false≢true y);
-    not_run = λ y. absurd (false≢true y);
-    was_run = λ y. absurd (false≢true y);
-    fits = omega arith;
-    kept = refl;
-    whole = refl;
-  }
+-- the state with another queue
+abbrev pub queued : Queue → State → State
+queued q u = record { started = u.started; active = u.active; slots = u.slots; vars = u.vars; queue = q }
 
-  pub turned_6 : get_or k.active 0 false ≡ false → Turned p x k (record { posted = false; number = 6; at = 0 }) k
+pub queued_is : (q : Queue) (u : State) → set_queue q u ≡ queued q u
+unfolding set_queue
+queued_is q u = refl
+
+module _ (p : Plan) (x : Item) (u : State) (t : List ℤ) where
+  pub turned_6 : get_or u.active 0 false ≡ false → Turned p x u t (Err (AtPost Foreign)) u t
   unfolding is_active
-  turned_6 a = stays 6 (post_6 p x (widget k) a) (λ z. omega arith)
+  turned_6 a = (post_6 p x u a, refl, refl)
 
-  module _ (b : get_or k.active 0 false ≡ true) {n : ℕ} (g : n ≡ p.events) where
-    a : is_active (widget k) 0 ≡ true
+  module _ (b : get_or u.active 0 false ≡ true) {n : ℕ} (g : n ≡ p.events) where
+    a : is_active u 0 ≡ true
     unfolding is_active
     a = b
 
-    pub turned_10 : event_fits n x.event x.arg ≡ false → Turned p x k (record { posted = false; number = 10; at = 0 }) k
-    turned_10 f = stays 10 (post_10 p x (widget k) a g f) (λ z. omega arith)
+    pub turned_10 : event_fits n x.event x.arg ≡ false → Turned p x u t (Err (AtPost NoSuchEvent)) u t
+    turned_10 f = (post_10 p x u a g f, refl, refl)
 
-    module _ (f : event_fits n x.event x.arg ≡ true) {r : Passed} {ms : List ℤ} (m : Passes k.queue x.event x.arg r ms) where
-      pub turned_9 : r.done ≡ false → Turned p x k (record { posted = false; number = 9; at = 0 }) (with_queue ms k)
-      turned_9 d = subst (λ q. Turned p x k (record { posted = false; number = 9; at = 0 }) (with_queue q k)) (sym (m.full d))
-          (stays 9 (post_9 p x (widget k) a g f (sym m.room ∙ d)) (λ z. omega arith))
+    module _ (f : event_fits n x.event x.arg ≡ true) where
+      pub turned_9 : {q : Queue} → Passes u.queue x.event x.arg None q → Turned p x u t (Err (AtPost QueueFull)) (queued q u) t
+      turned_9 m = (post_9 p x u a g f m.0, ap (λ y. queued y u) m.1, refl)
 
-      module _ (d : r.done ≡ true) (h : Whole k) {e : ℕ} {c : ℤ} (ee : e ≡ ref r.front.event) (ce : c ≡ r.front.arg)
-          {w : Went} {k' : Lent} (made : Ran (plan_step p e c then plan_settle p) (with_queue ms k) 0 w k') where
-        ran : Ran (plan_step p (ref r.front.event) r.front.arg then plan_settle p) (with_queue ms k) 0 w k'
-        ran = subst (λ y. Ran (plan_step p (ref r.front.event) y then plan_settle p) (with_queue ms k) 0 w k') ce
-            (subst (λ y. Ran (plan_step p y c then plan_settle p) (with_queue ms k) 0 w k') ee made)
-
-        q : Queue
-        q = queue_by k.queue
-
+      module _ {y : Item} {q : Queue} (m : Passes u.queue x.event x.arg (Some y) q) where
         v : State
-        v = set_queue (appended q x.event x.arg).queue (widget k)
+        v = set_queue (appended u.queue x.event x.arg).queue u
 
-        posts : post_on p x (widget k) ≡ ended v []
-        unfolding q v
-        posts = post_0 p x (widget k) a g f (sym m.room ∙ d)
-
-        front_is : (removed (appended q x.event x.arg).queue).front ≡ r.front
-        unfolding q
-        front_is = sym (m.front d)
+        posts : post_on p x u ≡ ended v []
+        unfolding v
+        posts = post_0 p x u a g f m.0
 
         E : Step Ctx
-        E = plan_step p (ref r.front.event) r.front.arg then plan_settle p
+        E = plan_step p (ref y.event) y.arg then plan_settle p
 
-        runs : run_on p (length k.trace) v ≡ outcome v (E (begin (widget (with_queue ms k)) (length k.trace)))
-        unfolding q v E set_queue
+        runs : run_on p (length t) v ≡ outcome v (E (begin (queued q u) (length t)))
+        unfolding v E set_queue
         runs =
-            run_taken p (length k.trace) v (is_taken q x.event x.arg (room_len q x.event x.arg (sym m.room ∙ d)))
-            ∙ ap (λ y. outcome v ((plan_step p (ref y.event) y.arg then plan_settle p)
-            (begin (set_queue (removed (appended q x.event x.arg).queue).queue v) (length k.trace)))) front_is
-            ∙ ap (λ y. outcome v (E (begin (set_queue y v) (length k.trace)))) (sym (m.left d))
+            run_taken p (length t) v (is_taken u.queue x.event x.arg (room_len u.queue x.event x.arg m.0))
+            ∙ ap (λ z. outcome v ((plan_step p (ref z.event) z.arg then plan_settle p)
+            (begin (set_queue (removed (appended u.queue x.event x.arg).queue).queue v) (length t)))) (sym m.1)
+            ∙ ap (λ z. outcome v (E (begin (queued z u) (length t)))) (sym m.2)
 
-        after_is : run_on p (length k.trace) (post_on p x (widget k)).after ≡ run_on p (length k.trace) v
-        after_is = ap (λ o. run_on p (length k.trace) o.after) posts
+        after_is : run_on p (length t) (post_on p x u).after ≡ run_on p (length t) v
+        after_is = ap (λ o. run_on p (length t) o.after) posts
 
-        whole_now : Whole (with_queue ms k)
-        whole_now = m.whole ∙ h
+        module _ {e : ℕ} {c : ℤ} (ee : e ≡ ref y.event) (ce : c ≡ y.arg) {u' : State} {t' : List ℤ} where
+          ran : {w : Result ℕ Refusal} → Did (plan_step p e c then plan_settle p) (queued q u) t 0 w u' t' → Did E (queued q u) t 0 w u' t'
+          unfolding E
+          ran {w} d = subst (λ z. Did (plan_step p (ref y.event) z then plan_settle p) (queued q u) t 0 w u' t') ce
+              (subst (λ z. Did (plan_step p z c then plan_settle p) (queued q u) t 0 w u' t') ee d)
 
-        pub turned_run : Turned p x k (record { posted = true; number = w.number; at = w.at }) k'
-        unfolding E
-        turned_run = record {
-          not_posted = λ y. absurd (true≢false y);
-          some_answer = λ y. absurd (true≢false y);
-          was_posted = λ y. ap (λ o. o.number) posts;
-          not_run = λ y z. after_is ∙ runs ∙ ends_refused v ran.did whole_now z
-              ∙ ap (λ o. as_found w.number 0 o.after) (sym posts);
-          was_run = λ y z. after_is ∙ runs ∙ ends_done v ran.did whole_now z;
-          fits = ran.did.fits;
-          kept = ran.did.kept;
-          whole = ran.did.whole ∙ m.whole;
-        }
+          turned_on : {at : ℕ} → Did (plan_step p e c then plan_settle p) (queued q u) t 0 (Ok at) u' t'
+              → Turned p x u t (Ok at) u' t'
+          turned_on d = (ap (λ o. o.number) posts, after_is ∙ runs ∙ ends_done v (ran d), d.fits, d.kept)
+
+          turned_stop : {r : Refusal} → Did (plan_step p e c then plan_settle p) (queued q u) t 0 (Err r) u' t'
+              → Turned p x u t (Err (AtRun r)) u' t'
+          turned_stop {r} d = (
+            ap (λ o. o.number) posts,
+            after_is ∙ runs ∙ ends_refused v (ran d) ∙ ap (λ o. as_found (number_by r) 0 o.after) (sym posts),
+            d.kept,
+          )
+
+          -- what the run gives, and what is told of the event
+          pub turned_run : (w : Result ℕ Refusal) (r : Result ℕ Stopped)
+              → MatchResult w (λ at. r ≡ Ok at) (λ g. IsErrAnd r (λ s. s ≡ AtRun g))
+              → Did (plan_step p e c then plan_settle p) (queued q u) t 0 w u' t' → Turned p x u t r u' t'
+          turned_run (Ok at) r h d = subst (λ z. Turned p x u t z u' t') (sym h) (turned_on d)
+          turned_run (Err g) (Ok n) h d = absurd h
+          turned_run (Err g) (Err s) h d = subst (λ z. Turned p x u t (Err z) u' t') (sym h) (turned_stop d)

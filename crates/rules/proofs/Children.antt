@@ -17,7 +17,8 @@ use Rattle.meaning.specs.Chart.{Chart}
 use Rattle.meaning.specs.Tree.{parent_of, kind_of, default_child, is_o, is_child, ancestors, children, all_states}
 use Rattle.meaning.specs.Rules.{is_state, parent_fits, children_fit, default_fits}
 use Rattle.tree.proofs.Climb.{child_root, child_below}
-use Rattle.rules.specs.Family.{young, Family, count_fits_kind}
+use Rattle.rules.specs.Family.{young, nobody, Family, count_fits_kind}
+use Rattle.rules.specs.declared.states.Offspring.{Offspring}
 
 -- ---- R2 and R4 of one state
 
@@ -109,82 +110,82 @@ module _ (c : Chart) (n s : ℕ) where
 
 -- ---- the pass: before it, a state that is nobody's child, and one that is counted at its parent
 
-pub family_none : (c : Chart) → Family c 0 (replicate STATES 0) (replicate STATES true)
+pub family_none : (c : Chart) → Family c 0 (replicate STATES record { count = 0; plain = true })
 unfolding young from keep every
 family_none c = record {
-  counts_long = length-replicate {A = ℕ} STATES 0;
-  plain_long = length-replicate STATES true;
-  counted = λ s h. get_or-replicate STATES s 0 0 h;
-  told = λ s h. get_or-replicate STATES s true false h;
+  long = length-replicate {A = Offspring} STATES record { count = 0; plain = true };
+  counted = λ s h. ap (λ o. o.count) (get_or-replicate {A = Offspring} STATES s record { count = 0; plain = true } nobody h);
+  told = λ s h. ap (λ o. o.plain) (get_or-replicate {A = Offspring} STATES s record { count = 0; plain = true } nobody h);
 }
 
-module _ (c : Chart) (n : ℕ) (counts : List ℕ) (plain : List Bool) (before : Family c n counts plain) where
-  -- s has no child more
-  same_count : (s : ℕ) → s < STATES → is_child c s n ≡ false → get_or counts s 0 ≡ length (young c (n + 1) s)
-  same_count s h e = before.counted s h ∙ ap length (sym (young_same c n s e) ∙ ap (λ m. young c m s) (sym (add-one n)))
+module _ (c : Chart) (n : ℕ) (fs : List Offspring) (before : Family c n fs) where
+  -- what a state without a child more had counted
+  same : (s : ℕ) → is_child c s n ≡ false → young c n s ≡ young c (n + 1) s
+  same s e = sym (young_same c n s e) ∙ ap (λ m. young c m s) (sym (add-one n))
 
-  same_told : (s : ℕ) → s < STATES → is_child c s n ≡ false → get_or plain s false ≡ every (λ d. is_o (kind_of c d)) (young c (n + 1) s)
-  same_told s h e =
-      before.told s h
-      ∙ ap (every (λ d. is_o (kind_of c d))) (sym (young_same c n s e) ∙ ap (λ m. young c m s) (sym (add-one n)))
+  same_count : (s : ℕ) → s < STATES → is_child c s n ≡ false → (get_or fs s nobody).count ≡ length (young c (n + 1) s)
+  same_count s h e = before.counted s h ∙ ap length (same s e)
+
+  same_told : (s : ℕ) → s < STATES → is_child c s n ≡ false
+      → (get_or fs s nobody).plain ≡ every (λ d. is_o (kind_of c d)) (young c (n + 1) s)
+  same_told s h e = before.told s h ∙ ap (every (λ d. is_o (kind_of c d))) (same s e)
 
   -- s has the child n
-  more_count : (s : ℕ) → s < STATES → is_child c s n ≡ true → get_or counts s 0 + 1 ≡ length (young c (n + 1) s)
+  more_count : (s : ℕ) → s < STATES → is_child c s n ≡ true → (get_or fs s nobody).count + 1 ≡ length (young c (n + 1) s)
   more_count s h e =
       let l : length (young c (n + 1) s) ≡ length (young c n s) + 1 =
       ap (λ m. length (young c m s)) (add-one n) ∙ ap length (young_child c n s e) ∙ length-append (young c n s) (n ∷ []) in
-      let k : get_or counts s 0 ≡ length (young c n s) = before.counted s h in
+      let k : (get_or fs s nobody).count ≡ length (young c n s) = before.counted s h in
       omega arith
 
   more_told : (s : ℕ) → s < STATES → is_child c s n ≡ true
-      → get_or plain s false && is_o (kind_of c n) ≡ every (λ d. is_o (kind_of c d)) (young c (n + 1) s)
+      → (get_or fs s nobody).plain && is_o (kind_of c n) ≡ every (λ d. is_o (kind_of c d)) (young c (n + 1) s)
   unfolding every
   more_told s h e =
       rw (before.told s h, add-one n, young_child c n s e, every_append (λ d. is_o (kind_of c d)) (young c n s) (n ∷ []))
       (ap (λ t. every (λ d. is_o (kind_of c d)) (young c n s) && t) (sym (and-true (is_o (kind_of c n)))))
 
-  family_skip : ((s : ℕ) → s < STATES → is_child c s n ≡ false) → Family c (n + 1) counts plain
+  family_skip : ((s : ℕ) → s < STATES → is_child c s n ≡ false) → Family c (n + 1) fs
   family_skip e = record {
-    counts_long = before.counts_long;
-    plain_long = before.plain_long;
+    long = before.long;
     counted = λ s h. same_count s h (e s h);
     told = λ s h. same_told s h (e s h);
   }
 
-  pub family_root : n ≡ 0 → Family c (n + 1) counts plain
+  pub family_root : n ≡ 0 → Family c (n + 1) fs
   family_root e = family_skip (λ s h. child_root c s n e)
 
-  pub family_far : (n ≡ 0 → ⊥) → STATES ≤ parent_of c n → Family c (n + 1) counts plain
+  pub family_far : (n ≡ 0 → ⊥) → STATES ≤ parent_of c n → Family c (n + 1) fs
   family_far z far = family_skip (λ s h. child_below c s n z ∙ ne_eqb (parent_of c n) s (λ e. omega arith))
 
   -- a child is counted at its parent p
-  module _ (p : ℕ) (r : Bool) (z : n ≡ 0 → ⊥) (e : p ≡ parent_of c n)
-      (h : p < STATES) (g : r ≡ get_or plain p false && is_o (kind_of c n)) where
+  module _ (p : ℕ) (r : Bool) (z : n ≡ 0 → ⊥) (e : p ≡ parent_of c n) (h : p < STATES) (g : r ≡ is_o (kind_of c n)) where
     mine : is_child c p n ≡ true
     mine = child_below c p n z ∙ eq-eqb (parent_of c n) p (sym e)
 
     other : (s : ℕ) → (s ≡ p → ⊥) → is_child c s n ≡ false
     other s d = child_below c s n z ∙ ne_eqb (parent_of c n) s (λ q. d (sym (e ∙ q)))
 
-    count_at : (s : ℕ) → s < STATES → (t : Bool) → eqb s p ≡ t
-        → get_or (set counts p (get_or counts p 0 + 1)) s 0 ≡ length (young c (n + 1) s)
+    abbrev pub grown : Offspring
+    grown = record { count = (get_or fs p nobody).count + 1; plain = (get_or fs p nobody).plain && r }
+
+    count_at : (s : ℕ) → s < STATES → (t : Bool) → eqb s p ≡ t → (get_or (set fs p grown) s nobody).count ≡ length (young c (n + 1) s)
     count_at s k true t =
-        let q : s ≡ p = eqb-true s p t in
-        rw q (get_or-set_same counts p (get_or counts p 0 + 1) 0 (rw before.counts_long h) ∙ more_count p h mine)
+        rw (eqb-true s p t) (ap (λ o. o.count) (get_or-set_same fs p grown nobody (rw before.long h)) ∙ more_count p h mine)
     count_at s k false t =
-        get_or-set_other counts p s (get_or counts p 0 + 1) 0 (eqb-false s p t) ∙ same_count s k (other s (eqb-false s p t))
+        ap (λ o. o.count) (get_or-set_other fs p s grown nobody (eqb-false s p t)) ∙ same_count s k (other s (eqb-false s p t))
 
     told_at : (s : ℕ) → s < STATES → (t : Bool) → eqb s p ≡ t
-        → get_or (set plain p r) s false ≡ every (λ d. is_o (kind_of c d)) (young c (n + 1) s)
+        → (get_or (set fs p grown) s nobody).plain ≡ every (λ d. is_o (kind_of c d)) (young c (n + 1) s)
     told_at s k true t =
-        let q : s ≡ p = eqb-true s p t in
-        rw q (get_or-set_same plain p r false (rw before.plain_long h) ∙ g ∙ more_told p h mine)
-    told_at s k false t = get_or-set_other plain p s r false (eqb-false s p t) ∙ same_told s k (other s (eqb-false s p t))
+        rw (eqb-true s p t) (ap (λ o. o.plain) (get_or-set_same fs p grown nobody (rw before.long h))
+        ∙ ap (λ b. (get_or fs p nobody).plain && b) g ∙ more_told p h mine)
+    told_at s k false t =
+        ap (λ o. o.plain) (get_or-set_other fs p s grown nobody (eqb-false s p t)) ∙ same_told s k (other s (eqb-false s p t))
 
-    pub family_more : Family c (n + 1) (set counts p (get_or counts p 0 + 1)) (set plain p r)
+    pub family_more : Family c (n + 1) (set fs p grown)
     family_more = record {
-      counts_long = length-set counts p (get_or counts p 0 + 1) ∙ before.counts_long;
-      plain_long = length-set plain p r ∙ before.plain_long;
+      long = length-set fs p grown ∙ before.long;
       counted = λ s k. count_at s k (eqb s p) refl;
       told = λ s k. told_at s k (eqb s p) refl;
     }
@@ -213,7 +214,7 @@ unfolding young children all_states
 young_all c s = refl
 
 -- R3 of a state, by what was counted
-pub counted_fits : (c : Chart) (counts : List ℕ) (plain : List Bool) (s : ℕ) → Family c (length c.states) counts plain → s < STATES
-    → count_fits_kind (kind_of c s) (get_or counts s 0) (get_or plain s false) ≡ children_fit c (kind_of c s) (children c s)
-counted_fits c counts plain s f h =
+pub counted_fits : (c : Chart) (fs : List Offspring) (s : ℕ) → Family c (length c.states) fs → s < STATES
+    → count_fits_kind (kind_of c s) (get_or fs s nobody).count (get_or fs s nobody).plain ≡ children_fit c (kind_of c s) (children c s)
+counted_fits c fs s f h =
     rw (f.counted s h, f.told s h, young_all c s) (sym (children_counted c (kind_of c s) (children c s)))

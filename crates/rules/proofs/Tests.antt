@@ -22,6 +22,9 @@ both e t g = on (sym e ∙ t) g
 pub fails : {r p : Bool} (q : Bool) → r ≡ p → r ≡ false → r ≡ p && q
 fails q e f = f ∙ rw (sym e ∙ f)
 
--- the first of two possibilities fails
-pub or_else : {p q s : Bool} → p ≡ false → s ≡ q → s ≡ p || q
-or_else e g = rw e g
+-- `call || rest`: the call fails, and the rest is what is returned; or the call holds, and is what is returned
+pub either : {r p q s : Bool} → r ≡ p → r ≡ false → s ≡ q → s ≡ p || q
+either e f g = rw (sym e ∙ f, g)
+
+pub passes : {r p : Bool} (q : Bool) → r ≡ p → r ≡ true → r ≡ p || q
+passes q e t = t ∙ rw (sym e ∙ t)

@@ -23,6 +23,12 @@ unfolding verdict
 failed none a e z = absurd (z (rw e))
 failed (some r) a e z = rw e
 
+-- which is answer 3
+pub third : (o : Option ℕ) (a : Answer) → a ≡ verdict o → (a.number ≡ 0 → ⊥) → a.number ≡ 3
+unfolding verdict
+third none a e z = absurd (z (rw e))
+third (some r) a e z = rw e
+
 -- the answer's number and place, once the failing rule is known
 pub answer_passed : (o : Option ℕ) (a : Answer) → a ≡ verdict o → o ≡ none → a ≡ record { number = 0; place = 0 }
 unfolding verdict

@@ -7,25 +7,15 @@ pub mod states;
 pub mod value;
 
 ghost use Rattle.std.specs.Prelude.{◌≡◌};
+ghost use Rattle.meaning.specs.Answers.{answer_by};
 ghost use Rattle.meaning.specs.Rules.{failing_rule, failing_rule_of, verdict};
 ghost use Rattle.meaning.specs.Value.{chart_of};
 
-use meaning::Answer;
-use meaning::answers::RULE_FAILS;
-
-// Answer 3 with the number of the rule as its place.
-fn fails(rule: usize) -> Answer
-    ensures { result ≡ record { number = 3; place = rule } }
-{
-    Answer {
-        number: RULE_FAILS,
-        place: rule,
-    }
-}
+use meaning::answers::Refusal;
 
 // R1 to R7, for a chart that was read from a text.
-pub fn check_rows(chart: &[i32]) -> Answer
-    ensures { result ≡ verdict (failing_rule (chart_of chart.now)) }
+pub fn check_rows(chart: &[i32]) -> Result<(), Refusal>
+    ensures { answer_by result ≡ verdict (failing_rule (chart_of chart.now)) }
 {
     let kept = [
         states::rule_1(chart),
@@ -37,20 +27,17 @@ pub fn check_rows(chart: &[i32]) -> Answer
         records::rule_7(chart),
     ];
     match kept.iter().position(|kept| !*kept) {
-        Some(i) => fails(i + 1),
-        None => Answer {
-            number: 0,
-            place: 0,
-        },
+        Some(i) => Err(Refusal::RuleFails(i + 1)),
+        None => Ok(()),
     }
 }
 
 // R0 to R7, for a chart handed over as a value.
-pub fn check(chart: &[i32]) -> Answer
-    ensures { result ≡ verdict (failing_rule_of chart.now) }
+pub fn check(chart: &[i32]) -> Result<(), Refusal>
+    ensures { answer_by result ≡ verdict (failing_rule_of chart.now) }
 {
     if !value::rule_0(chart) {
-        return fails(0);
+        return Err(Refusal::RuleFails(0));
     }
     check_rows(chart)
 }

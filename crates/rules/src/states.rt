@@ -43,20 +43,25 @@ pub fn rule_2(chart: &[i32]) -> bool
     (0..state_count(chart)).all(|s| parent_fits(chart, s))
 }
 
-// For each state how many children it has, and whether all of them are o.
-#[derive(Drop)]
-struct Families {
-    counts: [u16; STATES],
-    plain: [bool; STATES],
+// How many children a state has, and whether all of them are o.
+#[derive(Clone, Copy)]
+pub struct Offspring {
+    pub count: u16,
+    pub plain: bool,
 }
 
-// One pass over the states: each is counted at its parent.
-fn count_children(chart: &[i32]) -> Families
-    ensures { Family (chart_of chart.now) (length (chart_of chart.now).states) result.counts result.plain }
+// Before any child is counted.
+const CHILDLESS: Offspring = Offspring {
+    count: 0,
+    plain: true,
+};
+
+// The same of every state. One pass over the states: each is counted at its parent.
+fn count_children(chart: &[i32]) -> [Offspring; STATES]
+    ensures { Family (chart_of chart.now) (length (chart_of chart.now).states) result }
 {
     let n = state_count(chart);
-    let mut counts = [0u16; STATES];
-    let mut plain = [true; STATES];
+    let mut families = [CHILDLESS; STATES];
     for d in 0..n {
         if d == 0 {
             continue;
@@ -65,20 +70,23 @@ fn count_children(chart: &[i32]) -> Families
         if STATES <= p {
             continue;
         }
-        counts[p] += 1;
-        plain[p] &= is_o(kind_of(chart, d));
+        let Offspring { count, plain } = families[p];
+        families[p] = Offspring {
+            count: count + 1,
+            plain: plain & is_o(kind_of(chart, d)),
+        };
     }
-    Families { counts, plain }
+    families
 }
 
 // R3 of one state: b has no child, o at least one, a at least two, all of them o.
-fn children_fit(kind: Kind, count: u16, plain: bool) -> bool
-    ensures { result ≡ count_fits_kind kind count plain }
+fn children_fit(kind: Kind, children: Offspring) -> bool
+    ensures { result ≡ count_fits_kind kind children.count children.plain }
 {
     match kind {
-        Kind::O => 1 <= count,
-        Kind::A => 2 <= count && plain,
-        Kind::B => count == 0,
+        Kind::O => 1 <= children.count,
+        Kind::A => 2 <= children.count && children.plain,
+        Kind::B => children.count == 0,
     }
 }
 
@@ -86,9 +94,9 @@ pub fn rule_3(chart: &[i32]) -> bool
     ensures { result ≡ rule_3 (chart_of chart.now) }
 {
     let n = state_count(chart);
-    let Families { counts, plain } = count_children(chart);
+    let families = count_children(chart);
     for s in 0..n {
-        if !children_fit(kind_of(chart, s), counts[s], plain[s]) {
+        if !children_fit(kind_of(chart, s), families[s]) {
             return false;
         }
     }

@@ -1,5 +1,6 @@
 // R0 (01, "Chart rules, in order"), for a chart handed over as a value: counts and constants keep their sizes and every
-// field is one that a text can state. Each function equals the definition of the same name in the crate meaning.
+// field is one that a text can state. Each function equals the definition of the same name in the crate meaning, and its
+// tests are nested as there.
 ghost use Rattle.std.specs.Prelude.{◌≡◌, ◌&&◌, ◌||◌, ◌∷◌, [], ◌<◌, ◌≤◌, pos, length, get_or};
 ghost use Rattle.sizes.specs.Sizes.{STATES, VARIABLES, TRANSITIONS, ACTIONS};
 ghost use Rattle.numbers.specs.Reference.{NOWHERE};
@@ -40,14 +41,10 @@ fn state_statable(chart: &[i32], n: usize) -> bool
     ensures { result ≡ statable s_record n (row_in s_record n chart.now) }
 {
     let at = STATES_AT + n * STATE_ROW;
-    if !number_if(n != 0, number_at(chart, at)) {
-        return false;
-    }
     let kind = number_at(chart, at + 1);
-    if !one_of_letters(b"oab", kind) {
-        return false;
-    }
-    number_if(is_letter(b'o', kind), number_at(chart, at + 2))
+    number_if(n != 0, number_at(chart, at))
+        && (one_of_letters(b"oab", kind)
+            && number_if(is_letter(b'o', kind), number_at(chart, at + 2)))
 }
 
 fn var_statable(chart: &[i32], i: usize) -> bool
@@ -55,82 +52,52 @@ fn var_statable(chart: &[i32], i: usize) -> bool
     ensures { result ≡ statable v_record i (row_in v_record i chart.now) }
 {
     let at = VARS_AT + i * VAR_ROW;
-    if !in_range(number_at(chart, at)) {
-        return false;
-    }
-    if !in_range(number_at(chart, at + 1)) {
-        return false;
-    }
-    in_range(number_at(chart, at + 2))
+    in_range(number_at(chart, at))
+        && (in_range(number_at(chart, at + 1)) && in_range(number_at(chart, at + 2)))
 }
 
 // A guard that is "-" in all three fields.
 fn guard_absent(v: i32, g: i32, x: i32) -> bool
     ensures { result ≡ is_absent v && (is_absent g && is_absent x) }
 {
-    if !is_absent(v) {
-        return false;
-    }
-    if !is_absent(g) {
-        return false;
-    }
-    is_absent(x)
+    is_absent(v) && (is_absent(g) && is_absent(x))
 }
 
 // A guard that is given in all three fields.
 fn guard_given(v: i32, g: i32, x: i32) -> bool
     ensures { result ≡ in_range v && (one_of_letters (61 ∷ 60 ∷ 62 ∷ []) g && in_range x) }
 {
-    if !in_range(v) {
-        return false;
-    }
-    if !one_of_letters(b"=<>", g) {
-        return false;
-    }
-    in_range(x)
+    in_range(v) && (one_of_letters(b"=<>", g) && in_range(x))
 }
 
 // The three guard fields are all "-" or none is.
+#[tactic(auto, unfolding(crate::specs::Clauses::guard_statable))]
 fn guard_statable(v: i32, g: i32, x: i32) -> bool
     ensures { result ≡ guard_statable v g x }
 {
-    if guard_absent(v, g, x) {
-        return true;
-    }
-    guard_given(v, g, x)
+    guard_absent(v, g, x) || guard_given(v, g, x)
 }
 
 // A target that is "-".
 fn target_absent(h: i32, s: i32) -> bool
     ensures { result ≡ is_absent h && is_absent s }
 {
-    if !is_absent(h) {
-        return false;
-    }
-    is_absent(s)
+    is_absent(h) && is_absent(s)
 }
 
 // A state, or h and a state.
 fn target_given(h: i32, s: i32) -> bool
     ensures { result ≡ (is_letter 0 h || is_letter 104 h) && in_range s }
 {
-    if is_letter(0, h) {
-        return in_range(s);
-    }
-    if !is_letter(b'h', h) {
-        return false;
-    }
-    in_range(s)
+    (is_letter(0, h) || is_letter(b'h', h)) && in_range(s)
 }
 
 // A state, h and a state, or "-".
+#[tactic(auto, unfolding(crate::specs::Clauses::target_statable))]
 fn target_statable(h: i32, s: i32) -> bool
     ensures { result ≡ target_statable h s }
 {
-    if target_absent(h, s) {
-        return true;
-    }
-    target_given(h, s)
+    target_absent(h, s) || target_given(h, s)
 }
 
 fn trans_statable(chart: &[i32], i: usize) -> bool
@@ -138,20 +105,13 @@ fn trans_statable(chart: &[i32], i: usize) -> bool
     ensures { result ≡ statable t_record i (row_in t_record i chart.now) }
 {
     let at = TRANSITIONS_AT + i * TRANS_ROW;
-    if !in_range(number_at(chart, at)) {
-        return false;
-    }
-    if !in_range(number_at(chart, at + 1)) {
-        return false;
-    }
-    if !guard_statable(
-        number_at(chart, at + 2),
-        number_at(chart, at + 3),
-        number_at(chart, at + 4),
-    ) {
-        return false;
-    }
-    target_statable(number_at(chart, at + 5), number_at(chart, at + 6))
+    in_range(number_at(chart, at))
+        && (in_range(number_at(chart, at + 1))
+            && (guard_statable(
+                number_at(chart, at + 2),
+                number_at(chart, at + 3),
+                number_at(chart, at + 4),
+            ) && target_statable(number_at(chart, at + 5), number_at(chart, at + 6))))
 }
 
 // Acts s, a and q have a number as their second field, k and o "-".
@@ -160,20 +120,12 @@ fn action_statable(chart: &[i32], i: usize) -> bool
     ensures { result ≡ statable a_record i (row_in a_record i chart.now) }
 {
     let at = ACTIONS_AT + i * ACT_ROW;
-    if !one_of_letters(b"exdt", number_at(chart, at)) {
-        return false;
-    }
-    if !in_range(number_at(chart, at + 1)) {
-        return false;
-    }
     let act = number_at(chart, at + 2);
-    if !one_of_letters(b"sakqo", act) {
-        return false;
-    }
-    if !in_range(number_at(chart, at + 3)) {
-        return false;
-    }
-    number_if(one_of_letters(b"saq", act), number_at(chart, at + 4))
+    one_of_letters(b"exdt", number_at(chart, at))
+        && (in_range(number_at(chart, at + 1))
+            && (one_of_letters(b"sakqo", act)
+                && (in_range(number_at(chart, at + 3))
+                    && number_if(one_of_letters(b"saq", act), number_at(chart, at + 4)))))
 }
 
 // Is the number at this place a count within its size?

@@ -166,7 +166,8 @@ module _ (rows : Rows) where
   unfoldable pub kinds_from : ℕ → List ℕ
   kinds_from i = ended (concat_map (lines_of rows) (drop i ORDER))
 
-  pub kind_more : (i : ℕ) (q : Record) (x y : Pen) → i < length ORDER → q ≡ get_or ORDER i no_record → y ≡ put_all (ended (lines_of rows q)) x
+  pub kind_more : (i : ℕ) (q : Record) (x y : Pen) → i < length ORDER → q ≡ get_or ORDER i no_record
+      → y ≡ put_all (ended (lines_of rows q)) x
       → put_all (kinds_from (i + 1)) y ≡ put_all (kinds_from i) x
   unfolding kinds_from concat_map
   kind_more i q x y h e f =

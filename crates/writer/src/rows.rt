@@ -39,11 +39,13 @@ fn put_fields(
 ) -> usize
     requires { Statable (as_record kind) n from chart.now }
     ensures { pen text.new result
-        ≡ put_all (tails TAB (write_by (form (as_record kind) n) n from chart.now)) (pen text.old p) }
+        ≡ put_all (tails TAB (write_by (form (as_record kind) n) n from chart.now))
+        (pen text.old p) }
 {
     let mut at = from;
     let mut i = begins(kind, n);
     let mut q = p;
+    // The loop counts nothing: each entry of the table says which one is next, so there is no range to go over.
     loop {
         match entry_at(i) {
             Entry::Last(field) => return put_field(chart, at, field, n, text, q),
@@ -65,7 +67,8 @@ fn put_fields(
 // The line of record n.
 fn put_line(chart: &[i32], from: usize, kind: Record, n: usize, text: &mut [u8], p: usize) -> usize
     requires { Statable (as_record kind) n from chart.now }
-    ensures { pen text.new result ≡ put_all (with_lf (line_at (as_record kind) n from chart.now)) (pen text.old p) }
+    ensures { pen text.new result
+        ≡ put_all (with_lf (line_at (as_record kind) n from chart.now)) (pen text.old p) }
 {
     let p0 = put(text, p, kind.letter());
     let p1 = put_fields(chart, from, kind, n, text, p0);

@@ -12,34 +12,22 @@ use native.Mathlib.Omega.{arith}
 use Rattle.blocks.proofs.+put_towards.Goals as goal
 
 pub next_of-requires : goal.next_of-requires
-next_of-requires t c = c.requires.0.ruled
+next_of-requires t c = c.args.c.now.prepared.ruled
 
 pub kids_within-kids-requires : goal.kids_within-kids-requires
 kids_within-kids-requires t c = (
-  c.requires.0.ruled,
-  c.requires.2,
-  goal_child _ c.requires.0.ruled c.args.goal c.requires.1 _
+  c.args.c.now.prepared.ruled,
+  c.requires.1,
+  goal_child _ c.args.c.now.prepared.ruled c.args.goal c.requires.0 _
       c.next_of.result c.next_of.ensures,
 )
 
 pub loop-d-init : goal.loop-d-init
 loop-d-init t c =
     going_begin _ _
-    (goal_way (chart_of c.args.chart.now) c.args.goal) _ _ _ _ _ _ _
+    (goal_way (chart_of c.args.c.now.chart.now) c.args.goal) _ _ _ _ _ _ _
     refl (goal_kids_left _ c.args.goal _ _ _ _ c.next_of.result
     c.next_of.ensures c.kids_within-kids.ensures)
-
-pub overflow_step-d : goal.overflow_step-d
-overflow_step-d t c =
-    omega (
-      arith,
-      c.loop-d-test.true,
-      c.kids_within-kids.ensures.within,
-      states_most c.args.chart.now,
-    )
-
-pub loop-d-smaller-then-not-is_child : goal.loop-d-smaller-then-not-is_child
-loop-d-smaller-then-not-is_child t c = omega (arith, c.loop-d-test.true)
 
 pub loop-d-preserved-then-not-is_child : goal.loop-d-preserved-then-not-is_child
 loop-d-preserved-then-not-is_child t c =
@@ -48,8 +36,7 @@ loop-d-preserved-then-not-is_child t c =
 
 pub put_arrival-p-requires : goal.put_arrival-p-requires
 put_arrival-p-requires t c = (
-  c.requires.0,
-  c.requires.2,
+  c.requires.1,
   omega (
     arith,
     c.kids_within-kids.ensures.within,
@@ -58,20 +45,8 @@ put_arrival-p-requires t c = (
   going_room _ _ _ _ _ _ _ _ _ _ c.loop-d.invariant
       c.loop-d-test.true
       (sym c.is_child.ensures ∙ not-false _ c.if-not-is_child.false-raw)
-      c.requires.3,
+      c.requires.2,
 )
-
-pub overflow_sub-left : goal.overflow_sub-left
-overflow_sub-left t c =
-    omega (
-      arith,
-      c.kids_within-kids.ensures.more
-          (omega (
-            arith,
-            c.loop-d-test.true,
-            c.loop-d.invariant.since,
-          )),
-    )
 
 pub put_towards-p-requires : goal.put_towards-p-requires
 put_towards-p-requires t c = (
@@ -86,7 +61,6 @@ put_towards-p-requires t c = (
   ),
   (
     c.requires.0,
-    c.requires.1,
     omega (
       arith,
       c.kids_within-kids.ensures.within,
@@ -96,21 +70,9 @@ put_towards-p-requires t c = (
         c.loop-d-test.true
         (sym c.is_child.ensures ∙ not-false _
         c.if-not-is_child.false-raw) c.put_arrival-p.ensures
-        c.requires.3,
+        c.requires.2,
   ),
 )
-
-pub overflow_step-d-in-loop-d : goal.overflow_step-d-in-loop-d
-overflow_step-d-in-loop-d t c =
-    omega (
-      arith,
-      c.loop-d-test.true,
-      c.kids_within-kids.ensures.within,
-      states_most c.args.chart.now,
-    )
-
-pub loop-d-smaller : goal.loop-d-smaller
-loop-d-smaller t c = omega (arith, c.loop-d-test.true)
 
 pub loop-d-preserved : goal.loop-d-preserved
 loop-d-preserved t c =
@@ -119,9 +81,6 @@ loop-d-preserved t c =
     (sym c.is_child.ensures ∙ not-false _
     c.if-not-is_child.false-raw)
     c.put_arrival-p.ensures c.put_towards-p.ensures
-
-pub shape_of-plan : goal.shape_of-plan
-shape_of-plan t c = omega (arith, going_size _ _ _ _ _ _ _ _ _ _ c.loop-d.invariant)
 
 pub returns : goal.returns
 returns t c = going_end _ _ _ _ _ _ _ _ _ _ c.loop-d.invariant c.loop-d-test.false

@@ -10,9 +10,5 @@ decreases-put_towards l = l.left
 
 abbrev pub invariant-loop-d : goal.invariant-loop-d
 invariant-loop-d l =
-    Going (goal_code (chart_of l.chart) l.goal) (chart_of l.chart) (goal_way (chart_of l.chart) l.goal)
-    (goal_way (chart_of l.chart) l.goal l.s) l.s l.left l.initial.d l.d-end l.initial.plan l.at l.d l.plan l.p
-
-abbrev pub decreases-loop-d : goal.decreases-loop-d
-decreases-loop-d l =
-    l.d-end - l.d
+    Going (goal_code (chart_of l.c.chart.now) l.goal) (chart_of l.c.chart.now) (goal_way (chart_of l.c.chart.now) l.goal)
+    (goal_way (chart_of l.c.chart.now) l.goal l.s) l.s l.left l.initial.d l.d-end l.initial.plan l.at l.d l.plan l.p

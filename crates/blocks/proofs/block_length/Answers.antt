@@ -3,8 +3,8 @@ use Rattle.emitter.proofs.Laws.{emits_at}
 use native.Mathlib.Omega.{arith}
 use Rattle.blocks.proofs.block_length.Goals as goal
 
-pub put_block-end-requires : goal.put_block-end-requires
-put_block-end-requires c = (c.requires.0, c.requires.1, c.requires.2)
+pub put_block-requires : goal.put_block-requires
+put_block-requires c = (c.requires.0, c.requires.1)
 
 pub returns : goal.returns
-returns c = omega (arith, emits_at _ _ _ c.put_block-end.ensures)
+returns c = omega (arith, emits_at _ _ _ c.put_block.ensures)

@@ -11,12 +11,11 @@ use Rattle.blocks.proofs.put_block.Goals as goal
 pub put_acts-requires : goal.put_acts-requires
 put_acts-requires c =
     let a = c.before.before in (
-      c.requires.0,
-      omega (arith, c.requires.1, transitions_most c.args.chart.now),
+      omega (arith, c.requires.0, transitions_most c.args.c.now.chart.now),
       omega (
         arith,
-        c.requires.2,
-        ap length (block_stays (chart_of c.args.chart.now) c.args.t _ c.trans_row-row.ensures c.aim_of-aim.ensures
+        c.requires.1,
+        ap length (block_stays (chart_of c.args.c.now.chart.now) c.args.t _ c.trans_row-row.ensures c.aim_of-aim.ensures
             c.in_default.is),
       ),
     )
@@ -25,7 +24,7 @@ pub returns-in_default : goal.returns-in_default
 returns-in_default c =
     let told = c.before.before.before in
     let a = told.before in
-    put_as _ _ _ (block_stays (chart_of c.args.chart.now) c.args.t _ c.trans_row-row.ensures c.aim_of-aim.ensures
+    put_as _ _ _ (block_stays (chart_of c.args.c.now.chart.now) c.args.t _ c.trans_row-row.ensures c.aim_of-aim.ensures
     c.in_default.is) c.put_acts.ensures
 
 pub put_move-requires : goal.put_move-requires
@@ -33,16 +32,15 @@ put_move-requires c =
     let s = c.before in
     let a = s.before.before.before in
     let given = c.in-Some.is in
-    let x = goes_inside c.args.chart.now c.requires.0.ruled c.args.t c.requires.1 _ c.trans_row-row.ensures
+    let x = goes_inside c.args.c.now.chart.now c.args.c.now.prepared.ruled c.args.t c.requires.0 _ c.trans_row-row.ensures
     c.aim_of-aim.ensures given c.aimed.ensures c.scope-top.ensures in (
       c.requires.0,
-      c.requires.1,
       x.0,
       x.1,
       omega (
         arith,
-        c.requires.2,
-        ap length (block_goes (chart_of c.args.chart.now) c.args.t _ c.trans_row-row.ensures c.aim_of-aim.ensures
+        c.requires.1,
+        ap length (block_goes (chart_of c.args.c.now.chart.now) c.args.t _ c.trans_row-row.ensures c.aim_of-aim.ensures
             given c.aimed.ensures c.scope-top.ensures),
       ),
     )
@@ -51,5 +49,5 @@ pub returns : goal.returns
 returns c =
     let s = c.before.before.before in
     let a = s.before.before.before in
-    put_as _ _ _ (block_goes (chart_of c.args.chart.now) c.args.t _ c.trans_row-row.ensures c.aim_of-aim.ensures
+    put_as _ _ _ (block_goes (chart_of c.args.c.now.chart.now) c.args.t _ c.trans_row-row.ensures c.aim_of-aim.ensures
     c.in-Some.is c.aimed.ensures c.scope-top.ensures) c.put_move.ensures

@@ -8,42 +8,35 @@ use Rattle.blocks.proofs.Descent.{falling_begin, falling_room, falling_on, falli
 use native.Mathlib.Omega.{arith}
 use Rattle.blocks.proofs.put_exits.Goals as goal
 
-pub end_below-d-requires : goal.end_below-d-requires
-end_below-d-requires c = (c.requires.0.ruled, c.requires.1)
-
 pub loop-d-init : goal.loop-d-init
 unfolding exits_code
 loop-d-init c = (
   omega arith,
-  falling_begin (chart_of c.args.chart.now)
-      (sound c.args.chart.now c.requires.0.ruled) c.args.s
-      c.requires.1 (exit_code (chart_of c.args.chart.now)) _ _ _
+  falling_begin (chart_of c.args.c.now.chart.now)
+      (sound c.args.c.now.chart.now c.args.c.now.prepared.ruled) c.args.s
+      c.requires.0 (exit_code (chart_of c.args.c.now.chart.now)) _ _ _
       c.end_below-d.ensures,
 )
 
-pub overflow_add-s : goal.overflow_add-s
-overflow_add-s c = omega (arith, c.requires.1, states_most c.args.chart.now)
+pub overflow_add-d-start : goal.overflow_add-d-start
+overflow_add-d-start c = omega (arith, c.requires.0, states_most c.args.c.now.chart.now)
 
 pub put_exit-p-requires : goal.put_exit-p-requires
 put_exit-p-requires c = (
-  c.requires.0,
   omega (
     arith,
     c.loop-d-test.true,
     c.loop-d.invariant.0,
-    end_inside (chart_of c.args.chart.now)
-        (sound c.args.chart.now
-        c.requires.0.ruled) c.args.s
-        c.requires.1
-        (exit_code (chart_of c.args.chart.now))
+    end_inside (chart_of c.args.c.now.chart.now)
+        (sound c.args.c.now.chart.now
+        c.args.c.now.prepared.ruled) c.args.s
+        c.requires.0
+        (exit_code (chart_of c.args.c.now.chart.now))
         c.args.plan.now c.args.at _
         c.end_below-d.ensures,
   ),
-  falling_room c.loop-d.invariant.1 (omega arith) c.requires.2,
+  falling_room c.loop-d.invariant.1 (omega arith) c.requires.1,
 )
-
-pub loop-d-smaller : goal.loop-d-smaller
-loop-d-smaller c = omega (arith, c.loop-d-test.true)
 
 pub loop-d-preserved : goal.loop-d-preserved
 loop-d-preserved c = (
@@ -51,9 +44,6 @@ loop-d-preserved c = (
   falling_on c.loop-d.invariant.1 (omega (arith, c.loop-d-test.true))
       c.put_exit-p.ensures,
 )
-
-pub shape_of-plan : goal.shape_of-plan
-shape_of-plan c = omega (arith, same_size _ _ _ _ _ _ c.loop-d.invariant.1.owes)
 
 pub returns : goal.returns
 returns c = falling_end c.loop-d.invariant.1 (omega (arith, c.loop-d-test.false))

@@ -7,8 +7,4 @@ use Rattle.blocks.proofs.put_exits.Given as goal
 
 abbrev pub invariant-loop-d : goal.invariant-loop-d
 invariant-loop-d l =
-    (l.d ≤ l.initial.d) × Falling (exit_code (chart_of l.chart)) l.initial.plan l.at (exits_code (chart_of l.chart) (descendants (chart_of l.chart) l.s)) l.s l.d l.plan l.p
-
-abbrev pub decreases-loop-d : goal.decreases-loop-d
-decreases-loop-d l =
-    l.d
+    (l.d ≤ l.initial.d) × Falling (exit_code (chart_of l.c.chart.now)) l.initial.plan l.at (exits_code (chart_of l.c.chart.now) (descendants (chart_of l.c.chart.now) l.s)) l.s l.d l.plan l.p

@@ -10,55 +10,46 @@ use Rattle.emitter.proofs.Laws.{put_both, emits_at}
 use Rattle.blocks.proofs.Putting.{put_as}
 use Rattle.blocks.proofs.Joining.{start_as}
 use native.Mathlib.Omega.{arith}
-use Rattle.blocks.proofs.put_start.Goals.{After-plan-2-1, After-put_defaults-arg-1, After-state_count-left}
 use Rattle.blocks.proofs.put_start.Goals as goal
-
-abbrev state-count-from-put-defaults-arg : After-put_defaults-arg-1 → After-state_count-left
-state-count-from-put-defaults-arg c = c.before.before.before.before
-
-abbrev state-count-from-plan2 : After-plan-2-1 → After-state_count-left
-state-count-from-plan2 c = state-count-from-put-defaults-arg c.before.before
 
 pub put_enter-p-requires : goal.put_enter-p-requires
 put_enter-p-requires c = (
-  c.requires.0,
-  omega (arith, (sound c.args.chart.now c.requires.0.ruled).two),
+  omega (arith, (sound c.args.c.now.chart.now c.args.c.now.prepared.ruled).two),
   omega (
     arith,
-    c.requires.1,
-    ap length (start_as (chart_of c.args.chart.now)
+    c.requires,
+    ap length (start_as (chart_of c.args.c.now.chart.now)
         c.state_count-left.result c.state_count-left.ensures),
-    length-append (enter_code (chart_of c.args.chart.now) 0)
-        (concat_map (visit_code (chart_of c.args.chart.now))
-        (below (chart_of c.args.chart.now) by_defaults
+    length-append (enter_code (chart_of c.args.c.now.chart.now) 0)
+        (concat_map (visit_code (chart_of c.args.c.now.chart.now))
+        (below (chart_of c.args.c.now.chart.now) by_defaults
         c.state_count-left.result 0)),
   ),
 )
 
 pub put_defaults-requires : goal.put_defaults-requires
 put_defaults-requires c = (
-  c.requires.0,
   omega (
     arith,
-    (sound c.args.chart.now
-        c.requires.0.ruled).two,
+    (sound c.args.c.now.chart.now
+        c.args.c.now.prepared.ruled).two,
   ),
   omega (
     arith,
-    c.requires.1,
+    c.requires,
     emits_at _ _ _ c.put_enter-p.ensures,
-    ap length (start_as (chart_of c.args.chart.now)
+    ap length (start_as (chart_of c.args.c.now.chart.now)
         c.state_count-left.result
         c.state_count-left.ensures),
-    length-append (enter_code (chart_of c.args.chart.now) 0)
-        (concat_map (visit_code (chart_of c.args.chart.now))
-        (below (chart_of c.args.chart.now) by_defaults
+    length-append (enter_code (chart_of c.args.c.now.chart.now) 0)
+        (concat_map (visit_code (chart_of c.args.c.now.chart.now))
+        (below (chart_of c.args.c.now.chart.now) by_defaults
         c.state_count-left.result 0)),
   ),
 )
 
 pub returns : goal.returns
 returns c =
-    put_as _ _ _ (start_as (chart_of (state-count-from-plan2 c).args.chart.now)
-    (state-count-from-plan2 c).state_count-left.result (state-count-from-plan2 c).state_count-left.ensures)
+    put_as _ _ _ (start_as (chart_of c.args.c.now.chart.now)
+    c.state_count-left.result c.state_count-left.ensures)
     (put_both _ _ _ c.put_enter-p.ensures c.put_defaults.ensures)

@@ -1,8 +1,8 @@
 -- `qh_check` tells the rules' verdict. Assumes nothing.
-use mathlib.Core.Path.{refl}
+use mathlib.Core.Path.{refl, ◌∙◌}
 use Rattle.numbers.proofs.Laws.{back32}
 use Rattle.telling.proofs.Told.{told_as}
 use Rattle.boundary.proofs.qh_check.Goals as goal
 
 pub returns : goal.returns
-returns c = told_as (back32 _ c.tell.type_inv) c.check-checked.ensures.result refl c.tell.ensures
+returns c = told_as (back32 _ c.tell.type_inv) (c.from-checked.ensures ∙ c.check.ensures.result) refl c.tell.ensures

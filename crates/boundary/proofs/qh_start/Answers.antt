@@ -1,4 +1,5 @@
 -- `qh_start` starts the widget over its chart, where there is room to store it. Assumes nothing.
+use mathlib.Core.Path.{◌∙◌}
 use Rattle.numbers.proofs.Laws.{back32}
 use lib.ListN.{length}
 use Rattle.meaning.specs.Rules.{failing_rule_of, verdict}
@@ -10,7 +11,7 @@ pub returns-then-widget-lt-STATE_NUMBERS : goal.returns-then-widget-lt-STATE_NUM
 returns-then-widget-lt-STATE_NUMBERS c =
     start_short (λ u. start_of c.args.chart.now u (length c.args.trace.now))
     c.if-widget-lt-STATE_NUMBERS.true
-    c.check-verdict.ensures.result c.too_few-answer.ensures
+    (c.from-verdict.ensures ∙ c.check.ensures.result) c.too_few-answer.ensures
     c.clear.ensures (back32 _ c.tell.type_inv) c.tell.ensures
 
 pub returns : goal.returns

@@ -29,6 +29,3 @@ abbrev pub invariant-sources : goal.invariant-sources
 invariant-sources l =
     (with_sources (chart_of l.chart) l.event (seen l.active l.vars) l.s (take l.count l.picks) ≡ chosen (chart_of l.chart) l.event (seen l.active l.vars))
     × Held (chart_of l.chart) l.picks l.count l.gone × (l.s ≤ STATES)
-
-abbrev pub decreases-sources : goal.decreases-sources
-decreases-sources l = l.s

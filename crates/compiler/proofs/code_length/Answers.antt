@@ -4,12 +4,11 @@ use Rattle.compiler.proofs.Bounds.{code_most}
 use native.Mathlib.Omega.{arith}
 use Rattle.compiler.proofs.code_length.Goals as goal
 
-pub put_code-end-requires : goal.put_code-end-requires
-put_code-end-requires c = (
-  c.requires.0,
-  c.requires.1,
-  omega (arith, code_most c.args.chart.now c.requires.0.ruled),
+pub put_code-requires : goal.put_code-requires
+put_code-requires c = (
+  c.requires,
+  omega (arith, code_most c.args.c.now.chart.now c.args.c.now.prepared.ruled),
 )
 
 pub returns : goal.returns
-returns c = omega (arith, emits_at _ _ _ c.put_code-end.ensures)
+returns c = omega (arith, emits_at _ _ _ c.put_code.ensures)

@@ -1,6 +1,7 @@
 -- `compile_passed`: 4 by the length that the plan will have, else its parts one after the other, and 0 behind them. Assumes nothing.
 use Prim.Native.Nat.{ℕ}
-use lib.ListN.{length-replicate}
+use mathlib.Core.Path.{ap}
+use lib.ListN.{length, length-replicate}
 use Rattle.meaning.specs.Value.{chart_of}
 use Rattle.chart_rows.proofs.Rows.{vars_most}
 use Rattle.compiler.proofs.Bounds.{code_most}
@@ -9,39 +10,23 @@ use Rattle.compiler.proofs.Whole.{plan_long, whole_put, six_at, vars_at, heads_a
 use native.Mathlib.Omega.{arith}
 use Rattle.compiler.proofs.compile_passed.Goals as goal
 
-pub index_of-index-requires : goal.index_of-index-requires
-index_of-index-requires c = c.requires
-
 pub order_of-heads-requires : goal.order_of-heads-requires
-order_of-heads-requires c = (c.requires, length-replicate {A = ℕ} _ 0)
-
-pub start_length-start-requires : goal.start_length-start-requires
-start_length-start-requires c =
-    (record {
-      ruled = c.requires;
-      indexed = c.index_of-index.ensures;
-    })
+order_of-heads-requires c = (c.new-c.result.prepared.ruled, length-replicate {A = ℕ} _ 0)
 
 pub code_length-code-requires : goal.code_length-code-requires
-code_length-code-requires c = (
-  (record {
-    ruled = c.requires;
-    indexed = c.index_of-index.ensures;
-  }),
-  c.order_of-heads.ensures,
-)
+code_length-code-requires c = c.order_of-heads.ensures.is
 
 pub overflow_mul-length : goal.overflow_mul-length
 overflow_mul-length c =
     omega (
       arith,
       c.var_count-vars.ensures,
-      vars_most c.args.chart.now,
+      vars_most c.new-c.result.chart.now,
       c.order_of-heads.ensures.few,
       order_long c.order_of-heads.ensures,
       c.code_length-code.ensures,
-      code_most c.args.chart.now c.requires,
-      plan_long (chart_of c.args.chart.now),
+      code_most c.new-c.result.chart.now c.new-c.result.prepared.ruled,
+      plan_long (chart_of c.new-c.result.chart.now),
     )
 
 pub overflow_add-length : goal.overflow_add-length
@@ -49,25 +34,12 @@ overflow_add-length c =
     omega (
       arith,
       c.var_count-vars.ensures,
-      vars_most c.args.chart.now,
+      vars_most c.new-c.result.chart.now,
       c.order_of-heads.ensures.few,
       order_long c.order_of-heads.ensures,
       c.code_length-code.ensures,
-      code_most c.args.chart.now c.requires,
-      plan_long (chart_of c.args.chart.now),
-    )
-
-pub overflow_mul-length-2 : goal.overflow_mul-length-2
-overflow_mul-length-2 c =
-    omega (
-      arith,
-      c.var_count-vars.ensures,
-      vars_most c.args.chart.now,
-      c.order_of-heads.ensures.few,
-      order_long c.order_of-heads.ensures,
-      c.code_length-code.ensures,
-      code_most c.args.chart.now c.requires,
-      plan_long (chart_of c.args.chart.now),
+      code_most c.new-c.result.chart.now c.new-c.result.prepared.ruled,
+      plan_long (chart_of c.new-c.result.chart.now),
     )
 
 pub overflow_add-length-2 : goal.overflow_add-length-2
@@ -75,12 +47,12 @@ overflow_add-length-2 c =
     omega (
       arith,
       c.var_count-vars.ensures,
-      vars_most c.args.chart.now,
+      vars_most c.new-c.result.chart.now,
       c.order_of-heads.ensures.few,
       order_long c.order_of-heads.ensures,
       c.code_length-code.ensures,
-      code_most c.args.chart.now c.requires,
-      plan_long (chart_of c.args.chart.now),
+      code_most c.new-c.result.chart.now c.new-c.result.prepared.ruled,
+      plan_long (chart_of c.new-c.result.chart.now),
     )
 
 pub overflow_mul-length-3 : goal.overflow_mul-length-3
@@ -88,12 +60,12 @@ overflow_mul-length-3 c =
     omega (
       arith,
       c.var_count-vars.ensures,
-      vars_most c.args.chart.now,
+      vars_most c.new-c.result.chart.now,
       c.order_of-heads.ensures.few,
       order_long c.order_of-heads.ensures,
       c.code_length-code.ensures,
-      code_most c.args.chart.now c.requires,
-      plan_long (chart_of c.args.chart.now),
+      code_most c.new-c.result.chart.now c.new-c.result.prepared.ruled,
+      plan_long (chart_of c.new-c.result.chart.now),
     )
 
 pub overflow_add-length-3 : goal.overflow_add-length-3
@@ -101,31 +73,31 @@ overflow_add-length-3 c =
     omega (
       arith,
       c.var_count-vars.ensures,
-      vars_most c.args.chart.now,
+      vars_most c.new-c.result.chart.now,
       c.order_of-heads.ensures.few,
       order_long c.order_of-heads.ensures,
       c.code_length-code.ensures,
-      code_most c.args.chart.now c.requires,
-      plan_long (chart_of c.args.chart.now),
+      code_most c.new-c.result.chart.now c.new-c.result.prepared.ruled,
+      plan_long (chart_of c.new-c.result.chart.now),
     )
 
 pub returns-then-plan-length : goal.returns-then-plan-length
 returns-then-plan-length c =
-    compiles_over c.args.chart.now c.args.plan.now
-    c.requires (omega (
+    rw c.new-c.ensures at (compiles_over c.new-c.result.chart.now c.args.plan.now
+    c.new-c.result.prepared.ruled (omega (
       arith,
       c.var_count-vars.ensures,
-      vars_most c.args.chart.now,
+      vars_most c.new-c.result.chart.now,
       c.order_of-heads.ensures.few,
       order_long c.order_of-heads.ensures,
       c.code_length-code.ensures,
-      code_most c.args.chart.now c.requires,
-      plan_long (chart_of c.args.chart.now),
-    )) _ c.clear_from.ensures
+      code_most c.new-c.result.chart.now c.new-c.result.prepared.ruled,
+      plan_long (chart_of c.new-c.result.chart.now),
+    )) _ c.clear_from.ensures)
 
 pub put_six-p0-requires : goal.put_six-p0-requires
 put_six-p0-requires c = (
-  c.requires,
+  c.new-c.result.prepared.ruled,
   order_long c.order_of-heads.ensures,
   c.code_length-code.ensures,
   c.start_length-start.ensures,
@@ -135,64 +107,57 @@ pub put_vars-p1-requires : goal.put_vars-p1-requires
 put_vars-p1-requires c =
     omega (
       arith,
-      six_at (chart_of c.args.chart.now) _
+      six_at (chart_of c.new-c.result.chart.now) _
           c.put_six-p0.ensures,
     )
 
 pub put_heads-p2-requires : goal.put_heads-p2-requires
 put_heads-p2-requires c = (
-  (record {
-    ruled = c.requires;
-    indexed = c.index_of-index.ensures;
-  }),
-  c.order_of-heads.ensures,
+  c.order_of-heads.ensures.is,
   c.start_length-start.ensures,
   omega (
     arith,
-    six_at (chart_of c.args.chart.now) _
+    six_at (chart_of c.new-c.result.chart.now) _
         c.put_six-p0.ensures,
-    vars_at (chart_of c.args.chart.now) _ _
+    vars_at (chart_of c.new-c.result.chart.now) _ _
         c.put_vars-p1.ensures,
     c.var_count-vars.ensures,
-    vars_most c.args.chart.now,
+    vars_most c.new-c.result.chart.now,
     c.order_of-heads.ensures.few,
     order_long c.order_of-heads.ensures,
+    ap length c.order_of-heads.ensures.is,
     c.code_length-code.ensures,
-    code_most c.args.chart.now c.requires,
-    plan_long (chart_of c.args.chart.now),
+    code_most c.new-c.result.chart.now c.new-c.result.prepared.ruled,
+    plan_long (chart_of c.new-c.result.chart.now),
   ),
 )
 
 pub put_code-end-requires : goal.put_code-end-requires
 put_code-end-requires c = (
-  (record {
-    ruled = c.requires;
-    indexed = c.index_of-index.ensures;
-  }),
-  c.order_of-heads.ensures,
+  c.order_of-heads.ensures.is,
   omega (
     arith,
-    six_at (chart_of c.args.chart.now) _
+    six_at (chart_of c.new-c.result.chart.now) _
         c.put_six-p0.ensures,
-    vars_at (chart_of c.args.chart.now) _ _
+    vars_at (chart_of c.new-c.result.chart.now) _ _
         c.put_vars-p1.ensures,
-    heads_at (chart_of c.args.chart.now) _ _ _
+    heads_at (chart_of c.new-c.result.chart.now) _ _ _
         c.put_heads-p2.ensures,
     c.var_count-vars.ensures,
-    vars_most c.args.chart.now,
+    vars_most c.new-c.result.chart.now,
     c.order_of-heads.ensures.few,
     order_long c.order_of-heads.ensures,
     c.code_length-code.ensures,
-    code_most c.args.chart.now c.requires,
-    plan_long (chart_of c.args.chart.now),
+    code_most c.new-c.result.chart.now c.new-c.result.prepared.ruled,
+    plan_long (chart_of c.new-c.result.chart.now),
   ),
 )
 
 pub clear_from-requires-2 : goal.clear_from-requires-2
 clear_from-requires-2 c =
-    whole_fits c.args.chart.now
+    whole_fits c.new-c.result.chart.now
     c.args.plan.now _ _ _
-    (whole_put (chart_of c.args.chart.now) _
+    (whole_put (chart_of c.new-c.result.chart.now) _
     c.start_length-start.ensures _
     c.put_six-p0.ensures
     c.put_vars-p1.ensures
@@ -201,29 +166,29 @@ clear_from-requires-2 c =
     (omega (
       arith,
       c.var_count-vars.ensures,
-      vars_most c.args.chart.now,
+      vars_most c.new-c.result.chart.now,
       c.order_of-heads.ensures.few,
       order_long c.order_of-heads.ensures,
       c.code_length-code.ensures,
-      code_most c.args.chart.now c.requires,
-      plan_long (chart_of c.args.chart.now),
+      code_most c.new-c.result.chart.now c.new-c.result.prepared.ruled,
+      plan_long (chart_of c.new-c.result.chart.now),
     ))
 
 pub returns : goal.returns
 returns c =
-    compiles_whole c.args.chart.now c.args.plan.now
-    c.requires (omega (
+    rw c.new-c.ensures at (compiles_whole c.new-c.result.chart.now c.args.plan.now
+    c.new-c.result.prepared.ruled (omega (
       arith,
       c.var_count-vars.ensures,
-      vars_most c.args.chart.now,
+      vars_most c.new-c.result.chart.now,
       c.order_of-heads.ensures.few,
       order_long c.order_of-heads.ensures,
       c.code_length-code.ensures,
-      code_most c.args.chart.now c.requires,
-      plan_long (chart_of c.args.chart.now),
-    )) _ _ _ (whole_put (chart_of c.args.chart.now) _
+      code_most c.new-c.result.chart.now c.new-c.result.prepared.ruled,
+      plan_long (chart_of c.new-c.result.chart.now),
+    )) _ _ _ (whole_put (chart_of c.new-c.result.chart.now) _
     c.start_length-start.ensures _
     c.put_six-p0.ensures
     c.put_vars-p1.ensures
     c.put_heads-p2.ensures c.put_code-end.ensures)
-    c.clear_from-2.ensures
+    c.clear_from-2.ensures)

@@ -6,21 +6,17 @@ use native.Mathlib.Omega.{arith}
 use Rattle.compiler.proofs.put_code.Goals as goal
 
 pub put_start-p-requires : goal.put_start-p-requires
-put_start-p-requires c = (
-  c.requires.0,
-  omega (arith, c.requires.2, code_long c.args.chart.now c.requires.0.ruled),
-)
+put_start-p-requires c = omega (arith, c.requires.1, code_long c.args.c.now.chart.now c.args.c.now.prepared.ruled)
 
 pub put_blocks-requires : goal.put_blocks-requires
 put_blocks-requires c = (
   c.requires.0,
-  c.requires.1,
   omega (
     arith,
-    c.requires.2,
+    c.requires.1,
     emits_at _ _ _ c.put_start-p.ensures,
-    code_long c.args.chart.now
-        c.requires.0.ruled,
+    code_long c.args.c.now.chart.now
+        c.args.c.now.prepared.ruled,
   ),
 )
 

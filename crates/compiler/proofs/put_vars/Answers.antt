@@ -22,18 +22,6 @@ put_all-p-requires c =
       c.requires,
     )
 
-pub overflow_step-v : goal.overflow_step-v
-overflow_step-v c =
-    omega (
-      arith,
-      c.loop-v-test.true,
-      c.var_count-n.ensures,
-      vars_most c.args.chart.now,
-    )
-
-pub loop-v-smaller : goal.loop-v-smaller
-loop-v-smaller c = omega (arith, c.loop-v-test.true)
-
 pub loop-v-preserved : goal.loop-v-preserved
 loop-v-preserved c =
     let fl : SFits w32 c.var_row-row.result.low = search rules in
@@ -43,9 +31,6 @@ loop-v-preserved c =
     (omega (arith, c.loop-v-test.true, c.var_count-n.ensures)) _
     c.var_row-row.ensures
     (rw (to_z-of_z fl, to_z-of_z fh, to_z-of_z ff) at c.put_all-p.ensures)
-
-pub shape_of-plan : goal.shape_of-plan
-shape_of-plan c = omega (arith, same_sized _ _ _ _ _ _ c.loop-v.invariant.owes)
 
 pub returns : goal.returns
 returns c = ranging_end c.loop-v.invariant (omega (arith, c.loop-v-test.false, c.var_count-n.ensures))

@@ -6,7 +6,3 @@ use Rattle.compiler.proofs.put_vars.Given as goal
 abbrev pub invariant-loop-v : goal.invariant-loop-v
 invariant-loop-v l =
     Ranging (chart_of l.chart).vars l.initial.plan l.at l.v l.plan l.p
-
-abbrev pub decreases-loop-v : goal.decreases-loop-v
-decreases-loop-v l =
-    l.n - l.v

@@ -4,8 +4,8 @@ use Rattle.compiler.proofs.Bounds.{start_few}
 use native.Mathlib.Omega.{arith}
 use Rattle.compiler.proofs.start_length.Goals as goal
 
-pub put_start-end-requires : goal.put_start-end-requires
-put_start-end-requires c = (c.requires, omega (arith, start_few c.args.chart.now c.requires.ruled))
+pub put_start-requires : goal.put_start-requires
+put_start-requires c = (omega (arith, start_few c.args.c.now.chart.now c.args.c.now.prepared.ruled))
 
 pub returns : goal.returns
-returns c = omega (arith, emits_at _ _ _ c.put_start-end.ensures)
+returns c = omega (arith, emits_at _ _ _ c.put_start.ensures)

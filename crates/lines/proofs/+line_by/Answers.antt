@@ -29,7 +29,8 @@ returns-else-ne t c =
 
 -- a field that ends its form
 pub returns-then-is_some : goal.returns-then-is_some
-returns-then-is_some t c = goes_on _ _ c.if-i-ge-ENTRIES.false _ _ _ _ c.cut_at-part.ensures _ _ c.in-Last.ensures (some_of _ c.if-is_some.ensures)
+returns-then-is_some t c =
+    goes_on _ _ c.if-i-ge-ENTRIES.false _ _ _ _ c.cut_at-part.ensures _ _ c.in-Last.ensures (some_of _ c.if-is_some.ensures)
 
 pub returns-in_err-said-in-Last : goal.returns-in_err-said-in-Last
 returns-in_err-said-in-Last t c =

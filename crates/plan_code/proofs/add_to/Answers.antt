@@ -11,7 +11,4 @@ add-requires c =
     (var_below c.args.plan.now c.args.v c.requires.0, c.requires.1)
 
 pub returns : goal.returns
-returns c = (
-  c.add.ensures.0,
-  λ k. rw (to_z-of_z c.ranges.x, row_is c.args.plan.now c.args.v c.requires.0 c.var_row.ensures) at (c.add.ensures.1 k),
-)
+returns c = rw (to_z-of_z c.ranges.x, row_is c.args.plan.now c.args.v c.requires.0 c.var_row.ensures) at c.add.ensures

@@ -2,275 +2,283 @@
 use mathlib.Core.Path.{◌≡◌, refl, sym, ◌∙◌, subst}
 use Prim.Native.Nat.{ℕ, ◌+◌, ◌<◌}
 use native.Mathlib.Omega.{arith}
+use borrow.Author.Rules.{rules}
+use mir.Syntax.{w32}
+use mir.Val.{SFits}
 use lib.IntN.{pos}
-use lib.ListN.{get_or}
+use lib.ListN.{get_or, length}
 use mir.Facts.{to_z-of_z}
 use Rattle.sizes.specs.Sizes.{STATES}
 use Rattle.numbers.specs.Reference.{ref, NOWHERE}
 use Rattle.numbers.specs.Place.{place_of}
 use Rattle.numbers.proofs.Laws.{back32}
 use Rattle.chart_rows.proofs.Said.{said_of}
-use Rattle.meaning.specs.Widget.{is_filled}
-use Rattle.meaning.specs.Machine.{holds_it}
 use Rattle.plan_rows.proofs.Rows.{sized}
 use Rattle.widget.specs.Acts.{Below}
-use Rattle.widget.specs.View.{all_lent}
 use Rattle.plan_code.specs.Code.{Row, Names, Varied}
-use Rattle.plan_code.proofs.Executing.{enters, leaves, left_slots, sets, adds, takes, sends, tells}
-use Rattle.plan_code.proofs.Executing.{skips_out, skips_empty, skips_full, skips_not}
+use Rattle.plan_code.proofs.Executing.{enters, leaves, sets, adds, takes, sends, tells}
+use Rattle.plan_code.proofs.Executing.{skips_out, skips_empty, skips_full, skips_not, is_some_filled, not_some_empty, same_holds}
 use Rattle.plan_code.proofs.Reading.{is_in, is_out, is_skip_out, is_skip_empty, is_skip_full, is_skip_not}
 use Rattle.plan_code.proofs.Reading.{is_set, is_add, is_take, is_send, is_tell}
 use Rattle.plan_code.proofs.Reading.{in_names, out_names, skip_out_names, skip_empty_names, skip_full_names, skip_not_names}
 use Rattle.plan_code.proofs.Reading.{set_names, add_names, take_names, send_names}
-use Rattle.plan_code.proofs.exec.Goals.{After-named-code}
+use Rattle.plan_code.proofs.exec.Goals.{After-named}
 use Rattle.plan_code.proofs.exec.Goals as goal
 
 -- ---- the row, and its code
-abbrev its-row : (n : After-named-code) → Row n.args.plan.now n.args.row
+abbrev its-row : (n : After-named) → Row n.args.plan.now n.args.row
 its-row n = n.requires.0
 
-says : (n : After-named-code) {k : ℕ} → n.named-code.result ≡ k
-    → ref (get_or n.args.plan.now (n.args.row + 0) (pos 0)) ≡ k
-says n e = sym n.named-code.ensures ∙ e
+says : (n : After-named) {k : ℕ} → n.named.result ≡ k → ref (get_or n.args.plan.now (n.args.row + 0) (pos 0)) ≡ k
+says n e = sym n.named.ensures ∙ e
 
 -- a number of the row that names something
-names : (n : After-named-code) (j : ℕ) → j < 4 → ref (get_or n.args.plan.now (n.args.row + j) (pos 0)) < NOWHERE
+names : (n : After-named) (j : ℕ) → j < 4 → ref (get_or n.args.plan.now (n.args.row + j) (pos 0)) < NOWHERE
     → Names n.args.plan.now (n.args.row + j)
 names n j l h = (omega (arith, (its-row n).whole, l), h)
 
 -- ---- IN, OUT
 pub known-requires : goal.known-requires
 known-requires c =
-    let n = (goal.at.known-requires c).After-named-code in
-    names n 1 (omega arith) (omega (arith, in_names (its-row n) (says n c.in-1.is)))
+    let n = (goal.at.known-requires c).After-named in
+    names n 1 (omega arith) (omega (arith, in_names (its-row n) (says n c.in-In.ensures)))
 
 pub mark_entered-requires : goal.mark_entered-requires
 mark_entered-requires c =
-    let n = (goal.at.mark_entered-requires c).After-named-code in
-    (rw c.known.ensures (in_names (its-row n) (says n c.in-1.is)), c.requires.2)
+    let n = (goal.at.mark_entered-requires c).After-named in
+    (rw c.known.ensures (in_names (its-row n) (says n c.in-In.ensures)), c.requires.1)
 
-pub known-requires-in-2 : goal.known-requires-in-2
-known-requires-in-2 c =
-    let n = (goal.at.known-requires-in-2 c).After-named-code in
-    names n 1 (omega arith) (omega (arith, (out_names (its-row n) (says n c.in-2.is)).0))
+pub known-requires-in-Out : goal.known-requires-in-Out
+known-requires-in-Out c =
+    let n = (goal.at.known-requires-in-Out c).After-named in
+    names n 1 (omega arith) (omega (arith, (out_names (its-row n) (says n c.in-Out.ensures)).0))
 
 pub mark_left-requires : goal.mark_left-requires
 mark_left-requires c =
-    let n = (goal.at.mark_left-requires c).After-named-code in
+    let n = (goal.at.mark_left-requires c).After-named in
     let r = c.read in
-    let o = out_names (its-row n) (says n c.in-2.is) in (
+    let o = out_names (its-row n) (says n c.in-Out.ensures) in (
       subst (Below STATES) (sym (said_of place_of r.type_inv r.ensures c.place_of-p.ensures)) o.1,
-      rw c.known-in-2.ensures o.0,
-      c.requires.2,
+      rw c.known-in-Out.ensures o.0,
+      c.requires.1,
     )
 
-pub returns-in-1 : goal.returns-in-1
-returns-in-1 c =
-    let n = (goal.at.returns-in-1 c).After-named-code in
-    let a = c.args in
-    enters c.onward.ensures (is_in (its-row n) c.known.ensures (says n c.in-1.is))
-    (c.mark_entered.ensures.1
-    (all_lent a.active.now a.slots.now a.vars.now a.queue.now a.trace.now)) refl
+pub returns-in-In : goal.returns-in-In
+returns-in-In c =
+    let n = (goal.at.returns-in-In c).After-named in
+    enters c.onward.ensures (is_in (its-row n) c.known.ensures (says n c.in-In.ensures)) c.mark_entered.ensures
 
-pub returns-in-2 : goal.returns-in-2
-returns-in-2 c =
-    let n = (goal.at.returns-in-2 c).After-named-code in
-    let a = c.args in
+pub returns-in-Out : goal.returns-in-Out
+returns-in-Out c =
+    let n = (goal.at.returns-in-Out c).After-named in
     let r = c.read in
-    leaves c.onward-in-2.ensures
-    (is_out (its-row n) c.known-in-2.ensures (says n c.in-2.is)
-    (said_of place_of r.type_inv r.ensures c.place_of-p.ensures))
-    (c.mark_left.ensures.1
-    (all_lent a.active.now a.slots.now a.vars.now a.queue.now a.trace.now))
-    (left_slots _ _ c.mark_left.ensures.1)
+    leaves c.onward-in-Out.ensures
+    (is_out (its-row n) c.known-in-Out.ensures (says n c.in-Out.ensures)
+    (said_of place_of r.type_inv r.ensures c.place_of-p.ensures)) c.mark_left.ensures
 
 -- ---- SKIPOUT, SKIPEMPTY, SKIPFULL, SKIPNOT
-pub known-requires-in-3 : goal.known-requires-in-3
-known-requires-in-3 c =
-    let n = (goal.at.known-requires-in-3 c).After-named-code in
-    names n 1 (omega arith) (omega (arith, (skip_out_names (its-row n) (says n c.in-3.is)).0))
+pub known-requires-in-SkipOut : goal.known-requires-in-SkipOut
+known-requires-in-SkipOut c =
+    let n = (goal.at.known-requires-in-SkipOut c).After-named in
+    names n 1 (omega arith) (omega (arith, (skip_out_names (its-row n) (says n c.in-SkipOut.ensures)).0))
 
-pub is_active-requires : goal.is_active-requires
-is_active-requires c =
-    let n = (goal.at.is_active-requires c).After-named-code in
-    rw c.known-in-3.ensures (skip_out_names (its-row n) (says n c.in-3.is)).0
+pub bounds-widget-known : goal.bounds-widget-known
+bounds-widget-known c =
+    let n = (goal.at.bounds-widget-known c).After-named in
+    omega (arith, c.known-in-SkipOut.ensures, (skip_out_names (its-row n) (says n c.in-SkipOut.ensures)).0)
 
 pub unless-requires : goal.unless-requires
 unless-requires c =
-    let n = (goal.at.unless-requires c).After-named-code in
-    names n 2 (omega arith) (omega (arith, (skip_out_names (its-row n) (says n c.in-3.is)).1))
+    let n = (goal.at.unless-requires c).After-named in
+    names n 2 (omega arith) (omega (arith, (skip_out_names (its-row n) (says n c.in-SkipOut.ensures)).1))
 
-pub known-requires-in-4 : goal.known-requires-in-4
-known-requires-in-4 c =
-    let n = (goal.at.known-requires-in-4 c).After-named-code in
-    names n 1 (omega arith) (omega (arith, (skip_empty_names (its-row n) (says n c.in-4.is)).0))
+pub known-requires-in-SkipEmpty : goal.known-requires-in-SkipEmpty
+known-requires-in-SkipEmpty c =
+    let n = (goal.at.known-requires-in-SkipEmpty c).After-named in
+    names n 1 (omega arith) (omega (arith, (skip_empty_names (its-row n) (says n c.in-SkipEmpty.ensures)).0))
 
-pub slot-requires : goal.slot-requires
-slot-requires c =
-    let n = (goal.at.slot-requires c).After-named-code in
-    rw c.known-in-4.ensures (skip_empty_names (its-row n) (says n c.in-4.is)).0
+pub bounds-widget-known-in-SkipEmpty : goal.bounds-widget-known-in-SkipEmpty
+bounds-widget-known-in-SkipEmpty c =
+    let n = (goal.at.bounds-widget-known-in-SkipEmpty c).After-named in
+    omega (arith, c.known-in-SkipEmpty.ensures, (skip_empty_names (its-row n) (says n c.in-SkipEmpty.ensures)).0)
 
-pub unless-requires-in-4 : goal.unless-requires-in-4
-unless-requires-in-4 c =
-    let n = (goal.at.unless-requires-in-4 c).After-named-code in
-    names n 2 (omega arith) (omega (arith, (skip_empty_names (its-row n) (says n c.in-4.is)).1))
+pub offset_bounds-widget-known : goal.offset_bounds-widget-known
+offset_bounds-widget-known c =
+    let n = (goal.at.offset_bounds-widget-known c).After-named in
+    omega (arith, c.known-in-SkipEmpty.ensures, (skip_empty_names (its-row n) (says n c.in-SkipEmpty.ensures)).0)
 
-pub known-requires-in-5 : goal.known-requires-in-5
-known-requires-in-5 c =
-    let n = (goal.at.known-requires-in-5 c).After-named-code in
-    names n 1 (omega arith) (omega (arith, (skip_full_names (its-row n) (says n c.in-5.is)).0))
+pub unless-requires-in-SkipEmpty : goal.unless-requires-in-SkipEmpty
+unless-requires-in-SkipEmpty c =
+    let n = (goal.at.unless-requires-in-SkipEmpty c).After-named in
+    names n 2 (omega arith) (omega (arith, (skip_empty_names (its-row n) (says n c.in-SkipEmpty.ensures)).1))
 
-pub slot-requires-in-5 : goal.slot-requires-in-5
-slot-requires-in-5 c =
-    let n = (goal.at.slot-requires-in-5 c).After-named-code in
-    rw c.known-in-5.ensures (skip_full_names (its-row n) (says n c.in-5.is)).0
+pub known-requires-in-SkipFull : goal.known-requires-in-SkipFull
+known-requires-in-SkipFull c =
+    let n = (goal.at.known-requires-in-SkipFull c).After-named in
+    names n 1 (omega arith) (omega (arith, (skip_full_names (its-row n) (says n c.in-SkipFull.ensures)).0))
 
-pub unless-requires-in-5 : goal.unless-requires-in-5
-unless-requires-in-5 c =
-    let n = (goal.at.unless-requires-in-5 c).After-named-code in
-    names n 2 (omega arith) (omega (arith, (skip_full_names (its-row n) (says n c.in-5.is)).1))
+pub bounds-widget-known-in-SkipFull : goal.bounds-widget-known-in-SkipFull
+bounds-widget-known-in-SkipFull c =
+    let n = (goal.at.bounds-widget-known-in-SkipFull c).After-named in
+    omega (arith, c.known-in-SkipFull.ensures, (skip_full_names (its-row n) (says n c.in-SkipFull.ensures)).0)
 
-pub known-requires-in-6 : goal.known-requires-in-6
-known-requires-in-6 c =
-    let n = (goal.at.known-requires-in-6 c).After-named-code in
-    names n 1 (omega arith) (omega (arith, (skip_not_names (its-row n) (says n c.in-6.is)).0))
+pub offset_bounds-widget-known-in-SkipFull : goal.offset_bounds-widget-known-in-SkipFull
+offset_bounds-widget-known-in-SkipFull c =
+    let n = (goal.at.offset_bounds-widget-known-in-SkipFull c).After-named in
+    omega (arith, c.known-in-SkipFull.ensures, (skip_full_names (its-row n) (says n c.in-SkipFull.ensures)).0)
 
-pub slot-held-requires : goal.slot-held-requires
-slot-held-requires c =
-    let n = (goal.at.slot-held-requires c).After-named-code in
-    rw c.known-in-6.ensures (skip_not_names (its-row n) (says n c.in-6.is)).0
+pub unless-requires-in-SkipFull : goal.unless-requires-in-SkipFull
+unless-requires-in-SkipFull c =
+    let n = (goal.at.unless-requires-in-SkipFull c).After-named in
+    names n 2 (omega arith) (omega (arith, (skip_full_names (its-row n) (says n c.in-SkipFull.ensures)).1))
 
-pub known-requires-in-6-2 : goal.known-requires-in-6-2
-known-requires-in-6-2 c =
-    let n = (goal.at.known-requires-in-6-2 c).After-named-code in
-    names n 2 (omega arith) (omega (arith, (skip_not_names (its-row n) (says n c.in-6.is)).1))
+pub known-requires-in-SkipNot : goal.known-requires-in-SkipNot
+known-requires-in-SkipNot c =
+    let n = (goal.at.known-requires-in-SkipNot c).After-named in
+    names n 1 (omega arith) (omega (arith, (skip_not_names (its-row n) (says n c.in-SkipNot.ensures)).0))
 
-pub unless-requires-in-6 : goal.unless-requires-in-6
-unless-requires-in-6 c =
-    let n = (goal.at.unless-requires-in-6 c).After-named-code in
-    names n 3 (omega arith) (omega (arith, (skip_not_names (its-row n) (says n c.in-6.is)).2))
+pub bounds-widget-known-in-SkipNot : goal.bounds-widget-known-in-SkipNot
+bounds-widget-known-in-SkipNot c =
+    let n = (goal.at.bounds-widget-known-in-SkipNot c).After-named in
+    omega (arith, c.known-in-SkipNot.ensures, (skip_not_names (its-row n) (says n c.in-SkipNot.ensures)).0)
 
-pub returns-in-3 : goal.returns-in-3
-returns-in-3 c =
-    let n = (goal.at.returns-in-3 c).After-named-code in
-    let e = says n c.in-3.is in
-    skips_out c.unless.ensures c.requires.2 (skip_out_names (its-row n) e).1
-    (is_skip_out (its-row n) c.known-in-3.ensures e) c.is_active.ensures
+pub offset_bounds-widget-known-in-SkipNot : goal.offset_bounds-widget-known-in-SkipNot
+offset_bounds-widget-known-in-SkipNot c =
+    let n = (goal.at.offset_bounds-widget-known-in-SkipNot c).After-named in
+    omega (arith, c.known-in-SkipNot.ensures, (skip_not_names (its-row n) (says n c.in-SkipNot.ensures)).0)
 
-pub returns-in-4 : goal.returns-in-4
-returns-in-4 c =
-    let n = (goal.at.returns-in-4 c).After-named-code in
-    let e = says n c.in-4.is in
-    let s = c.slot in
+pub known-d-requires : goal.known-d-requires
+known-d-requires c =
+    let n = (goal.at.known-d-requires c).After-named in
+    names n 2 (omega arith) (omega (arith, (skip_not_names (its-row n) (says n c.in-SkipNot.ensures)).1))
+
+pub unless-requires-in-SkipNot : goal.unless-requires-in-SkipNot
+unless-requires-in-SkipNot c =
+    let n = (goal.at.unless-requires-in-SkipNot c).After-named in
+    names n 3 (omega arith) (omega (arith, (skip_not_names (its-row n) (says n c.in-SkipNot.ensures)).2))
+
+pub returns-in-SkipOut : goal.returns-in-SkipOut
+returns-in-SkipOut c =
+    let n = (goal.at.returns-in-SkipOut c).After-named in
+    let e = says n c.in-SkipOut.ensures in
+    skips_out _ c.unless.ensures c.requires.1 (skip_out_names (its-row n) e).1 (is_skip_out (its-row n) c.known-in-SkipOut.ensures e) refl
+
+pub returns-in-SkipEmpty : goal.returns-in-SkipEmpty
+returns-in-SkipEmpty c =
+    let n = (goal.at.returns-in-SkipEmpty c).After-named in
+    let e = says n c.in-SkipEmpty.ensures in
     let k = skip_empty_names (its-row n) e in
-    skips_empty c.unless-in-4.ensures c.requires.2 k.1 (is_skip_empty (its-row n) c.known-in-4.ensures e)
-    (rw c.known-in-4.ensures k.0) c.requires.1
-    (said_of (λ z. is_filled (place_of z)) s.type_inv s.ensures c.filled.ensures)
+    let s = c.known-in-SkipEmpty.result in
+    let x : SFits w32 (get_or c.args.widget.now.slots s (pos 0)) = search rules in
+    let long : length c.args.widget.now.slots ≡ STATES = search rules in
+    skips_empty _ c.unless-in-SkipEmpty.ensures c.requires.1 k.1 (omega (arith, long, c.known-in-SkipEmpty.ensures, k.0))
+    (rw (to_z-of_z x) at c.place_of-held.ensures)
+    (is_skip_empty (its-row n) c.known-in-SkipEmpty.ensures e) (c.is_some.ensures ∙ is_some_filled c.place_of-held.result)
 
-pub returns-in-5 : goal.returns-in-5
-returns-in-5 c =
-    let n = (goal.at.returns-in-5 c).After-named-code in
-    let e = says n c.in-5.is in
-    let s = c.slot-in-5 in
+pub returns-in-SkipFull : goal.returns-in-SkipFull
+returns-in-SkipFull c =
+    let n = (goal.at.returns-in-SkipFull c).After-named in
+    let e = says n c.in-SkipFull.ensures in
     let k = skip_full_names (its-row n) e in
-    skips_full c.unless-in-5.ensures c.requires.2 k.1 (is_skip_full (its-row n) c.known-in-5.ensures e)
-    (rw c.known-in-5.ensures k.0) c.requires.1 refl
-    (said_of (λ z. is_filled (place_of z)) s.type_inv s.ensures c.filled-in-5.ensures)
+    let s = c.known-in-SkipFull.result in
+    let x : SFits w32 (get_or c.args.widget.now.slots s (pos 0)) = search rules in
+    let long : length c.args.widget.now.slots ≡ STATES = search rules in
+    skips_full _ c.unless-in-SkipFull.ensures c.requires.1 k.1 (omega (arith, long, c.known-in-SkipFull.ensures, k.0))
+    (rw (to_z-of_z x) at c.place_of-held-in-SkipFull.ensures)
+    (is_skip_full (its-row n) c.known-in-SkipFull.ensures e) (not_some_empty c.is_none.result c.place_of-held-in-SkipFull.result c.is_none.ensures)
 
-pub returns-in-6 : goal.returns-in-6
-returns-in-6 c =
-    let n = (goal.at.returns-in-6 c).After-named-code in
-    let e = says n c.in-6.is in
-    let s = c.slot-held in
+pub returns-in-SkipNot : goal.returns-in-SkipNot
+returns-in-SkipNot c =
+    let n = (goal.at.returns-in-SkipNot c).After-named in
+    let e = says n c.in-SkipNot.ensures in
     let k = skip_not_names (its-row n) e in
-    skips_not c.unless-in-6.ensures c.requires.2 k.2
-    (is_skip_not (its-row n) c.known-in-6.ensures e c.known-in-6-2.ensures) (rw c.known-in-6.ensures k.0) c.requires.1
-    (said_of (λ z. holds_it c.known-in-6-2.result (place_of z)) s.type_inv s.ensures c.holds.ensures)
+    let s = c.known-in-SkipNot.result in
+    let x : SFits w32 (get_or c.args.widget.now.slots s (pos 0)) = search rules in
+    let long : length c.args.widget.now.slots ≡ STATES = search rules in
+    skips_not _ c.unless-in-SkipNot.ensures c.requires.1 k.2 (omega (arith, long, c.known-in-SkipNot.ensures, k.0))
+    (rw (to_z-of_z x) at c.place_of-held-in-SkipNot.ensures)
+    (is_skip_not (its-row n) c.known-in-SkipNot.ensures e c.known-d.ensures) (c.eq.ensures ∙ same_holds c.known-d.result c.place_of-held-in-SkipNot.result)
 
 -- ---- SET, ADD, TAKE, SEND, TELL
 -- a variable of the plan names something
-varied : (n : After-named-code)
+varied : (n : After-named)
     → Varied n.args.plan.now (ref (get_or n.args.plan.now (n.args.row + 1) (pos 0)))
     → Names n.args.plan.now (n.args.row + 1)
 varied n v = names n 1 (omega arith) (omega (arith, (sized n.args.plan.now).vars, v.1))
 
-pub known-requires-in-7 : goal.known-requires-in-7
-known-requires-in-7 c = let n = (goal.at.known-requires-in-7 c).After-named-code in varied n (set_names (its-row n) (says n c.in-7.is))
+pub known-requires-in-Set : goal.known-requires-in-Set
+known-requires-in-Set c =
+    let n = (goal.at.known-requires-in-Set c).After-named in
+    varied n (set_names (its-row n) (says n c.in-Set.ensures))
 
 pub set-requires : goal.set-requires
 set-requires c =
-    let n = (goal.at.set-requires c).After-named-code in
-    (rw c.known-in-7.ensures (set_names (its-row n) (says n c.in-7.is)), c.requires.2)
+    let n = (goal.at.set-requires c).After-named in
+    (rw c.known-in-Set.ensures (set_names (its-row n) (says n c.in-Set.ensures)), c.requires.1)
 
-pub known-requires-in-8 : goal.known-requires-in-8
-known-requires-in-8 c = let n = (goal.at.known-requires-in-8 c).After-named-code in varied n (add_names (its-row n) (says n c.in-8.is))
+pub known-requires-in-Add : goal.known-requires-in-Add
+known-requires-in-Add c =
+    let n = (goal.at.known-requires-in-Add c).After-named in
+    varied n (add_names (its-row n) (says n c.in-Add.ensures))
 
 pub add_to-requires : goal.add_to-requires
 add_to-requires c =
-    let n = (goal.at.add_to-requires c).After-named-code in
-    (rw c.known-in-8.ensures (add_names (its-row n) (says n c.in-8.is)), c.requires.2)
+    let n = (goal.at.add_to-requires c).After-named in
+    (rw c.known-in-Add.ensures (add_names (its-row n) (says n c.in-Add.ensures)), c.requires.1)
 
-pub known-requires-in-9 : goal.known-requires-in-9
-known-requires-in-9 c = let n = (goal.at.known-requires-in-9 c).After-named-code in varied n (take_names (its-row n) (says n c.in-9.is))
+pub known-requires-in-Take : goal.known-requires-in-Take
+known-requires-in-Take c =
+    let n = (goal.at.known-requires-in-Take c).After-named in
+    varied n (take_names (its-row n) (says n c.in-Take.ensures))
 
-pub set-requires-in-9 : goal.set-requires-in-9
-set-requires-in-9 c =
-    let n = (goal.at.set-requires-in-9 c).After-named-code in
-    (rw c.known-in-9.ensures (take_names (its-row n) (says n c.in-9.is)), c.requires.2)
+pub set-requires-in-Take : goal.set-requires-in-Take
+set-requires-in-Take c =
+    let n = (goal.at.set-requires-in-Take c).After-named in
+    (rw c.known-in-Take.ensures (take_names (its-row n) (says n c.in-Take.ensures)), c.requires.1)
 
-pub known-requires-in-10 : goal.known-requires-in-10
-known-requires-in-10 c = let n = (goal.at.known-requires-in-10 c).After-named-code in names n 1 (omega arith) (send_names (its-row n) (says n c.in-10.is))
+pub known-requires-in-Send : goal.known-requires-in-Send
+known-requires-in-Send c =
+    let n = (goal.at.known-requires-in-Send c).After-named in
+    names n 1 (omega arith) (send_names (its-row n) (says n c.in-Send.ensures))
 
 pub send-requires : goal.send-requires
 send-requires c =
-    let n = (goal.at.send-requires c).After-named-code in
-    (rw c.known-in-10.ensures (send_names (its-row n) (says n c.in-10.is)), c.requires.2)
+    let n = (goal.at.send-requires c).After-named in
+    (rw c.known-in-Send.ensures (send_names (its-row n) (says n c.in-Send.ensures)), c.requires.1)
 
-pub returns-in-7 : goal.returns-in-7
-returns-in-7 c =
-    let n = (goal.at.returns-in-7 c).After-named-code in
-    let a = c.args in
-    sets c.onward-in-7.ensures c.known-in-7.result c.read-in-7.result
-    (is_set (its-row n) c.known-in-7.ensures (says n c.in-7.is) c.read-in-7.ensures)
-    (rw (back32 c.read-in-7.result c.read-in-7.type_inv) at
-    (c.set.ensures.1
-    (all_lent a.active.now a.slots.now a.vars.now a.queue.now a.trace.now))) refl
+pub returns-in-Set : goal.returns-in-Set
+returns-in-Set c =
+    let n = (goal.at.returns-in-Set c).After-named in
+    sets c.onward-in-Set.ensures c.known-in-Set.result c.read-in-Set.result
+    (is_set (its-row n) c.known-in-Set.ensures (says n c.in-Set.ensures) c.read-in-Set.ensures)
+    (rw (back32 c.read-in-Set.result c.read-in-Set.type_inv) at c.set.ensures)
 
-pub returns-in-8 : goal.returns-in-8
-returns-in-8 c =
-    let n = (goal.at.returns-in-8 c).After-named-code in
-    let a = c.args in
-    adds c.onward-in-8.ensures c.known-in-8.result c.read-in-8.result
-    (is_add (its-row n) c.known-in-8.ensures (says n c.in-8.is) c.read-in-8.ensures)
-    (rw (back32 c.read-in-8.result c.read-in-8.type_inv) at
-    (c.add_to.ensures.1
-    (all_lent a.active.now a.slots.now a.vars.now a.queue.now a.trace.now))) refl
+pub returns-in-Add : goal.returns-in-Add
+returns-in-Add c =
+    let n = (goal.at.returns-in-Add c).After-named in
+    adds c.onward-in-Add.ensures c.known-in-Add.result c.read-in-Add.result
+    (is_add (its-row n) c.known-in-Add.ensures (says n c.in-Add.ensures) c.read-in-Add.ensures)
+    (rw (back32 c.read-in-Add.result c.read-in-Add.type_inv) at c.add_to.ensures)
 
-pub returns-in-9 : goal.returns-in-9
-returns-in-9 c =
-    let n = (goal.at.returns-in-9 c).After-named-code in
-    let a = c.args in
-    takes c.onward-in-9.ensures c.known-in-9.result (is_take (its-row n) c.known-in-9.ensures (says n c.in-9.is))
-    (rw (to_z-of_z c.ranges.arg) at
-    (c.set-in-9.ensures.1
-    (all_lent a.active.now a.slots.now a.vars.now a.queue.now a.trace.now))) refl
+pub returns-in-Send : goal.returns-in-Send
+returns-in-Send c =
+    let n = (goal.at.returns-in-Send c).After-named in
+    sends c.onward-in-Send.ensures c.known-in-Send.result c.read-in-Send.result
+    (is_send (its-row n) c.known-in-Send.ensures (says n c.in-Send.ensures) c.read-in-Send.ensures)
+    (rw (back32 c.read-in-Send.result c.read-in-Send.type_inv) at c.send.ensures)
 
-pub returns-in-10 : goal.returns-in-10
-returns-in-10 c =
-    let n = (goal.at.returns-in-10 c).After-named-code in
-    let a = c.args in
-    sends c.onward-in-10.ensures c.known-in-10.result c.read-in-10.result
-    (is_send (its-row n) c.known-in-10.ensures (says n c.in-10.is) c.read-in-10.ensures)
-    (rw (back32 c.read-in-10.result c.read-in-10.type_inv) at
-    (c.send.ensures.1
-    (all_lent a.active.now a.slots.now a.vars.now a.queue.now a.trace.now))) refl
+pub returns-in-Take : goal.returns-in-Take
+returns-in-Take c =
+    let n = (goal.at.returns-in-Take c).After-named in
+    takes c.onward-in-Take.ensures c.known-in-Take.result
+    (is_take (its-row n) c.known-in-Take.ensures (says n c.in-Take.ensures)) (rw (to_z-of_z c.ranges.arg) at c.set-in-Take.ensures)
 
-pub returns-in_default : goal.returns-in_default
-returns-in_default c =
-    let a = c.args in
-    tells c.onward-in_default.ensures c.read-in_default.result
-    (is_tell (its-row (goal.at.returns-in_default c).After-named-code) (omega arith) (omega arith) (omega arith) (omega arith)
-    (omega arith) (omega arith) (omega arith) (omega arith) (omega arith) (omega arith) c.read-in_default.ensures)
-    (rw (back32 c.read-in_default.result c.read-in_default.type_inv) at
-    (c.tell.ensures.1
-    (all_lent a.active.now a.slots.now a.vars.now a.queue.now a.trace.now))) refl
+pub returns-in-Tell : goal.returns-in-Tell
+returns-in-Tell c =
+    let n = (goal.at.returns-in-Tell c).After-named in
+    let w = c.in-Tell.ensures in
+    let e = n.named.ensures in
+    tells c.onward-in-Tell.ensures c.read-in-Tell.result
+    (is_tell (its-row n) (λ z. w.0 (e ∙ z)) (λ z. w.1 (e ∙ z)) (λ z. w.2 (e ∙ z)) (λ z. w.3 (e ∙ z)) (λ z. w.4 (e ∙ z))
+    (λ z. w.5 (e ∙ z)) (λ z. w.6 (e ∙ z)) (λ z. w.7 (e ∙ z)) (λ z. w.8 (e ∙ z)) (λ z. w.9 (e ∙ z)) c.read-in-Tell.ensures)
+    (rw (back32 c.read-in-Tell.result c.read-in-Tell.type_inv) at (c.tell.ensures c.args.widget.now))

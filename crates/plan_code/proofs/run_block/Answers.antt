@@ -5,6 +5,8 @@ use mathlib.Core.List.{List}
 use lib.ListN.{length, get_or}
 use lib.IntN.{ℤ}
 use native.Mathlib.Omega.{arith}
+use borrow.Author.Rules.{rules}
+use Rattle.std.specs.Prelude.{Err}
 use mir.Facts.{to_z-of_z}
 use mir.Syntax.{w64}
 use mir.Val.{Fits}
@@ -13,7 +15,7 @@ use Rattle.plan_choice.proofs.Facts.{counts_sized}
 use Rattle.plan_code.specs.Code.{Row, instr_from}
 use Rattle.plan_code.proofs.Named.{block_near, instr_whole, in_code, instr_is, instr_runs}
 use Rattle.plan_code.proofs.Walk.{walking_begin, walking_end, walking_stop, standing_on, standing_past, block_by}
-use Rattle.plan_code.proofs.run_block.Goals.{After-code_at-base, After-exec-done, In-loop-row}
+use Rattle.plan_code.proofs.run_block.Goals.{After-code_at-base, In_ok-done, In-loop-row}
 use Rattle.plan_code.proofs.run_block.Goals as goal
 
 pub code_at-base-requires : goal.code_at-base-requires
@@ -38,14 +40,14 @@ pub overflow_add-base : goal.overflow_add-base
 overflow_add-base c = omega (arith, ends (goal.at.overflow_add-base c).After-code_at-base)
 
 -- where the rows of the plan begin
-begins : (c : After-code_at-base) → c.code_at-base.result ≡ code_at (counts_of c.args.plan.now)
+begins : (c : After-code_at-base) → c.code_at-base.result ≡ code_at (counts_of c.args.plan.now.numbers.now)
 begins c = c.code_at-base.ensures ∙ ap code_at c.requires.0.examined.counted
 
 pub pass_skips-row-requires : goal.pass_skips-row-requires
 pass_skips-row-requires c =
     let b = begins (goal.at.pass_skips-row-requires c).After-code_at-base in
     record {
-      k = c.args.k;
+      k = c.args.plan.now.counts;
       start = c.args.start;
       len = c.args.len;
       i = c.args.start;
@@ -57,13 +59,13 @@ pass_skips-row-requires c =
 
 pub loop-row-init : goal.loop-row-init
 loop-row-init c =
-    standing_past (record { i = c.args.start; here = refl; walking = walking_begin c.requires.2 }) refl
+    standing_past (record { i = c.args.start; here = refl; walking = walking_begin c.requires.1 }) refl
     (begins (goal.at.loop-row-init c).After-code_at-base) c.pass_skips-row.ensures
 
 -- ---- a turn
 module _ (c : In-loop-row) where
   abbrev ns : List ℤ
-  ns = c.args.plan.now
+  ns = c.args.plan.now.numbers.now
 
   within : c.loop-row.invariant.i < c.args.start + c.args.len
   within = omega (arith, c.loop-row.invariant.here, c.loop-row-test.true)
@@ -88,67 +90,56 @@ module _ (c : In-loop-row) where
         runs = instr_runs b p _ w within (ap (instr_from ns) c.loop-row.invariant.here);
       }
 
-pub exec-done-requires : goal.exec-done-requires
-exec-done-requires c =
-    let w = c.loop-row.invariant.walking in
-    (its-row (goal.at.exec-done-requires c).In-loop-row, w.slotted ∙ c.requires.1, w.owes.fits)
+pub exec-requires : goal.exec-requires
+exec-requires c = (its-row (goal.at.exec-requires c).In-loop-row, c.loop-row.invariant.walking.owes.fits)
 
-pub returns-then-done-ne0 : goal.returns-then-done-ne0
-returns-then-done-ne0 c =
-    let i = (goal.at.returns-then-done-ne0 c).In-loop-row in
+pub returns-in_err-done : goal.returns-in_err-done
+returns-in_err-done c =
+    let i = (goal.at.returns-in_err-done c).In-loop-row in
     let a = c.args in
-    block_by _ _ (plan_by a.plan.now).code _ a.start a.len refl
+    let q : c.from_residual.result ≡ Err c.in_err-done.field-0.0 = search rules in
+    rw q (block_by _ _ (plan_by a.plan.now.numbers.now).code _ a.start a.len refl
     (rw (to_z-of_z c.ranges.arg) at
-    (walking_stop c.loop-row.invariant.walking (within i) (its-code i) (its-instr i) c.exec-done.ensures c.if-done-ne0.true))
+    (walking_stop c.loop-row.invariant.walking (within i) (its-code i) (its-instr i) c.in_err-done.ensures)))
 
 -- the next row begins at a place of 64 bits
-further : (e : After-exec-done) → Fits w64 (e.loop-row.row + (1 + e.exec-done.result.over) * INSTR_ROW)
+further : (e : In_ok-done) → Fits w64 (e.loop-row.row + (1 + e.in_ok-done.done.over) * INSTR_ROW)
 further e =
-    omega (arith, block_near e.requires.0 e.code_at-base.ensures, e.loop-row-test.true, e.exec-done.ensures.near)
-
-pub overflow_add-row : goal.overflow_add-row
-overflow_add-row c = omega (arith, further (goal.at.overflow_add-row c).After-exec-done)
-
-pub overflow_mul-row : goal.overflow_mul-row
-overflow_mul-row c = omega (arith, further (goal.at.overflow_mul-row c).After-exec-done)
+    omega (arith, block_near e.requires.0 e.code_at-base.ensures, e.loop-row-test.true, e.in_ok-done.ensures.near)
 
 pub overflow_add-row-in-loop-row : goal.overflow_add-row-in-loop-row
-overflow_add-row-in-loop-row c = omega (arith, further (goal.at.overflow_add-row-in-loop-row c).After-exec-done)
+overflow_add-row-in-loop-row c = omega (arith, further (goal.at.overflow_add-row-in-loop-row c).In_ok-done)
 
-pub pass_skips-row-requires-then-done-ne0-2 : goal.pass_skips-row-requires-then-done-ne0-2
-pass_skips-row-requires-then-done-ne0-2 c =
-    let b = begins (goal.at.pass_skips-row-requires-then-done-ne0-2 c).After-code_at-base in
+pub pass_skips-row-requires-then-done-ne0 : goal.pass_skips-row-requires-then-done-ne0
+pass_skips-row-requires-then-done-ne0 c =
+    let b = begins (goal.at.pass_skips-row-requires-then-done-ne0 c).After-code_at-base in
     record {
-      k = c.args.k;
+      k = c.args.plan.now.counts;
       start = c.args.start;
       len = c.args.len;
-      i = c.loop-row.invariant.i + 1 + c.exec-done.result.over;
+      i = c.loop-row.invariant.i + 1 + c.in_ok-done.done.over;
       block = c.requires.0;
       onward = omega (arith, c.loop-row.invariant.walking.onward);
       here = omega (arith, c.loop-row.invariant.here, b);
       there = omega (arith, b);
     }
 
-pub loop-row-smaller-then-done-ne0-2 : goal.loop-row-smaller-then-done-ne0-2
-loop-row-smaller-then-done-ne0-2 c = omega (arith, c.loop-row-test.true, c.pass_skips-row-then-done-ne0-2.ensures.there)
+pub loop-row-preserved-then-done-ne0 : goal.loop-row-preserved-then-done-ne0
+loop-row-preserved-then-done-ne0 c =
+    let i = (goal.at.loop-row-preserved-then-done-ne0 c).In-loop-row in
+    standing_past (standing_on c.loop-row.invariant (within i) (its-code i) (its-instr i) c.in_ok-done.ensures) refl
+    (begins (goal.at.loop-row-preserved-then-done-ne0 c).After-code_at-base) c.pass_skips-row-then-done-ne0.ensures
 
-pub loop-row-preserved-then-done-ne0-2 : goal.loop-row-preserved-then-done-ne0-2
-loop-row-preserved-then-done-ne0-2 c =
-    let i = (goal.at.loop-row-preserved-then-done-ne0-2 c).In-loop-row in
-    standing_past
-    (standing_on c.loop-row.invariant (within i) (its-code i) (its-instr i) c.exec-done.ensures
-    c.if-done-ne0.false) refl (begins (goal.at.loop-row-preserved-then-done-ne0-2 c).After-code_at-base) c.pass_skips-row-then-done-ne0-2.ensures
-
-pub loop-row-smaller : goal.loop-row-smaller
-loop-row-smaller c = omega (arith, c.loop-row-test.true)
+pub loop-row-smaller-then-done-ne0 : goal.loop-row-smaller-then-done-ne0
+loop-row-smaller-then-done-ne0 c = omega (arith, c.loop-row-test.true, c.pass_skips-row-then-done-ne0.ensures.there)
 
 pub loop-row-preserved : goal.loop-row-preserved
 loop-row-preserved c =
     let i = (goal.at.loop-row-preserved c).In-loop-row in
-    standing_on c.loop-row.invariant (within i) (its-code i) (its-instr i) c.exec-done.ensures c.if-done-ne0.false
+    standing_on c.loop-row.invariant (within i) (its-code i) (its-instr i) c.in_ok-done.ensures
 
 pub returns : goal.returns
 returns c =
     let w = c.loop-row.invariant in
-    block_by _ _ (plan_by c.args.plan.now).code _ c.args.start c.args.len refl
+    block_by _ _ (plan_by c.args.plan.now.numbers.now).code _ c.args.start c.args.len refl
     (rw (to_z-of_z c.ranges.arg) at (walking_end w.walking (omega (arith, w.here, c.loop-row-test.false))))

@@ -4,48 +4,48 @@ use Rattle.plan_choice.proofs.Facts.{counts_sized}
 use Rattle.plan_own.proofs.Clauses.{states_is, events_is, own_rootless, own_marked, own_out, own_astray, own_unused, own_rest}
 use Rattle.plan_own.proofs.own.Goals as goal
 
-pub returns-then-not-active : goal.returns-then-not-active
-returns-then-not-active c = own_rootless _ _ _ c.args.state c.if-not-active.true
+pub returns-else-active : goal.returns-else-active
+returns-else-active c = c.if-active.false ∙ own_rootless _ _ _ c.args.state c.if-active.false
 
-pub returns-then-not-marks_fit : goal.returns-then-not-marks_fit
-returns-then-not-marks_fit c =
-    own_marked _ _ _ c.args.state c.if-not-active.false
-    (states_is c.requires) (sym c.marks_fit.ensures ∙ c.if-not-marks_fit.true)
+pub returns-else-marks_fit : goal.returns-else-marks_fit
+returns-else-marks_fit c =
+    c.if-marks_fit.false ∙ own_marked _ _ _ c.args.state c.if-active.true
+    (states_is c.requires) (sym c.marks_fit.ensures ∙ c.if-marks_fit.false)
 
-pub returns-then-not-values_fit : goal.returns-then-not-values_fit
-returns-then-not-values_fit c =
-    own_out _ _ _ c.args.state c.if-not-active.false
+pub returns-else-values_fit : goal.returns-else-values_fit
+returns-else-values_fit c =
+    c.if-values_fit.false ∙ own_out _ _ _ c.args.state c.if-active.true
     (states_is c.requires)
-    (sym c.marks_fit.ensures ∙ c.if-not-marks_fit.false)
-    (sym c.values_fit.ensures ∙ c.if-not-values_fit.true)
+    (sym c.marks_fit.ensures ∙ c.if-marks_fit.true)
+    (sym c.values_fit.ensures ∙ c.if-values_fit.false)
 
-pub returns-then-not-slots_fit : goal.returns-then-not-slots_fit
-returns-then-not-slots_fit c =
-    own_astray _ _ _ c.args.state
-    c.if-not-active.false
+pub returns-else-slots_fit : goal.returns-else-slots_fit
+returns-else-slots_fit c =
+    c.if-slots_fit.false ∙ own_astray _ _ _ c.args.state
+    c.if-active.true
     (states_is c.requires)
-    (sym c.marks_fit.ensures ∙ c.if-not-marks_fit.false)
-    (sym c.values_fit.ensures ∙ c.if-not-values_fit.false)
-    (sym c.slots_fit.ensures ∙ c.if-not-slots_fit.true)
+    (sym c.marks_fit.ensures ∙ c.if-marks_fit.true)
+    (sym c.values_fit.ensures ∙ c.if-values_fit.true)
+    (sym c.slots_fit.ensures ∙ c.if-slots_fit.false)
 
-pub returns-then-not-rest_empty : goal.returns-then-not-rest_empty
-returns-then-not-rest_empty c =
-    own_unused _ _ _ c.args.state
-    c.if-not-active.false (states_is c.requires)
-    (sym c.marks_fit.ensures ∙ c.if-not-marks_fit.false)
-    (sym c.values_fit.ensures ∙ c.if-not-values_fit.false)
-    (sym c.slots_fit.ensures ∙ c.if-not-slots_fit.false)
-    (sym c.rest_empty.ensures ∙ c.if-not-rest_empty.true)
+pub returns-else-rest_empty : goal.returns-else-rest_empty
+returns-else-rest_empty c =
+    c.if-rest_empty.false ∙ own_unused _ _ _ c.args.state
+    c.if-active.true (states_is c.requires)
+    (sym c.marks_fit.ensures ∙ c.if-marks_fit.true)
+    (sym c.values_fit.ensures ∙ c.if-values_fit.true)
+    (sym c.slots_fit.ensures ∙ c.if-slots_fit.true)
+    (sym c.rest_empty.ensures ∙ c.if-rest_empty.false)
 
-pub returns : goal.returns
-returns c =
+pub returns-then-rest_empty : goal.returns-then-rest_empty
+returns-then-rest_empty c =
     own_rest _ _ _ c.args.state
-    c.if-not-active.false
+    c.if-active.true
     (states_is c.requires)
-    (sym c.marks_fit.ensures ∙ c.if-not-marks_fit.false)
-    (sym c.values_fit.ensures ∙ c.if-not-values_fit.false)
-    (sym c.slots_fit.ensures ∙ c.if-not-slots_fit.false)
-    (sym c.rest_empty.ensures ∙ c.if-not-rest_empty.false)
+    (sym c.marks_fit.ensures ∙ c.if-marks_fit.true)
+    (sym c.values_fit.ensures ∙ c.if-values_fit.true)
+    (sym c.slots_fit.ensures ∙ c.if-slots_fit.true)
+    (sym c.rest_empty.ensures ∙ c.if-rest_empty.true)
     (events_is c.requires) c.queue_fits.ensures
 
 pub values_fit-requires : goal.values_fit-requires

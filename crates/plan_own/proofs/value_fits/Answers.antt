@@ -1,10 +1,12 @@
 -- `value_fits` holds a variable against its row, or against 0. Assumes nothing.
 use mathlib.Core.Path.{◌∙◌}
+use native.Mathlib.Omega.{arith}
+use lib.IntN.{pos}
 use mir.Facts.{to_z-of_z}
 use mir.Syntax.{w32}
 use mir.Val.{SFits}
 use Rattle.meaning.specs.WellFormed.{plan_by}
-use Rattle.queue_calls.proofs.Values.{value_there, value_unused}
+use Rattle.queue_calls.proofs.Values.{test_turned, value_there, value_unused}
 use borrow.Author.Rules.{rules}
 use Rattle.plan_own.proofs.Clauses.{vars_many, row_there, row_is}
 use Rattle.plan_own.proofs.value_fits.Goals as goal
@@ -24,5 +26,5 @@ returns-then-v-k c =
 pub returns : goal.returns
 returns c =
     let a = c.args in
-    (rw (to_z-of_z c.ranges.x) at c.same.ensures) ∙ value_unused
+    test_turned a.x (pos 0) c.ranges.x.sfits (omega arith) ∙ value_unused
     (plan_by a.plan.now).vars a.v a.x (vars_many c.requires) c.if-v-k.false

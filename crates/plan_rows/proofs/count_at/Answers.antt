@@ -17,6 +17,6 @@ pub returns-then-n-most : goal.returns-then-n-most
 unfolding size_by
 returns-then-n-most c = rw (← counted c.before, le-leb _ _ c.if-n-most.true)
 
-pub returns : goal.returns
+pub returns-else-n-most : goal.returns-else-n-most
 unfolding size_by
-returns c = rw (← counted c.before, lt-leb _ _ c.if-n-most.false)
+returns-else-n-most c = rw (← counted c.before, lt-leb _ _ c.if-n-most.false)

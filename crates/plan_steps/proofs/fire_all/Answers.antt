@@ -1,55 +1,48 @@
 -- `fire_all` fires the chosen one after the other; the first refusal stands. Assumes nothing.
-use mathlib.Core.Path.{◌∙◌}
+use mathlib.Core.Path.{◌≡◌, sym, subst}
 use native.Mathlib.Omega.{arith}
+use borrow.Author.Rules.{rules}
+use lib.ListN.{get_or}
 use mir.Facts.{to_z-of_z}
-use Rattle.meaning.specs.WellFormed.{heads_at}
-use Rattle.plan_steps.proofs.Firing.{firing_begin, firing_end, firing_stop, firing_on, fires_long, fires_at}
+use Rattle.std.specs.Prelude.{Err, Ok}
+use Rattle.meaning.specs.Machine.{fire_head}
+use Rattle.meaning.specs.WellFormed.{heads_at, plan_by}
+use Rattle.widget.specs.View.{Did}
+use Rattle.widget.proofs.Loops.{each_done, each_on, each_stop}
+use Rattle.plan_choice.specs.Heads.{head_of}
+use Rattle.plan_steps.proofs.Firing.{heads_of, fires_long, fires_at}
 use Rattle.plan_steps.proofs.fire_all.Goals as goal
 
-pub loop-j-init : goal.loop-j-init
-loop-j-init c = (firing_begin c.requires.3, omega arith)
+pub returns-in_err-next : goal.returns-in_err-next
+returns-in_err-next c =
+    let ns = c.args.plan.now.numbers.now in
+    let base = heads_at c.args.plan.now.counts in
+    let j = c.loop-h.h-index in
+    let l = c.loop-h-test.true in
+    let h = head_of ns base (get_or c.args.picks.now j 0) in
+    let q : c.from_residual.result ≡ Err c.in_err-next.field-0.0 = search rules in
+    rw q (each_stop (fire_head (plan_by ns) c.args.arg) (heads_of ns base c.args.picks.now) j h
+    (rw (to_z-of_z c.ranges.arg) at c.loop-h.invariant) (omega (arith, fires_long ns base c.args.picks.now, l))
+    (subst (λ x. Did (fire_head (plan_by ns) c.args.arg x) c.loop-h.widget c.loop-h.trace c.loop-h.next (Err c.in_err-next.field-0.0)
+    c.fire.new.widget c.fire.new.trace) (sym (fires_at ns base c.args.picks.now j l))
+    (rw (to_z-of_z c.ranges.arg) at c.in_err-next.ensures)))
 
-pub offset_bounds-picks-j : goal.offset_bounds-picks-j
-offset_bounds-picks-j c = omega (arith, c.requires.1.few)
-
-pub bounds-picks-j : goal.bounds-picks-j
-bounds-picks-j c = omega (arith, c.requires.1.few)
-
-pub fire-went-requires : goal.fire-went-requires
-fire-went-requires c =
-    let w = c.loop-j.invariant.0 in (
-      c.requires.0,
-      c.requires.1.named _ c.loop-j-test.true,
-      w.slotted ∙ c.requires.2,
-      w.owes.fits,
-    )
-
-pub returns-then-went-ne0 : goal.returns-then-went-ne0
-returns-then-went-ne0 c =
-    let a = c.args in
-    let f = c.requires.1 in
-    let l = c.loop-j-test.true in
-    rw (to_z-of_z c.ranges.arg) at
-    (firing_stop c.loop-j.invariant.0
-    (omega (arith, fires_long a.plan.now (heads_at a.k) f, l))
-    (fires_at a.plan.now (heads_at a.k) f _ l) c.fire-went.ensures
-    c.if-went-ne0.true)
-
-pub loop-j-preserved : goal.loop-j-preserved
-loop-j-preserved c =
-    let a = c.args in
-    let f = c.requires.1 in
-    let l = c.loop-j-test.true in (
-      firing_on c.loop-j.invariant.0
-          (omega (arith, fires_long a.plan.now (heads_at a.k) f, l))
-          (fires_at a.plan.now (heads_at a.k) f _ l) c.fire-went.ensures
-          c.if-went-ne0.false,
-      omega arith,
-    )
+pub loop-h-preserved : goal.loop-h-preserved
+loop-h-preserved c =
+    let ns = c.args.plan.now.numbers.now in
+    let base = heads_at c.args.plan.now.counts in
+    let j = c.loop-h.h-index in
+    let l = c.loop-h-test.true in
+    let h = head_of ns base (get_or c.args.picks.now j 0) in
+    rw (to_z-of_z c.ranges.arg) (each_on (fire_head (plan_by ns) c.args.arg) (heads_of ns base c.args.picks.now) j h
+    (rw (to_z-of_z c.ranges.arg) at c.loop-h.invariant) (omega (arith, fires_long ns base c.args.picks.now, l))
+    (subst (λ x. Did (fire_head (plan_by ns) c.args.arg x) c.loop-h.widget c.loop-h.trace c.loop-h.next (Ok c.in_ok-next.next)
+    c.fire.new.widget c.fire.new.trace) (sym (fires_at ns base c.args.picks.now j l))
+    (rw (to_z-of_z c.ranges.arg) at c.in_ok-next.ensures)))
 
 pub returns : goal.returns
 returns c =
-    let a = c.args in
-    rw (to_z-of_z c.ranges.arg) at
-    (firing_end c.loop-j.invariant.0
-    (omega (arith, fires_long a.plan.now (heads_at a.k) c.requires.1, c.loop-j-test.false)))
+    let p = c.args.plan.now in
+    let n = fires_long p.numbers.now (heads_at p.counts) c.args.picks.now in
+    each_done (fire_head (plan_by p.numbers.now) c.args.arg) (heads_of p.numbers.now (heads_at p.counts) c.args.picks.now)
+    c.loop-h.h-index (rw (to_z-of_z c.ranges.arg) at c.loop-h.invariant) (omega (arith, n, c.loop-h-test.false))

@@ -23,7 +23,8 @@ returns-then-events-lt-EVENT c =
 pub returns-then-verdict-ne0 : goal.returns-then-verdict-ne0
 returns-then-verdict-ne0 c =
     let a = c.args in
-    told_as (replay_5 a.plan.now a.state (length a.trace.now) (sized_of (goal.at.returns-then-verdict-ne0 c).Start) a.events.now (omega (arith, c.if-events-lt-EVENT.false))
+    told_as (replay_5 a.plan.now a.state (length a.trace.now) (sized_of (goal.at.returns-then-verdict-ne0 c).Start)
+    a.events.now (omega (arith, c.if-events-lt-EVENT.false))
     (failed a.plan.now c.examine-verdict.ensures c.if-verdict-ne0.true)) refl c.stopped-then-verdict-ne0.ensures
 
 pub replay_planned-requires : goal.replay_planned-requires

@@ -25,5 +25,6 @@ replay_examined-requires c = record { formed = c.requires; counted = c.counts.en
 pub returns : goal.returns
 returns c =
     let a = c.args in
-    told_as (replay_is a.plan.now a.state (length a.trace.now) (sized_of (goal.at.returns c).Start) a.events.now (omega (arith, c.if-events-lt-EVENT.false))
+    told_as (replay_is a.plan.now a.state (length a.trace.now) (sized_of (goal.at.returns c).Start) a.events.now
+    (omega (arith, c.if-events-lt-EVENT.false))
     c.requires) refl c.replay_examined.ensures

@@ -6,7 +6,7 @@ use Rattle.rules.proofs.check.Goals as goal
 
 pub returns-then-not-rule_0 : goal.returns-then-not-rule_0
 unfolding verdict failing_rule_of
-returns-then-not-rule_0 c = c.fails.ensures ∙ rw (refuted c.rule_0.ensures c.if-not-rule_0.true-raw)
+returns-then-not-rule_0 c = rw (refuted c.rule_0.ensures c.if-not-rule_0.true-raw)
 
 pub returns : goal.returns
 unfolding failing_rule_of

@@ -13,7 +13,7 @@ pub returns-in-Some : goal.returns-in-Some
 unfolding failing_rule
 returns-in-Some c =
     let rs = rules_of (chart_of c.args.chart.now) in
-    c.fails.ensures ∙ sym (rule_fails rs (position_from_yields_List not _ _ c.position.result c.position.ensures.ran
+    sym (rule_fails rs (position_from_yields_List not _ _ c.position.result c.position.ensures.ran
     (YieldsList-from_slice rs (cc)) (λ x b q k. search (rules, tests))) c.in-Some.i c.in-Some.is)
 
 pub returns-in-None : goal.returns-in-None

@@ -9,22 +9,10 @@ use native.Mathlib.Omega.{arith}
 use Rattle.blocks.proofs.arms.+put_defaults.Goals as goal
 
 pub kids_within-kids-requires : goal.kids_within-kids-requires
-kids_within-kids-requires t c = (c.requires.0.ruled, c.requires.1, defaults_on _ _)
+kids_within-kids-requires t c = (c.args.c.now.prepared.ruled, c.requires.0, defaults_on _ _)
 
 pub loop-d-init : goal.loop-d-init
 loop-d-init t c = going_begin _ _ by_defaults defaults _ _ _ _ _ _ (defaults_way _) c.kids_within-kids.ensures
-
-pub overflow_step-d : goal.overflow_step-d
-overflow_step-d t c =
-    omega (
-      arith,
-      c.loop-d-test.true,
-      c.kids_within-kids.ensures.within,
-      states_most c.args.chart.now,
-    )
-
-pub loop-d-smaller-then-not-is_child : goal.loop-d-smaller-then-not-is_child
-loop-d-smaller-then-not-is_child t c = omega (arith, c.loop-d-test.true)
 
 pub loop-d-preserved-then-not-is_child : goal.loop-d-preserved-then-not-is_child
 loop-d-preserved-then-not-is_child t c =
@@ -34,7 +22,6 @@ loop-d-preserved-then-not-is_child t c =
 pub put_visit-p-requires : goal.put_visit-p-requires
 put_visit-p-requires t c = (
   c.requires.0,
-  c.requires.1,
   omega (
     arith,
     c.kids_within-kids.ensures.within,
@@ -43,20 +30,8 @@ put_visit-p-requires t c = (
   going_room _ _ _ _ _ _ _ _ _ _ c.loop-d.invariant
       c.loop-d-test.true
       (sym c.is_child.ensures ∙ not-false _ c.if-not-is_child.false-raw)
-      c.requires.2,
+      c.requires.1,
 )
-
-pub overflow_sub-left : goal.overflow_sub-left
-overflow_sub-left t c =
-    omega (
-      arith,
-      c.kids_within-kids.ensures.more
-          (omega (
-            arith,
-            c.loop-d-test.true,
-            c.loop-d.invariant.since,
-          )),
-    )
 
 pub put_defaults-p-requires : goal.put_defaults-p-requires
 put_defaults-p-requires t c = (
@@ -70,7 +45,6 @@ put_defaults-p-requires t c = (
         )),
   ),
   (
-    c.requires.0,
     omega (
       arith,
       c.kids_within-kids.ensures.within,
@@ -80,21 +54,9 @@ put_defaults-p-requires t c = (
         c.loop-d-test.true
         (sym c.is_child.ensures ∙ not-false _
         c.if-not-is_child.false-raw) c.put_visit-p.ensures
-        c.requires.2,
+        c.requires.1,
   ),
 )
-
-pub overflow_step-d-in-loop-d : goal.overflow_step-d-in-loop-d
-overflow_step-d-in-loop-d t c =
-    omega (
-      arith,
-      c.loop-d-test.true,
-      c.kids_within-kids.ensures.within,
-      states_most c.args.chart.now,
-    )
-
-pub loop-d-smaller : goal.loop-d-smaller
-loop-d-smaller t c = omega (arith, c.loop-d-test.true)
 
 pub loop-d-preserved : goal.loop-d-preserved
 loop-d-preserved t c =
@@ -103,9 +65,6 @@ loop-d-preserved t c =
     (sym c.is_child.ensures ∙ not-false _
     c.if-not-is_child.false-raw)
     c.put_visit-p.ensures c.put_defaults-p.ensures
-
-pub shape_of-plan : goal.shape_of-plan
-shape_of-plan t c = omega (arith, going_size _ _ _ _ _ _ _ _ _ _ c.loop-d.invariant)
 
 pub returns : goal.returns
 returns t c = going_end _ _ _ _ _ _ _ _ _ _ c.loop-d.invariant c.loop-d-test.false

@@ -10,8 +10,4 @@ decreases-put_defaults l = l.left
 
 abbrev pub invariant-loop-d : goal.invariant-loop-d
 invariant-loop-d l =
-    Going (visit_code (chart_of l.chart)) (chart_of l.chart) by_defaults defaults l.s l.left l.initial.d l.d-end l.initial.plan l.at l.d l.plan l.p
-
-abbrev pub decreases-loop-d : goal.decreases-loop-d
-decreases-loop-d l =
-    l.d-end - l.d
+    Going (visit_code (chart_of l.c.chart.now)) (chart_of l.c.chart.now) by_defaults defaults l.s l.left l.initial.d l.d-end l.initial.plan l.at l.d l.plan l.p

@@ -7,14 +7,13 @@ use Rattle.blocks.proofs.Joining.{arm_as}
 use native.Mathlib.Omega.{arith}
 use Rattle.blocks.proofs.arms.default_length.Goals as goal
 
-pub put_defaults-end-requires : goal.put_defaults-end-requires
-put_defaults-end-requires c = (
+pub put_defaults-requires : goal.put_defaults-requires
+put_defaults-requires c = (
   c.requires.0,
-  c.requires.1,
   omega (
     arith,
-    c.requires.2,
-    ap length (arm_as (chart_of c.args.chart.now) c.args.b
+    c.requires.1,
+    ap length (arm_as (chart_of c.args.c.now.chart.now) c.args.b
         c.state_count.result c.state_count.ensures),
   ),
 )
@@ -23,7 +22,7 @@ pub returns : goal.returns
 returns c =
     omega (
       arith,
-      emits_at _ _ _ c.put_defaults-end.ensures,
-      ap length (arm_as (chart_of c.args.chart.now) c.args.b
+      emits_at _ _ _ c.put_defaults.ensures,
+      ap length (arm_as (chart_of c.args.c.now.chart.now) c.args.b
           c.state_count.result c.state_count.ensures),
     )

@@ -8,33 +8,32 @@ use native.Mathlib.Omega.{arith}
 use Rattle.blocks.proofs.arms.put_stored_arm.Goals as goal
 
 pub overflow_step-d : goal.overflow_step-d
-overflow_step-d c = omega (arith, c.requires.1, states_most c.args.chart.now)
+overflow_step-d c = omega (arith, c.requires.0, states_most c.args.c.now.chart.now)
 
 pub loop-d-init : goal.loop-d-init
 unfolding stored_arm
 loop-d-init c =
-    rising_begin (chart_of c.args.chart.now)
-    (sound c.args.chart.now c.requires.0.ruled) c.args.b
-    c.requires.1 (stored_code (chart_of c.args.chart.now)) _ _ _
+    rising_begin (chart_of c.args.c.now.chart.now)
+    (sound c.args.c.now.chart.now c.args.c.now.prepared.ruled) c.args.b
+    c.requires.0 (stored_code (chart_of c.args.c.now.chart.now)) _ _ _
     c.end_below-d-end.ensures
 
 pub put_stored-p-requires : goal.put_stored-p-requires
 put_stored-p-requires c = (
-  c.requires.0,
   omega arith,
   omega (
     arith,
     c.loop-d-test.true,
-    end_inside (chart_of c.args.chart.now)
-        (sound c.args.chart.now
-        c.requires.0.ruled) c.args.b
-        c.requires.1
-        (stored_code (chart_of c.args.chart.now))
+    end_inside (chart_of c.args.c.now.chart.now)
+        (sound c.args.c.now.chart.now
+        c.args.c.now.prepared.ruled) c.args.b
+        c.requires.0
+        (stored_code (chart_of c.args.c.now.chart.now))
         c.args.plan.now c.args.at _
         c.end_below-d-end.ensures,
   ),
   rising_room c.loop-d.invariant c.loop-d-test.true
-      c.requires.2,
+      c.requires.1,
 )
 
 pub loop-d-preserved : goal.loop-d-preserved

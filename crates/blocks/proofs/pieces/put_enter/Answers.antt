@@ -7,20 +7,19 @@ use Rattle.blocks.proofs.pieces.put_enter.Goals as goal
 
 pub put_instr-p-requires : goal.put_instr-p-requires
 unfolding enter_code
-put_instr-p-requires c = omega (arith, c.requires.1, c.requires.2, states_most c.args.chart.now)
+put_instr-p-requires c = omega (arith, c.requires.0, c.requires.1, states_most c.args.c.now.chart.now)
 
 pub put_acts-requires : goal.put_acts-requires
 unfolding enter_code
 put_acts-requires c = (
-  c.requires.0,
   omega (
     arith,
-    c.requires.1,
-    states_most c.args.chart.now,
+    c.requires.0,
+    states_most c.args.c.now.chart.now,
   ),
   omega (
     arith,
-    c.requires.2,
+    c.requires.1,
     emits_at _ _ _ c.put_instr-p.ensures,
   ),
 )

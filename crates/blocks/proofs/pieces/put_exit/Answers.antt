@@ -6,24 +6,17 @@ use Rattle.blocks.proofs.Putting.{exit_put, parent_small}
 use Rattle.meaning.specs.Compile.{exit_code}
 use Rattle.meaning.specs.declared.chart.Owner.TheVariants.{ExitOf as exit_of}
 use native.Mathlib.Omega.{arith}
-use Rattle.blocks.proofs.pieces.put_exit.Goals.{After-put_acts-arg-1, After-put_instr-arg-2-1, Start}
 use Rattle.blocks.proofs.pieces.put_exit.Goals as goal
 
-abbrev start-from-put-instr-arg2 : After-put_instr-arg-2-1 → Start
-start-from-put-instr-arg2 c = c.before.before.before.before.before.before
-
-abbrev start-from-put-acts-arg : After-put_acts-arg-1 → Start
-start-from-put-acts-arg c = start-from-put-instr-arg2 c.before.before.before
-
 pub act_count-k-requires : goal.act_count-k-requires
-act_count-k-requires c = (c.requires.0, omega (arith, c.requires.1, states_most c.args.chart.now))
+act_count-k-requires c = (omega (arith, c.requires.0, states_most c.args.c.now.chart.now))
 
 pub overflow_add-k : goal.overflow_add-k
 overflow_add-k c =
     omega (
       arith,
       c.act_count-k.ensures,
-      code_few c.args.chart.now (exit_of c.args.s),
+      code_few c.args.c.now.chart.now (exit_of c.args.s),
     )
 
 pub put_instr-p-requires : goal.put_instr-p-requires
@@ -31,11 +24,11 @@ unfolding exit_code
 put_instr-p-requires c =
     omega (
       arith,
+      c.requires.0,
       c.requires.1,
-      c.requires.2,
       c.act_count-k.ensures,
-      code_few c.args.chart.now (exit_of c.args.s),
-      states_most c.args.chart.now,
+      code_few c.args.c.now.chart.now (exit_of c.args.s),
+      states_most c.args.c.now.chart.now,
     )
 
 pub put_instr-q-requires : goal.put_instr-q-requires
@@ -44,16 +37,16 @@ put_instr-q-requires c = (
   (
     omega (
       arith,
-      c.requires.1,
-      states_most c.args.chart.now,
+      c.requires.0,
+      states_most c.args.c.now.chart.now,
     ),
-    parent_small c.args.chart.now
-        c.requires.0.ruled c.args.s
-        c.requires.1 _ c.o_parent-up.ensures,
+    parent_small c.args.c.now.chart.now
+        c.args.c.now.prepared.ruled c.args.s
+        c.requires.0 _ c.o_parent-up.ensures,
   ),
   omega (
     arith,
-    c.requires.2,
+    c.requires.1,
     emits_at _ _ _ c.put_instr-p.ensures,
   ),
 )
@@ -61,15 +54,14 @@ put_instr-q-requires c = (
 pub put_acts-requires : goal.put_acts-requires
 unfolding exit_code
 put_acts-requires c = (
-  (start-from-put-acts-arg c).requires.0,
   omega (
     arith,
-    (start-from-put-acts-arg c).requires.1,
-    states_most (start-from-put-acts-arg c).args.chart.now,
+    c.requires.0,
+    states_most c.args.c.now.chart.now,
   ),
   omega (
     arith,
-    (start-from-put-acts-arg c).requires.2,
+    c.requires.1,
     emits_at _ _ _ c.put_instr-p.ensures,
     emits_at _ _ _ c.put_instr-q.ensures,
   ),

@@ -9,66 +9,46 @@ use Rattle.emitter.proofs.Laws.{put_first, emits_at}
 use Rattle.blocks.proofs.Putting.{stored_other, stored_o, put_as}
 use Rattle.meaning.specs.declared.chart.Owner.TheVariants.{EntryOf as entry_of}
 use native.Mathlib.Omega.{arith}
-use Rattle.blocks.proofs.pieces.put_stored.Goals.{After-plan-4-1, After-plan-then-not-is_o-1, After-put_enter-arg-1, After-put_enter-arg-2-1, After-put_instr-arg-1, After-put_instr-arg-3-1, Start}
 use Rattle.blocks.proofs.pieces.put_stored.Goals as goal
 
-abbrev start-from-put-instr-arg : After-put_instr-arg-1 → Start
-start-from-put-instr-arg c = c.before.before.before.before.before.before
-
-abbrev start-from-put-enter-arg : After-put_enter-arg-1 → Start
-start-from-put-enter-arg c = start-from-put-instr-arg c.before.before.before
-
-abbrev start-from-put-instr-arg3 : After-put_instr-arg-3-1 → Start
-start-from-put-instr-arg3 c = c.before.before.before.before.before.before.before.before.before
-
-abbrev start-from-plan2 : After-plan-then-not-is_o-1 → Start
-start-from-plan2 c = start-from-put-enter-arg c.before.before
-
-abbrev start-from-put-enter-arg2 : After-put_enter-arg-2-1 → Start
-start-from-put-enter-arg2 c = start-from-put-instr-arg3 c.before.before.before
-
-abbrev start-from-plan5 : After-plan-4-1 → Start
-start-from-plan5 c = start-from-put-enter-arg2 c.before.before
-
 pub act_count-k-requires : goal.act_count-k-requires
-act_count-k-requires c = (c.requires.0, omega (arith, c.requires.2, states_most c.args.chart.now))
+act_count-k-requires c = (omega (arith, c.requires.1, states_most c.args.c.now.chart.now))
 
 pub overflow_add-k : goal.overflow_add-k
 overflow_add-k c =
     omega (
       arith,
       c.act_count-k.ensures,
-      code_few c.args.chart.now (entry_of c.args.d),
+      code_few c.args.c.now.chart.now (entry_of c.args.d),
     )
 
 pub put_instr-q-requires : goal.put_instr-q-requires
 put_instr-q-requires c =
-    let long = ap length (stored_other (chart_of c.args.chart.now)
+    let long = ap length (stored_other (chart_of c.args.c.now.chart.now)
     c.args.d _ _ _ _ c.parent_of-p.ensures
     c.kind_of.ensures c.is_o.ensures
     c.act_count-k.ensures c.if-not-is_o.true-raw) in
     omega (
       arith,
+      c.requires.1,
       c.requires.2,
-      c.requires.3,
       c.act_count-k.ensures,
-      code_few c.args.chart.now (entry_of c.args.d),
-      up_falls c.args.chart.now c.requires.0.ruled
-          c.args.d c.requires.1 _
+      code_few c.args.c.now.chart.now (entry_of c.args.d),
+      up_falls c.args.c.now.chart.now c.args.c.now.prepared.ruled
+          c.args.d c.requires.0 _
           c.parent_of-p.ensures,
-      states_most c.args.chart.now,
+      states_most c.args.c.now.chart.now,
     )
 
 pub put_enter-requires : goal.put_enter-requires
 put_enter-requires c = (
-  (start-from-put-enter-arg c).requires.0,
-  (start-from-put-enter-arg c).requires.2,
+  c.requires.1,
   omega (
     arith,
-    (start-from-put-enter-arg c).requires.3,
+    c.requires.2,
     emits_at _ _ _ c.put_instr-q.ensures,
-    ap length (stored_other (chart_of (start-from-put-enter-arg c).args.chart.now)
-        (start-from-put-enter-arg c).args.d _ _ _ _
+    ap length (stored_other (chart_of c.args.c.now.chart.now)
+        c.args.d _ _ _ _
         c.parent_of-p.ensures
         c.kind_of.ensures
         c.is_o.ensures
@@ -79,7 +59,7 @@ put_enter-requires c = (
 
 pub returns-then-not-is_o : goal.returns-then-not-is_o
 returns-then-not-is_o c =
-    put_as _ _ _ (stored_other (chart_of (start-from-plan2 c).args.chart.now) (start-from-plan2 c).args.d
+    put_as _ _ _ (stored_other (chart_of c.args.c.now.chart.now) c.args.d
     _ _ _ _ c.parent_of-p.ensures
     c.kind_of.ensures
     c.is_o.ensures
@@ -92,27 +72,27 @@ overflow_add-k-2 c =
     omega (
       arith,
       c.act_count-k.ensures,
-      code_few c.args.chart.now
+      code_few c.args.c.now.chart.now
           (entry_of c.args.d),
     )
 
 pub put_instr-q-requires-2 : goal.put_instr-q-requires-2
 put_instr-q-requires-2 c =
-    let long = ap length (stored_o (chart_of c.args.chart.now)
+    let long = ap length (stored_o (chart_of c.args.c.now.chart.now)
     c.args.d _ _ _ _ c.parent_of-p.ensures
     c.kind_of.ensures c.is_o.ensures
     c.act_count-k.ensures c.if-not-is_o.false-raw) in
     omega (
       arith,
+      c.requires.1,
       c.requires.2,
-      c.requires.3,
       c.act_count-k.ensures,
-      code_few c.args.chart.now
+      code_few c.args.c.now.chart.now
           (entry_of c.args.d),
-      up_falls c.args.chart.now c.requires.0.ruled
-          c.args.d c.requires.1 _
+      up_falls c.args.c.now.chart.now c.args.c.now.prepared.ruled
+          c.args.d c.requires.0 _
           c.parent_of-p.ensures,
-      states_most c.args.chart.now,
+      states_most c.args.c.now.chart.now,
     )
 
 pub overflow_add-k-3 : goal.overflow_add-k-3
@@ -120,42 +100,41 @@ overflow_add-k-3 c =
     omega (
       arith,
       c.act_count-k.ensures,
-      code_few c.args.chart.now
+      code_few c.args.c.now.chart.now
           (entry_of c.args.d),
     )
 
 pub put_instr-r-requires : goal.put_instr-r-requires
 put_instr-r-requires c =
-    let long = ap length (stored_o (chart_of c.args.chart.now)
+    let long = ap length (stored_o (chart_of c.args.c.now.chart.now)
     c.args.d _ _ _ _ c.parent_of-p.ensures
     c.kind_of.ensures
     c.is_o.ensures c.act_count-k.ensures
     c.if-not-is_o.false-raw) in
     omega (
       arith,
+      c.requires.1,
       c.requires.2,
-      c.requires.3,
       emits_at _ _ _ c.put_instr-q-2.ensures,
       c.act_count-k.ensures,
-      code_few c.args.chart.now
+      code_few c.args.c.now.chart.now
           (entry_of c.args.d),
-      up_falls c.args.chart.now c.requires.0.ruled
-          c.args.d c.requires.1 _
+      up_falls c.args.c.now.chart.now c.args.c.now.prepared.ruled
+          c.args.d c.requires.0 _
           c.parent_of-p.ensures,
-      states_most c.args.chart.now,
+      states_most c.args.c.now.chart.now,
     )
 
 pub put_enter-requires-2 : goal.put_enter-requires-2
 put_enter-requires-2 c = (
-  (start-from-put-enter-arg2 c).requires.0,
-  (start-from-put-enter-arg2 c).requires.2,
+  c.requires.1,
   omega (
     arith,
-    (start-from-put-enter-arg2 c).requires.3,
+    c.requires.2,
     emits_at _ _ _ c.put_instr-q-2.ensures,
     emits_at _ _ _ c.put_instr-r.ensures,
-    ap length (stored_o (chart_of (start-from-put-enter-arg2 c).args.chart.now)
-        (start-from-put-enter-arg2 c).args.d _ _ _ _
+    ap length (stored_o (chart_of c.args.c.now.chart.now)
+        c.args.d _ _ _ _
         c.parent_of-p.ensures
         c.kind_of.ensures
         c.is_o.ensures
@@ -166,7 +145,7 @@ put_enter-requires-2 c = (
 
 pub returns : goal.returns
 returns c =
-    put_as _ _ _ (stored_o (chart_of (start-from-plan5 c).args.chart.now) (start-from-plan5 c).args.d _ _
+    put_as _ _ _ (stored_o (chart_of c.args.c.now.chart.now) c.args.d _ _
     _ _ c.parent_of-p.ensures
     c.kind_of.ensures c.is_o.ensures
     c.act_count-k.ensures c.if-not-is_o.false-raw)

@@ -8,29 +8,15 @@ use Rattle.meaning.specs.declared.chart.Owner.TheVariants.{DefaultOf as default_
 use Rattle.emitter.proofs.Laws.{put_both, emits_at}
 use Rattle.blocks.proofs.Putting.{visit_plain, visit_due, put_as}
 use native.Mathlib.Omega.{arith}
-use Rattle.blocks.proofs.pieces.put_visit.Goals.{After-plan-1, After-plan-3-1, After-put_enter-arg-1, After-put_enter-arg-2-1, Start}
 use Rattle.blocks.proofs.pieces.put_visit.Goals as goal
-
-abbrev start-from-put-enter-arg : After-put_enter-arg-1 → Start
-start-from-put-enter-arg c = c.before.before.before
-
-abbrev start-from-plan : After-plan-1 → Start
-start-from-plan c = start-from-put-enter-arg c.before.before
-
-abbrev start-from-put-enter-arg2 : After-put_enter-arg-2-1 → Start
-start-from-put-enter-arg2 c = c.before.before.before.before.before.before
-
-abbrev start-from-plan3 : After-plan-3-1 → Start
-start-from-plan3 c = start-from-put-enter-arg2 c.before.before
 
 pub put_enter-requires : goal.put_enter-requires
 put_enter-requires c = (
-  c.requires.0,
-  c.requires.2,
+  c.requires.1,
   omega (
     arith,
-    c.requires.3,
-    ap length (visit_plain (chart_of c.args.chart.now)
+    c.requires.2,
+    ap length (visit_plain (chart_of c.args.c.now.chart.now)
         c.args.p c.args.s _ _
         c.by_default.ensures c.if-not-by_default.true-raw),
   ),
@@ -38,54 +24,52 @@ put_enter-requires c = (
 
 pub returns-then-not-by_default : goal.returns-then-not-by_default
 returns-then-not-by_default c =
-    put_as _ _ _ (visit_plain (chart_of (start-from-plan c).args.chart.now) (start-from-plan c).args.p
-    (start-from-plan c).args.s _ _ c.by_default.ensures
+    put_as _ _ _ (visit_plain (chart_of c.args.c.now.chart.now) c.args.p
+    c.args.s _ _ c.by_default.ensures
     c.if-not-by_default.true-raw) c.put_enter.ensures
 
 pub put_acts-q-requires : goal.put_acts-q-requires
 put_acts-q-requires c = (
-  c.requires.0,
   omega (
     arith,
-    c.requires.1,
-    states_most c.args.chart.now,
+    c.requires.0,
+    states_most c.args.c.now.chart.now,
   ),
   omega (
     arith,
-    c.requires.3,
-    ap length (visit_due (chart_of c.args.chart.now)
+    c.requires.2,
+    ap length (visit_due (chart_of c.args.c.now.chart.now)
         c.args.p c.args.s _ _
         c.by_default.ensures c.if-not-by_default.false-raw),
-    length-append (code_acts (chart_of c.args.chart.now)
+    length-append (code_acts (chart_of c.args.c.now.chart.now)
         (default_of c.args.p))
-        (enter_code (chart_of c.args.chart.now)
+        (enter_code (chart_of c.args.c.now.chart.now)
         c.args.s),
   ),
 )
 
 pub put_enter-requires-2 : goal.put_enter-requires-2
 put_enter-requires-2 c = (
-  c.requires.0,
-  c.requires.2,
+  c.requires.1,
   omega (
     arith,
-    c.requires.3,
+    c.requires.2,
     emits_at _ _ _ c.put_acts-q.ensures,
-    ap length (visit_due (chart_of c.args.chart.now)
+    ap length (visit_due (chart_of c.args.c.now.chart.now)
         c.args.p c.args.s _ _
         c.by_default.ensures
         c.if-not-by_default.false-raw),
-    length-append (code_acts (chart_of c.args.chart.now)
+    length-append (code_acts (chart_of c.args.c.now.chart.now)
         (default_of c.args.p))
-        (enter_code (chart_of c.args.chart.now)
+        (enter_code (chart_of c.args.c.now.chart.now)
         c.args.s),
   ),
 )
 
 pub returns : goal.returns
 returns c =
-    put_as _ _ _ (visit_due (chart_of (start-from-plan3 c).args.chart.now) (start-from-plan3 c).args.p
-    (start-from-plan3 c).args.s _ _
+    put_as _ _ _ (visit_due (chart_of c.args.c.now.chart.now) c.args.p
+    c.args.s _ _
     c.by_default.ensures
     c.if-not-by_default.false-raw)
     (put_both _ _ _ c.put_acts-q.ensures c.put_enter-2.ensures)

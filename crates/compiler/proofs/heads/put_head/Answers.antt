@@ -42,9 +42,6 @@ put_guard-q-requires c = (
   ),
 )
 
-pub overflow_sub-last : goal.overflow_sub-last
-overflow_sub-last c = omega (arith, c.span_of-span.ensures.spans.some)
-
 pub number-requires-4 : goal.number-requires-4
 number-requires-4 c =
     omega (

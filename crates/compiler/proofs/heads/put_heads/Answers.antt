@@ -4,56 +4,49 @@ use Rattle.compiler.proofs.Heading.{heading_begin, heading_few, heading_on, head
 use native.Mathlib.Omega.{arith}
 use Rattle.compiler.proofs.heads.put_heads.Goals as goal
 
-pub loop-j-init : goal.loop-j-init
-loop-j-init c = heading_begin _ _ _ _
-
-pub offset_bounds-order-j : goal.offset_bounds-order-j
-offset_bounds-order-j c = omega (arith, c.loop-j-test.true, c.requires.1.few)
-
-pub bounds-order-j : goal.bounds-order-j
-bounds-order-j c = omega (arith, c.loop-j-test.true, c.requires.1.few, c.requires.1.size)
+pub loop-t-init : goal.loop-t-init
+loop-t-init c = heading_begin _ _ _ _
 
 pub block_length-k-requires : goal.block_length-k-requires
 block_length-k-requires c = (
-  c.requires.0,
-  order_inside c.args.chart.now c.requires.0.ruled c.requires.1
-      c.loop-j.j c.loop-j-test.true,
+  order_inside c.args.c.now.chart.now c.args.c.now.prepared.ruled c.requires.0
+      c.loop-t.t-index c.loop-t-test.true,
   omega (
     arith,
-    block_few c.args.chart.now c.requires.0.ruled _
-        (order_inside c.args.chart.now c.requires.0.ruled
-        c.requires.1 c.loop-j.j c.loop-j-test.true),
+    block_few c.args.c.now.chart.now c.args.c.now.prepared.ruled _
+        (order_inside c.args.c.now.chart.now c.args.c.now.prepared.ruled
+        c.requires.0 c.loop-t.t-index c.loop-t-test.true),
   ),
 )
 
 pub put_head-p-requires : goal.put_head-p-requires
 put_head-p-requires c = (
-  c.requires.0.ruled,
-  order_inside c.args.chart.now c.requires.0.ruled
-      c.requires.1 c.loop-j.j
-      c.loop-j-test.true,
+  c.args.c.now.prepared.ruled,
+  order_inside c.args.c.now.chart.now c.args.c.now.prepared.ruled
+      c.requires.0 c.loop-t.t-index
+      c.loop-t-test.true,
   omega (
     arith,
-    heading_few c.requires.1 c.loop-j.invariant
-        c.loop-j-test.true,
-    start_few c.args.chart.now c.requires.0.ruled,
-    blocks_few c.args.chart.now
-        c.requires.0.ruled,
-    c.requires.2,
+    heading_few c.requires.0 c.loop-t.invariant
+        c.loop-t-test.true,
+    start_few c.args.c.now.chart.now c.args.c.now.prepared.ruled,
+    blocks_few c.args.c.now.chart.now
+        c.args.c.now.prepared.ruled,
+    c.requires.1,
   ),
   omega (
     arith,
     c.block_length-k.ensures,
-    block_few c.args.chart.now c.requires.0.ruled
-        _ (order_inside c.args.chart.now
-        c.requires.0.ruled c.requires.1
-        c.loop-j.j c.loop-j-test.true),
+    block_few c.args.c.now.chart.now c.args.c.now.prepared.ruled
+        _ (order_inside c.args.c.now.chart.now
+        c.args.c.now.prepared.ruled c.requires.0
+        c.loop-t.t-index c.loop-t-test.true),
   ),
   omega (
     arith,
-    c.loop-j.invariant.placed,
-    c.loop-j-test.true,
-    c.requires.3,
+    c.loop-t.invariant.placed,
+    c.loop-t-test.true,
+    c.requires.2,
   ),
 )
 
@@ -62,27 +55,18 @@ overflow_add-from c =
     omega (
       arith,
       c.block_length-k.ensures,
-      heading_few c.requires.1 c.loop-j.invariant
-          c.loop-j-test.true,
-      start_few c.args.chart.now c.requires.0.ruled,
-      blocks_few c.args.chart.now c.requires.0.ruled,
-      c.requires.2,
+      heading_few c.requires.0 c.loop-t.invariant
+          c.loop-t-test.true,
+      start_few c.args.c.now.chart.now c.args.c.now.prepared.ruled,
+      blocks_few c.args.c.now.chart.now c.args.c.now.prepared.ruled,
+      c.requires.1,
     )
 
-pub overflow_step-j : goal.overflow_step-j
-overflow_step-j c = omega (arith, c.loop-j-test.true, c.requires.1.few)
-
-pub loop-j-smaller : goal.loop-j-smaller
-loop-j-smaller c = omega (arith, c.loop-j-test.true)
-
-pub loop-j-preserved : goal.loop-j-preserved
-loop-j-preserved c =
-    heading_on c.requires.1 c.loop-j.invariant
-    c.loop-j-test.true _ c.block_length-k.ensures
+pub loop-t-preserved : goal.loop-t-preserved
+loop-t-preserved c =
+    heading_on c.requires.0 c.loop-t.invariant
+    c.loop-t-test.true _ c.block_length-k.ensures
     c.put_head-p.ensures
 
-pub shape_of-plan : goal.shape_of-plan
-shape_of-plan c = omega (arith, same_sized _ _ _ _ _ _ c.loop-j.invariant.owes)
-
 pub returns : goal.returns
-returns c = heading_end c.requires.1 c.loop-j.invariant c.loop-j-test.false
+returns c = heading_end c.requires.0 c.loop-t.invariant c.loop-t-test.false

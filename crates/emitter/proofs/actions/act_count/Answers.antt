@@ -6,17 +6,16 @@ use Rattle.emitter.proofs.Finding.{code_few}
 use native.Mathlib.Omega.{arith}
 use Rattle.emitter.proofs.actions.act_count.Goals as goal
 
-pub put_acts-end-requires : goal.put_acts-end-requires
-put_acts-end-requires c = (
-  c.requires.0,
-  c.requires.1,
-  omega (arith, code_few c.args.chart.now c.args.owner),
+pub put_acts-requires : goal.put_acts-requires
+put_acts-requires c = (
+  c.requires,
+  omega (arith, code_few c.args.c.now.chart.now c.args.owner),
 )
 
 pub returns : goal.returns
 returns c =
     omega (
       arith,
-      emits_at (code_acts (chart_of c.args.chart.now) c.args.owner)
-          _ 0 c.put_acts-end.ensures,
+      emits_at (code_acts (chart_of c.args.c.now.chart.now) c.args.owner)
+          _ 0 c.put_acts.ensures,
     )

@@ -12,16 +12,16 @@ put_instr-p-requires c =
     let row = c.before in
     let test = row.before in
     let k = test.before in (
-      row_small c.args.chart.now c.requires.0.ruled c.loop-i.i
+      row_small c.args.c.now.chart.now c.args.c.now.prepared.ruled c.loop-i.i
           (omega (arith, c.loop-i-test.true, c.action_count-n.ensures)) _ c.action_row-row.ensures,
       listing_room _ _ _ _ _ _ _ (c.loop-i.invariant c.args.owner c.first_row-i.ensures)
-          (omega (arith, c.loop-i-test.true, c.action_count-n.ensures)) _ c.action_row-row.ensures c.requires.2,
+          (omega (arith, c.loop-i-test.true, c.action_count-n.ensures)) _ c.action_row-row.ensures c.requires.1,
     )
 
 pub next_row-i-requires : goal.next_row-i-requires
 next_row-i-requires c =
     let test = c.before.before.before.before in
-    (c.requires.0, omega (arith, c.loop-i-test.true, c.action_count-n.ensures))
+    omega (arith, c.loop-i-test.true, c.action_count-n.ensures)
 
 pub loop-i-smaller : goal.loop-i-smaller
 loop-i-smaller c =

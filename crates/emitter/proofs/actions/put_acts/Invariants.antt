@@ -8,7 +8,7 @@ use Rattle.emitter.proofs.actions.put_acts.Given as goal
 
 abbrev pub invariant-loop-i : goal.invariant-loop-i
 invariant-loop-i l =
-    (o : Owner) → l.initial.i ≡ row_from (chart_of l.chart) o 0 → Listing (chart_of l.chart) o l.initial.plan l.at l.i l.plan l.p
+    (o : Owner) → l.initial.i ≡ row_from (chart_of l.c.chart.now) o 0 → Listing (chart_of l.c.chart.now) o l.initial.plan l.at l.i l.plan l.p
 
 abbrev pub decreases-loop-i : goal.decreases-loop-i
 decreases-loop-i l = l.n - l.i

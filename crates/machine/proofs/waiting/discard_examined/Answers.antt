@@ -1,5 +1,5 @@
 -- `discard_examined` makes the tests in their order and removes. Assumes nothing.
-use mathlib.Core.Path.{sym, ◌∙◌}
+use mathlib.Core.Path.{refl, sym, ◌∙◌}
 use borrow.Author.Tests.{not-true, not-false}
 use Rattle.meaning.specs.WellFormed.{plan_by}
 use Rattle.machine.proofs.Waits.{discard_7, discard_6, discard_8, discard_0}
@@ -17,15 +17,14 @@ returns-then-not-own c =
     (not-false _ c.if-not-state.false)
     (sym c.own.ensures ∙ c.if-not-own.true)
 
-pub returns-then-not-removed : goal.returns-then-not-removed
-returns-then-not-removed c =
+pub returns-in_default : goal.returns-in_default
+returns-in_default c =
     let a = c.args in
-    c.refused-then-not-removed.ensures
+    c.refused-in_default.ensures
     ∙ discard_8 (plan_by a.plan.now) a.state
     (not-false _ c.if-not-state.false)
     (sym c.own.ensures ∙ c.if-not-own.false)
-    c.remove-removed.ensures
-    (not-true _ c.if-not-removed.true)
+    (rw c.in_default.is at c.remove-front.ensures) refl
 
 pub returns : goal.returns
 returns c =
@@ -34,5 +33,4 @@ returns c =
     ∙ discard_0 (plan_by a.plan.now) a.state
     (not-false _ c.if-not-state.false)
     (sym c.own.ensures ∙ c.if-not-own.false)
-    c.remove-removed.ensures
-    (not-false _ c.if-not-removed.false)
+    (rw c.in-Some.is at c.remove-front.ensures) refl

@@ -1,5 +1,5 @@
 -- `post_examined` makes the tests in their order and appends. Assumes nothing.
-use mathlib.Core.Path.{sym, ◌∙◌}
+use mathlib.Core.Path.{refl, sym, ◌∙◌}
 use borrow.Author.Tests.{not-true, not-false}
 use mir.Facts.{to_z-of_z}
 use Rattle.meaning.specs.WellFormed.{plan_by}
@@ -32,19 +32,18 @@ returns-then-not-event_fits c =
     (events_is c.requires)
     (sym (rw (to_z-of_z f.event, to_z-of_z f.arg) at c.event_fits.ensures) ∙ c.if-not-event_fits.true)
 
-pub returns-then-not-queued : goal.returns-then-not-queued
-returns-then-not-queued c =
+pub returns-in_default : goal.returns-in_default
+returns-in_default c =
     let a = c.args in
     let f = c.ranges in
-    c.refused-then-not-queued.ensures
+    c.refused-in_default.ensures
     ∙ post_9 (plan_by a.plan.now) a.state a.event a.arg
     (not-false _ c.if-not-state.false)
     (sym c.own.ensures ∙ c.if-not-own.false)
     (events_is c.requires)
     (sym (rw (to_z-of_z f.event, to_z-of_z f.arg) at c.event_fits.ensures) ∙
     c.if-not-event_fits.false)
-    (rw (to_z-of_z f.event, to_z-of_z f.arg) at c.append-queued.ensures)
-    (not-true _ c.if-not-queued.true)
+    (rw (to_z-of_z f.event, to_z-of_z f.arg) at c.in_default.ensures) refl
 
 pub returns : goal.returns
 returns c =
@@ -61,5 +60,4 @@ returns c =
     (events_is c.requires)
     (sym (rw (to_z-of_z f.event, to_z-of_z f.arg) at
     c.event_fits.ensures) ∙ c.if-not-event_fits.false)
-    (rw (to_z-of_z f.event, to_z-of_z f.arg) at c.append-queued.ensures)
-    (not-false _ c.if-not-queued.false)
+    (rw (to_z-of_z f.event, to_z-of_z f.arg) at c.in-Ok.ensures) refl

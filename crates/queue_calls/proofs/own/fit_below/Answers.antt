@@ -6,18 +6,18 @@ use Rattle.queue_calls.proofs.own.fit_below.Goals as goal
 
 pub returns-then-each_fits : goal.returns-then-each_fits
 returns-then-each_fits c u e =
-    fit_without (chart_of c.args.chart.now) u (sym (c.each_fits.ensures u e) ∙ c.if-each_fits.true)
+    c.if-each_fits.true ∙ fit_without (chart_of c.args.chart.now) u (sym (c.each_fits.ensures u e) ∙ c.if-each_fits.true)
 
-pub returns-then-not-components_filled : goal.returns-then-not-components_filled
-returns-then-not-components_filled c u e =
+pub returns-else-components_filled : goal.returns-else-components_filled
+returns-else-components_filled c u e =
     let f = c.components_filled in
-    fit_not (chart_of c.args.chart.now) u f.result (f.ensures u e) c.if-not-components_filled.true
+    c.if-components_filled.false ∙ fit_not (chart_of c.args.chart.now) u f.result (f.ensures u e) c.if-components_filled.false
 
-pub returns : goal.returns
-returns c u e =
+pub returns-then-components_filled : goal.returns-then-components_filled
+returns-then-components_filled c u e =
     let f = c.components_filled in
     fit_with (chart_of c.args.chart.now) u f.result (f.ensures u e)
-    c.if-not-components_filled.false (c.each_fits-2.ensures u e)
+    c.if-components_filled.true (c.each_fits-then-components_filled.ensures u e)
 
 pub each_fits-requires : goal.each_fits-requires
 each_fits-requires c = c.requires
@@ -25,5 +25,5 @@ each_fits-requires c = c.requires
 pub components_filled-requires : goal.components_filled-requires
 components_filled-requires c = c.requires.0
 
-pub each_fits-requires-2 : goal.each_fits-requires-2
-each_fits-requires-2 c = c.requires
+pub each_fits-requires-then-components_filled : goal.each_fits-requires-then-components_filled
+each_fits-requires-then-components_filled c = c.requires

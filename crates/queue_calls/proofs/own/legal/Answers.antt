@@ -30,7 +30,8 @@ within c =
 
 pub legal_at-requires : goal.legal_at-requires
 legal_at-requires c =
-    (within c, c.count_children.ensures.told _ (within c))
+    let l = within (goal.at.legal_at-requires c).In-loop-s in
+    (l, c.count_children.ensures.told _ l)
 
 pub returns-then-not-legal_at : goal.returns-then-not-legal_at
 returns-then-not-legal_at c u e =
@@ -61,16 +62,10 @@ returns c u e =
     (upto_done (legal_at k u) c.state_count-n.result w.s (w.invariant.1 u e) (omega arith))
 
 pub count_children-requires : goal.count_children-requires
-count_children-requires c = (refl, refl)
+count_children-requires c = refl
 
-pub offset_bounds-all-s : goal.offset_bounds-all-s
-offset_bounds-all-s c = omega (arith, within c)
+pub offset_bounds-tallies-s : goal.offset_bounds-tallies-s
+offset_bounds-tallies-s c = omega (arith, within c)
 
-pub bounds-all-s : goal.bounds-all-s
-bounds-all-s c = omega (arith, within c)
-
-pub offset_bounds-on-s : goal.offset_bounds-on-s
-offset_bounds-on-s c = omega (arith, within c)
-
-pub bounds-on-s : goal.bounds-on-s
-bounds-on-s c = omega (arith, within c)
+pub bounds-tallies-s : goal.bounds-tallies-s
+bounds-tallies-s c = omega (arith, within c)

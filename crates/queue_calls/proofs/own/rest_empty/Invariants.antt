@@ -2,7 +2,6 @@ use mathlib.Core.Path.{◌≡◌}
 use mathlib.Core.Bool.{◌&&◌}
 use lib.IntN.{negsuc}
 use lib.ListN.{drop}
-use Rattle.sizes.specs.Sizes.{STATES}
 use Rattle.numbers.specs.Equal.{eq_z}
 use Rattle.meaning.specs.Lists.{every}
 use Rattle.queue_calls.proofs.own.rest_empty.Given as goal

@@ -1,10 +1,12 @@
 -- `value_fits` holds a variable against its row, or against 0. Assumes nothing.
 use mathlib.Core.Path.{◌∙◌}
+use native.Mathlib.Omega.{arith}
+use lib.IntN.{pos}
 use mir.Facts.{to_z-of_z}
 use mir.Syntax.{w32}
 use mir.Val.{SFits}
 use Rattle.meaning.specs.Value.{chart_of}
-use Rattle.queue_calls.proofs.Values.{value_there, value_unused}
+use Rattle.queue_calls.proofs.Values.{test_turned, value_there, value_unused}
 use borrow.Author.Rules.{rules}
 use Rattle.queue_calls.proofs.own.value_fits.Goals as goal
 
@@ -17,6 +19,6 @@ returns-then-v-var_count c = let fl : SFits w32 c.var_row-row.result.low = searc
     c.if-v-var_count.true c.var_row-row.ensures
 
 pub returns : goal.returns
-returns c = (rw (to_z-of_z c.ranges.x) at c.same.ensures)
+returns c = test_turned c.args.x (pos 0) c.ranges.x.sfits (omega arith)
     ∙ value_unused (chart_of c.args.chart.now).vars
     c.args.v c.args.x c.var_count.ensures c.if-v-var_count.false

@@ -4,18 +4,18 @@ use mathlib.Core.Path.{◌≡◌, refl, ap, ◌∙◌}
 use Prim.Native.Nat.{◌+◌, ◌-◌}
 use Rattle.meaning.specs.Grammar.{record_by}
 use Rattle.reader.proofs.ScanLaws.{stop_left, scan_cut, scan_missing, scan_done, scan_unnamed, scan_faulty}
-use Rattle.reader.proofs.ScanLaws.{scan_next, onward_over, onward_next}
+use Rattle.reader.proofs.ScanLaws.{scan_next, onward_over}
+use Rattle.reader.proofs.scan.line_at.Goals.{then-at-text-via-then-at-text, then-at-text-via-else-at-text+then-turns-lt1}
 use Rattle.reader.proofs.scan.line_at.Goals as goal
 
 pub returns-then-at-text : goal.returns-then-at-text
 returns-then-at-text c =
+    let q = stop_left c.args.text.now c.args.at _ c.in_default.ensures in
     onward_over _ _ _ _ _ _ c.over.ensures
-    (scan_cut _ _ _ _ _ _ c.requires (stop_left c.args.text.now c.args.at _ c.in_default.ensures) c.if-at-text.true)
-
-pub returns-then-turns-lt1 : goal.returns-then-turns-lt1
-returns-then-turns-lt1 c =
-    onward_over _ _ _ _ _ _ c.over-then-turns-lt1.ensures
-    (scan_missing _ _ _ _ _ _ c.requires (stop_left c.args.text.now c.args.at _ c.in_default.ensures) c.if-at-text.false c.if-turns-lt1.true)
+    (elim c.then-at-text.branch [
+      | then-at-text-via-then-at-text w ↦ scan_cut _ _ _ _ _ _ c.requires q w.if-at-text.true
+      | then-at-text-via-else-at-text+then-turns-lt1 w ↦ scan_missing _ _ _ _ _ _ c.requires q w.if-at-text.false w.if-turns-lt1.true
+    ])
 
 pub returns-in_default : goal.returns-in_default
 returns-in_default c =
@@ -43,7 +43,8 @@ pub returns-in-Ok : goal.returns-in-Ok
 returns-in-Ok c =
     let z : c.args.at + c.in-Some.k - c.args.at ≡ c.in-Some.k = omega arith in
     let q = stop_left c.args.text.now c.args.at _ c.in-Some.ensures in
-    let g = rw z at c.letter_at.ensures in
-    onward_next _ _ _ _ _ _ _
-    (scan_next _ _ _ _ _ _ c.requires _ q _ (c.in-Some-of.ensures ∙ ap record_by g) _ _ (rw z at c.in-Ok.ensures) _ c.more.ensures refl)
-    (omega arith)
+    let g = rw z at c.letter_at.ensures in (
+      scan_next _ _ _ _ _ _ c.requires _ q _ (c.in-Some-of.ensures ∙ ap record_by g) _ _ (rw z at c.in-Ok.ensures)
+          _ c.more.ensures refl,
+      omega arith,
+    )

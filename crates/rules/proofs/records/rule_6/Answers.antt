@@ -11,4 +11,5 @@ pub returns : goal.returns
 unfolding rule_6 trans_row
 returns c =
     let k = chart_of c.args.chart.now in
-    all_places {b = c.transition_count.result} (transition_fits k) k.transitions no_trans c.all.ensures.ran (cc) c.transition_count.ensures (λ x t q h. search (rules, tests))
+    all_places {b = c.transition_count.result} (transition_fits k) k.transitions no_trans
+    c.all.ensures.ran (cc) c.transition_count.ensures (λ x t q h. search (rules, tests))

@@ -10,4 +10,5 @@ pub returns : goal.returns
 unfolding rule_7
 returns c =
     let k = chart_of c.args.chart.now in
-    all_places {b = c.action_count.result} (action_fits k) k.actions no_action c.all.ensures.ran (cc) c.action_count.ensures (λ x t q h. search (rules, tests))
+    all_places {b = c.action_count.result} (action_fits k) k.actions no_action c.all.ensures.ran (cc)
+    c.action_count.ensures (λ x t q h. search (rules, tests))

@@ -9,13 +9,13 @@ pub returns-in-O : goal.returns-in-O
 unfolding count_fits_kind
 returns-in-O c = rw c.in-O.is
 
-pub returns-then-count-ge2 : goal.returns-then-count-ge2
+pub returns-then-children-ge2 : goal.returns-then-children-ge2
 unfolding count_fits_kind
-returns-then-count-ge2 c = rw (c.in-A.is, le-leb 2 c.args.count c.if-count-ge2.true)
+returns-then-children-ge2 c = rw (c.in-A.is, le-leb 2 c.args.children.count c.if-children-ge2.true)
 
-pub returns-else-count-ge2 : goal.returns-else-count-ge2
+pub returns-else-children-ge2 : goal.returns-else-children-ge2
 unfolding count_fits_kind
-returns-else-count-ge2 c = rw c.in-A.is (fails _ refl (lt-leb 2 c.args.count c.if-count-ge2.false))
+returns-else-children-ge2 c = rw c.in-A.is (fails _ refl (lt-leb 2 c.args.children.count c.if-children-ge2.false))
 
 pub returns-in-B : goal.returns-in-B
 unfolding count_fits_kind

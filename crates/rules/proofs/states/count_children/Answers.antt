@@ -13,16 +13,16 @@ loop-d-init c = family_none (chart_of c.args.chart.now)
 pub loop-d-preserved-then-d-eq0 : goal.loop-d-preserved-then-d-eq0
 loop-d-preserved-then-d-eq0 c =
     let w = c.loop-d in
-    family_root (chart_of c.args.chart.now) w.d w.counts w.plain w.invariant c.if-d-eq0.true
+    family_root (chart_of c.args.chart.now) w.d w.families w.invariant c.if-d-eq0.true
 
 pub loop-d-preserved-then-p-ge-STATES : goal.loop-d-preserved-then-p-ge-STATES
 loop-d-preserved-then-p-ge-STATES c =
     let w = c.loop-d in
-    family_far (chart_of c.args.chart.now) w.d w.counts w.plain w.invariant c.if-d-eq0.false
+    family_far (chart_of c.args.chart.now) w.d w.families w.invariant c.if-d-eq0.false
     (rw c.parent_of-p.ensures at c.if-p-ge-STATES.true)
 
-pub overflow_add-counts : goal.overflow_add-counts
-overflow_add-counts c =
+pub overflow_add-families : goal.overflow_add-families
+overflow_add-families c =
     let k = chart_of c.args.chart.now in
     let w = c.loop-d in
     let p = c.parent_of-p.result in
@@ -39,7 +39,7 @@ overflow_add-counts c =
 pub loop-d-preserved : goal.loop-d-preserved
 loop-d-preserved c =
     let w = c.loop-d in
-    family_more (chart_of c.args.chart.now) w.d w.counts w.plain w.invariant c.parent_of-p.result
+    family_more (chart_of c.args.chart.now) w.d w.families w.invariant c.parent_of-p.result
     _ c.if-d-eq0.false c.parent_of-p.ensures c.if-p-ge-STATES.false
     (rw (c.is_o.ensures, c.kind_of.ensures))
 

@@ -11,4 +11,5 @@ pub returns : goal.returns
 unfolding rule_2 all_states
 returns c =
     let k = chart_of c.args.chart.now in
-    all_from {b = c.state_count.result} (parent_fits k) 0 (length k.states) c.all.ensures.ran (cc) (omega arith) (λ x t q h. search (rules, tests))
+    all_from {b = c.state_count.result} (parent_fits k) 0 (length k.states) c.all.ensures.ran (cc) (omega arith)
+    (λ x t q h. search (rules, tests))

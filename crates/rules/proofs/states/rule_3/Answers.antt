@@ -17,23 +17,20 @@ unfolding rule_3 all_states
 loop-s-init c = all_start (tried (chart_of c.args.chart.now))
     (length (chart_of c.args.chart.now).states)
 
-pub offset_bounds-counts-s : goal.offset_bounds-counts-s
-offset_bounds-counts-s c = omega (arith, states_most c.args.chart.now)
+pub offset_bounds-families-s : goal.offset_bounds-families-s
+offset_bounds-families-s c = omega (arith, states_most c.args.chart.now)
 
-pub bounds-counts-s : goal.bounds-counts-s
-bounds-counts-s c = omega (arith, states_most c.args.chart.now)
-
-pub bounds-plain-s : goal.bounds-plain-s
-bounds-plain-s c = omega (arith, states_most c.args.chart.now)
+pub bounds-families-s : goal.bounds-families-s
+bounds-families-s c = omega (arith, states_most c.args.chart.now)
 
 pub returns-then-not-children_fit : goal.returns-then-not-children_fit
 returns-then-not-children_fit c =
     let k = chart_of c.args.chart.now in
     let w = c.loop-s in
-    let f = c.count_children in
+    let f = c.count_children-families in
     all_stop (tried k) (length k.states) w.s (omega arith)
     (refuted (c.children_fit.ensures
-    ∙ rw c.kind_of.ensures (counted_fits k f.result.counts f.result.plain w.s f.ensures
+    ∙ rw c.kind_of.ensures (counted_fits k f.result w.s f.ensures
     (omega (arith, states_most c.args.chart.now))))
     c.if-not-children_fit.true-raw) w.invariant
 
@@ -41,10 +38,10 @@ pub loop-s-preserved : goal.loop-s-preserved
 loop-s-preserved c =
     let k = chart_of c.args.chart.now in
     let w = c.loop-s in
-    let f = c.count_children in
+    let f = c.count_children-families in
     all_next (tried k) (length k.states) w.s (omega arith)
     (held (c.children_fit.ensures
-    ∙ rw c.kind_of.ensures (counted_fits k f.result.counts f.result.plain w.s f.ensures
+    ∙ rw c.kind_of.ensures (counted_fits k f.result w.s f.ensures
     (omega (arith, states_most c.args.chart.now))))
     c.if-not-children_fit.false-raw) w.invariant
 

@@ -7,4 +7,5 @@ use Rattle.rules.proofs.value.rows_statable.Given as goal
 
 abbrev pub invariant-loop-i : goal.invariant-loop-i
 invariant-loop-i l =
-    every_from (statable (as_record l.kind)) l.i (drop l.i (rows_of l.chart (as_record l.kind))) ≡ part_fits l.chart (laid (as_record l.kind))
+    every_from (statable (as_record l.kind)) l.i (drop l.i (rows_of l.chart (as_record l.kind)))
+    ≡ part_fits l.chart (laid (as_record l.kind))

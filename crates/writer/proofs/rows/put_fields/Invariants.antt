@@ -13,7 +13,8 @@ use Rattle.writer.proofs.rows.put_fields.Given as goal
 
 abbrev pub invariant-loop-field : goal.invariant-loop-field
 invariant-loop-field l =
-    Left l.chart l.n (put_all (tails TAB (write_by (form (as_record l.fn.kind) l.n) l.n l.from l.chart)) (pen l.initial.text l.p)) l.i l.at (pen l.text l.q)
+    Left l.chart l.n (put_all (tails TAB (write_by (form (as_record l.fn.kind) l.n) l.n l.from l.chart)) (pen l.initial.text l.p))
+    l.i l.at (pen l.text l.q)
     × (l.at + 2 * (ENTRIES - l.i) + 2 ≤ NOWHERE) × (length l.text ≡ length l.initial.text)
 
 abbrev pub decreases-loop-field : goal.decreases-loop-field
