@@ -15,14 +15,14 @@ const LINE: usize = 120;
 
 const HEADER: usize = 6;
 
-const SPACE: u8 = 32;
+const SPACE: u8 = b' ';
 
-const R: u8 = 82;
+const R: u8 = b'R';
 
-// Where the next row begins, and the place behind what was collected.
+// The numbers behind the rows that were written, and the place behind what was collected.
 #[derive(Drop)]
-struct Rows {
-    from: usize,
+struct Rows<'a> {
+    rest: &'a [i32],
     at: usize,
 }
 
@@ -46,74 +46,49 @@ fn with_room(rt: &impl Print, out: &[u8], at: usize) -> io::Result<usize> {
     Ok(at)
 }
 
-// One number of a row, parted from the one before it.
-fn put_parted(number: i32, i: usize, out: &mut [u8], at: usize) -> usize {
-    if i == 0 {
-        return put_numeral(out, at, number);
-    }
-    let p = put(out, at, SPACE);
-    put_numeral(out, p, number)
-}
-
 // One row of a plan, one line.
-fn put_row(plan: &[i32], from: usize, width: usize, out: &mut [u8], at: usize) -> usize {
+fn put_row(row: &[i32], out: &mut [u8], at: usize) -> usize {
     let mut p = at;
-    let mut i: usize = 0;
-    while i < width {
-        if plan.len() <= from {
-            break;
+    for (i, number) in row.iter().enumerate() {
+        if i > 0 {
+            p = put(out, p, SPACE);
         }
-        if plan.len() - from <= i {
-            break;
-        }
-        p = put_parted(plan[from + i], i, out, p);
-        i += 1;
+        p = put_numeral(out, p, *number);
     }
     put(out, p, LF)
 }
 
 // So many rows of one kind.
-fn put_rows(
+fn put_rows<'a>(
     rt: &impl Print,
-    plan: &[i32],
-    from: usize,
+    plan: &'a [i32],
     count: usize,
     width: usize,
     out: &mut [u8],
     at: usize,
-) -> io::Result<Rows> {
-    let mut rows = Rows { from: from, at: at };
-    let mut i: usize = 0;
-    while i < count {
-        let begin = rows.from;
-        if plan.len() < begin {
+) -> io::Result<Rows<'a>> {
+    let mut rest = plan;
+    let mut place = at;
+    for _ in 0..count {
+        let Some((row, following)) = rest.split_at_checked(width) else {
             break;
-        }
-        if plan.len() - begin < width {
-            break;
-        }
-        let p = with_room(rt, out, rows.at)?;
-        rows = Rows {
-            from: begin + width,
-            at: put_row(plan, begin, width, out, p),
         };
-        i += 1;
+        let p = with_room(rt, out, place)?;
+        place = put_row(row, out, p);
+        rest = following;
     }
-    Ok(rows)
+    Ok(Rows { rest, at: place })
 }
 
 // The plan, row by row.
 fn put_plan(rt: &impl Print, plan: &[i32], out: &mut [u8]) -> io::Result<usize> {
-    if plan.len() < HEADER {
+    let [_, vars, _, heads, instructions, _, ..] = plan else {
         return Ok(0);
-    }
-    let vars = reference(plan[1]);
-    let heads = reference(plan[3]);
-    let instructions = reference(plan[4]);
-    let counts = put_rows(rt, plan, 0, 1, HEADER, out, 0)?;
-    let variables = put_rows(rt, plan, counts.from, vars, 3, out, counts.at)?;
-    let chosen = put_rows(rt, plan, variables.from, heads, 10, out, variables.at)?;
-    let code = put_rows(rt, plan, chosen.from, instructions, 4, out, chosen.at)?;
+    };
+    let counts = put_rows(rt, plan, 1, HEADER, out, 0)?;
+    let variables = put_rows(rt, counts.rest, reference(*vars), 3, out, counts.at)?;
+    let chosen = put_rows(rt, variables.rest, reference(*heads), 10, out, variables.at)?;
+    let code = put_rows(rt, chosen.rest, reference(*instructions), 4, out, chosen.at)?;
     Ok(code.at)
 }
 
@@ -139,9 +114,8 @@ fn main(rt: HostRuntime) -> io::Result<()> {
     }
     let mut plan = [0; PLAN];
     let compiled = engine::plans::compile(&chart, &mut plan);
-    let answer = compiled.answer;
-    if answer.number != 0 {
-        let at = put_refusal(answer, &mut out);
+    if compiled.answer.number != 0 {
+        let at = put_refusal(compiled.answer, &mut out);
         return print(&rt, &out, at);
     }
     let at = put_plan(&rt, &plan, &mut out)?;

@@ -14,10 +14,6 @@ use std::rt::Files;
 // Room for the numbers of a plan of these charts.
 const ROOM: usize = 16384;
 
-fn print_number(rt: &impl Print, n: usize) -> io::Result<()> {
-    print!(rt; "\t{n}")
-}
-
 // A file's bytes, by its name: how many, 0 where it cannot be opened.
 fn load(rt: &impl Files, path: &[u8], buffer: &mut [u8]) -> io::Result<usize>
     ensures ok { IfOk result (λ n. IsPrefixLen n buffer.new) }
@@ -29,35 +25,17 @@ fn load(rt: &impl Files, path: &[u8], buffer: &mut [u8]) -> io::Result<usize>
 
 // The first n numbers of the two are the same, and there are no more in the second.
 fn same(plan: &[i32], n: usize, wanted: &[i32]) -> bool {
-    if wanted.len() != n {
-        return false;
-    }
-    if plan.len() < n {
-        return false;
-    }
-    let mut i: usize = 0;
-    while i < n {
-        if plan[i] != wanted[i] {
-            return false;
-        }
-        i += 1;
-    }
-    true
+    plan.get(..n) == Some(wanted)
 }
 
 // The answer with one number less lent than the plan has.
 fn print_short(rt: &impl Print, chart: &[i32], n: usize) -> io::Result<()> {
     let mut plan = [0i32; ROOM];
-    if n == 0 {
+    if n == 0 || ROOM < n {
         return Ok(());
     }
-    if ROOM < n {
-        return Ok(());
-    }
-    let less = n - 1;
-    let short = compile(chart, &mut plan[..less]);
-    let answer = short.answer;
-    print_number(rt, answer.number)
+    let number = compile(chart, &mut plan[..n - 1]).answer.number;
+    print!(rt; "\t{number}")
 }
 
 // Answer and count of compiling the chart that a text states, and whether the plan is the one wanted.
@@ -69,10 +47,9 @@ fn report(rt: &impl Print, text: &[u8], wanted: &[i32]) -> io::Result<()> {
     }
     let mut plan = [0i32; ROOM];
     let compiled = compile(&chart, &mut plan);
-    let answer = compiled.answer;
+    let number = compiled.answer.number;
     let n = compiled.length;
-    print_number(rt, answer.number)?;
-    print_number(rt, n)?;
+    print!(rt; "\t{number}\t{n}")?;
     if same(&plan, n, wanted) {
         print(rt, b"\tsame")?;
     } else {

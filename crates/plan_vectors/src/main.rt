@@ -25,10 +25,7 @@ const ROOM: usize = 16384;
 fn stem(named: usize) -> usize
     ensures { result ≤ named }
 {
-    if named < 5 {
-        return named;
-    }
-    named - 5
+    if named < 5 { named } else { named - 5 }
 }
 
 pub fn print(rt: &impl Print, word: &[u8]) -> io::Result<()> {
@@ -39,8 +36,7 @@ pub fn print(rt: &impl Print, word: &[u8]) -> io::Result<()> {
 fn report(rt: &impl Print, text: &[u8]) -> io::Result<()> {
     let mut plan = [0i32; ROOM];
     let n = read_numbers(text, &mut plan);
-    let answer = examine(&plan[..n]);
-    let number = answer.number;
+    let number = examine(&plan[..n]).number;
     print!(rt; "\t{number}\n")
 }
 
@@ -55,15 +51,6 @@ fn run_plan(rt: &(impl Files + Print), path: &[u8]) -> io::Result<()> {
     }
 }
 
-// The last byte of a file's name, 0 where it has none.
-fn last(path: &[u8]) -> u8 {
-    let n = path.len();
-    if 0 < n {
-        return path[n - 1];
-    }
-    0
-}
-
 // The plan or the chart that an argument names, by the last letter of its file: .plan, .txt; .num belongs to the chart before it. Whether
 // there is such an argument.
 fn run_argument(rt: &(impl Env + Files + Print), i: usize) -> io::Result<bool> {
@@ -71,17 +58,16 @@ fn run_argument(rt: &(impl Env + Files + Print), i: usize) -> io::Result<bool> {
     let Some(n) = argument(rt, i, &mut path) else {
         return Ok(false);
     };
-    let letter = last(&path[..n]);
-    if letter == b'm' {
-        return Ok(true);
-    }
-    if letter == b't' {
-        if i < ROOM {
-            run_chart(rt, &path[..n], i + 1)?;
+    let path = &path[..n];
+    match path.last() {
+        Some(b'm') => {}
+        Some(b't') => {
+            if i < ROOM {
+                run_chart(rt, path, i + 1)?;
+            }
         }
-        return Ok(true);
+        _ => run_plan(rt, path)?,
     }
-    run_plan(rt, &path[..n])?;
     Ok(true)
 }
 

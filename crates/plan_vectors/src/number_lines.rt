@@ -1,103 +1,49 @@
 // Numbers of a text, one a line: an optional minus and digits. A number past the ends of an i32 is read as that end.
-ghost use Rattle.std.specs.Prelude.{◌≡◌, ◌≤◌, ◌<◌, length};
-ghost use Rattle.numbers.specs.Reference.{NOWHERE};
+ghost use Rattle.std.specs.Prelude.{◌≡◌, ◌≤◌, length};
 
-use numbers::{NOWHERE, number};
+// A number of 32 bits without its sign is at most this.
+const MOST: i64 = 2147483648;
 
-// Digits that were read: their value, and the place after them.
-#[derive(Drop)]
-struct Value {
-    value: usize,
-    next: usize,
+// The digits before the first other byte, as a number held at MOST.
+fn size_of(digits: &[u8]) -> i64 {
+    let mut size: i64 = 0;
+    for digit in digits {
+        size = size
+            .saturating_mul(10)
+            .saturating_add(i64::from(digit.wrapping_sub(b'0')))
+            .min(MOST);
+    }
+    size
 }
 
-// The value of a digit, 10 for any other byte.
-fn digit(byte: u8) -> usize
-    ensures { result ≤ 10 }
-{
-    if byte < b'0' {
-        return 10;
-    }
-    if b'9' < byte {
-        return 10;
-    }
-    (byte - b'0') as usize
-}
-
-// The value, or one past every i32.
-fn held(value: usize) -> usize
-    ensures { result ≤ NOWHERE }
-{
-    if value < NOWHERE {
-        return value;
-    }
-    NOWHERE
-}
-
-// The digits from a place on.
-fn digits(text: &[u8], from: usize) -> Value
-    requires { from ≤ length text.now }
-    ensures { (from ≤ result.next) × (result.next ≤ length text.now) }
-{
-    let mut value = 0;
-    let mut at = from;
-    while at < text.len() {
-        let d = digit(text[at]);
-        if d == 10 {
-            return Value {
-                value: value,
-                next: at,
-            };
-        }
-        value = held(value * 10 + d);
-        at += 1;
-    }
-    Value {
-        value: value,
-        next: at,
-    }
-}
-
-fn signed(minus: bool, value: usize) -> i32 {
-    if value < NOWHERE {
-        let x = number(value);
-        if minus {
-            return 0 - x;
-        }
-        return x;
-    }
-    if minus {
-        return -2147483648;
-    }
-    2147483647
-}
-
-// The place after a minus, if one stands here.
-fn after_minus(text: &[u8], at: usize) -> usize
-    requires { at < length text.now }
-    ensures { (at ≤ result) × (result ≤ length text.now) }
-{
-    if text[at] == b'-' {
-        return at + 1;
-    }
-    at
+// The number that a text begins with, 0 where it begins with none; and what follows the byte that ends it.
+fn number_before(text: &[u8]) -> (i32, &[u8]) {
+    let (minus, rest) = match text {
+        [b'-', rest @ ..] => (true, rest),
+        _ => (false, text),
+    };
+    let end = rest
+        .iter()
+        .position(|b| !b.is_ascii_digit())
+        .unwrap_or(rest.len());
+    let size = size_of(&rest[..end]);
+    let value = if minus { size.saturating_neg() } else { size };
+    let following = rest.get(end + 1..).unwrap_or(&[]);
+    (i32::try_from(value).unwrap_or(i32::MAX), following)
 }
 
 // The numbers of the text into the lent slice; how many.
 pub fn read_numbers(text: &[u8], into: &mut [i32]) -> usize
     ensures { (result ≤ length into.new) × (length into.new ≡ length into.old) }
 {
-    let mut at = 0;
-    let mut count = 0;
-    while at < text.len() {
-        if into.len() <= count {
-            return count;
+    let mut rest = text;
+    for (i, to) in into.iter_mut().enumerate() {
+        if rest.is_empty() {
+            return i;
         }
-        let from = after_minus(text, at);
-        let d = digits(text, from);
-        into[count] = signed(at < from, d.value);
-        count += 1;
-        at = d.next + 1;
+        let (number, following) = number_before(rest);
+        *to = number;
+        rest = following;
     }
-    count
+    into.len()
 }
