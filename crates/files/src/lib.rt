@@ -29,6 +29,7 @@ pub fn read_full(input: &mut impl Read, buffer: &mut [u8]) -> io::Result<usize>
     ensures err { OnErr result (length buffer.new ≡ length buffer.old) }
 {
     let mut done = 0;
+    // No count: each reading says how many bytes came.
     while done < buffer.len() {
         let n = input.read(&mut buffer[done..])?;
         if n == 0 {

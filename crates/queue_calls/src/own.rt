@@ -36,6 +36,7 @@ fn count_children(chart: &[i32], active: &[bool; STATES], tallies: &mut [Tally; 
     ensures { Tallied (chart_of chart.now) active.now tallies.new }
 {
     let n = state_count(chart);
+    // From 0, as in the rules: a range from 1 would begin past the end of a chart without states.
     for d in 0..n {
         if d == 0 {
             continue;

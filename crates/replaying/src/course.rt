@@ -32,6 +32,7 @@ pub fn go_through(
 {
     let mut picks = [0; TRANSITIONS];
     let mut at: usize = 0;
+    // By number, not in chunks: what is left to do is told by how many events are done.
     for done in 0..events.len() / EVENT {
         let event = events[2 * done];
         let arg = events[2 * done + 1];

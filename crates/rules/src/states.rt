@@ -62,6 +62,7 @@ fn count_children(chart: &[i32]) -> [Offspring; STATES]
 {
     let n = state_count(chart);
     let mut families = [CHILDLESS; STATES];
+    // From 0, for a chart may have no state at all: a range from 1 would begin past its end.
     for d in 0..n {
         if d == 0 {
             continue;

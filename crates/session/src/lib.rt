@@ -173,6 +173,7 @@ pub fn walk(
 {
     let mut now = under;
     let mut i = from;
+    // No count: each line says where the next one begins.
     while i < part.len() {
         if !has_room(out, now.at) {
             break;

@@ -53,6 +53,7 @@ fn feed_all(
 {
     let mut now = under;
     let mut i = 0;
+    // No count: each walk says how far it came.
     while i < part.len() {
         let walked = session::walk(chart, part, i, now, out, trace);
         let at = with_room(rt, out, walked.under.at)?;
