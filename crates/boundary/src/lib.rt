@@ -53,7 +53,7 @@ pub fn qh_compile(chart: &[i32], plan: &mut [i32], report: &mut [i32; 2]) -> i32
 pub fn qh_examine(plan: &[i32], report: &mut [i32; 2]) -> i32
     ensures { HostExamined plan.now result report.new }
 {
-    let examined = engine::plans::examine(plan);
+    let examined = Answer::from(engine::plans::examine(plan));
     tell(examined, 0, report)
 }
 
@@ -151,7 +151,7 @@ pub fn qh_plan_start(
         widget.new trace.new }
 {
     if widget.len() < STATE_NUMBERS { // 5 first, then 6
-        let verdict = engine::plans::examine(plan);
+        let verdict = Answer::from(engine::plans::examine(plan));
         let answer = too_few(verdict);
         clear(trace);
         return tell(answer, 0, report);

@@ -8,6 +8,7 @@ mod instructions;
 mod variables;
 
 ghost use Rattle.std.specs.Prelude.{◌≡◌};
+ghost use Rattle.meaning.specs.Answers.{answer_by};
 ghost use Rattle.meaning.specs.WellFormed.{counts_keep, rows_well_formed, well_formed};
 ghost use Rattle.examiner.specs.Examined.{examined, Whole};
 
@@ -15,8 +16,7 @@ use chart_rows::number_at;
 use fits::count_fits;
 use heads::{blocks_fill, heads_fit};
 use instructions::code_fits;
-use meaning::Answer;
-use meaning::answers::NOT_A_PLAN;
+use meaning::answers::Refusal;
 use meaning::plan::Counts;
 use plan_rows::layout::{EVENT_COUNT, HEAD_COUNT, INSTR_COUNT, STATE_COUNT, VAR_COUNT};
 use plan_rows::{counts, plan_end};
@@ -52,17 +52,11 @@ fn well_formed(plan: &[i32]) -> bool
 }
 
 // 0 if the numbers begin with a well-formed plan, else 5.
-pub fn examine(plan: &[i32]) -> Answer
-    ensures { result ≡ examined plan.now }
+pub fn examine(plan: &[i32]) -> Result<(), Refusal>
+    ensures { answer_by result ≡ examined plan.now }
 {
     if well_formed(plan) {
-        return Answer {
-            number: 0,
-            place: 0,
-        };
+        return Ok(());
     }
-    Answer {
-        number: NOT_A_PLAN,
-        place: 0,
-    }
+    Err(Refusal::NotAPlan)
 }

@@ -1,5 +1,5 @@
 -- The tests of a call in turn (01, "Answer numbers", the order): 5 first, then 7, 6; laws over plain variables. Assumes nothing.
-use mathlib.Core.Path.{◌≡◌, refl, ap, subst}
+use mathlib.Core.Path.{◌≡◌, refl, sym, ap, subst, ◌∙◌}
 use Prim.Native.Nat.{ℕ}
 use native.Mathlib.Omega.{arith}
 use mathlib.Core.Bool.{Bool, true, false, cond}
@@ -62,18 +62,27 @@ module _ (ns : List ℤ) {a : Answer} (e : a ≡ examined ns) where
     unfolding machine_discard
     by_discard b f = subst (λ d. machine_discard ns u ≡ elim d [ true ↦ plan_discard (plan_by ns) u | false ↦ as_found 5 0 u ]) f refl
 
+    told_by : (b : Bool) → a ≡ cond b (record { number = 0; place = 0 }) (record { number = 5; place = 0 }) → (a.number ≡ 0 → ⊥)
+        → as_found 5 0 u ≡ as_found a.number a.place u
+    told_by true f z = absurd (z (ap (λ (x : Answer). x.number) f))
+    told_by false f z = ap (λ (x : Answer). as_found x.number x.place u) (sym f)
+
     module _ (z : a.number ≡ 0 → ⊥) where
-      pub start_5 : (n : ℕ) → machine_start ns u n ≡ as_found 5 0 u
-      start_5 n = by_start false n (failed z)
+      as_told : as_found 5 0 u ≡ as_found a.number a.place u
+      unfolding examined
+      as_told = told_by (well_formed ns) e z
 
-      pub run_5 : (n : ℕ) → machine_run ns u n ≡ as_found 5 0 u
-      run_5 n = by_run false n (failed z)
+      pub start_5 : (n : ℕ) → machine_start ns u n ≡ as_found a.number a.place u
+      start_5 n = by_start false n (failed z) ∙ as_told
 
-      pub post_5 : (x y : ℤ) → machine_post ns u x y ≡ as_found 5 0 u
-      post_5 x y = by_post false x y (failed z)
+      pub run_5 : (n : ℕ) → machine_run ns u n ≡ as_found a.number a.place u
+      run_5 n = by_run false n (failed z) ∙ as_told
 
-      pub discard_5 : machine_discard ns u ≡ as_found 5 0 u
-      discard_5 = by_discard false (failed z)
+      pub post_5 : (x y : ℤ) → machine_post ns u x y ≡ as_found a.number a.place u
+      post_5 x y = by_post false x y (failed z) ∙ as_told
+
+      pub discard_5 : machine_discard ns u ≡ as_found a.number a.place u
+      discard_5 = by_discard false (failed z) ∙ as_told
 
     module _ (z : a.number ≡ 0) where
       pub start_is : (n : ℕ) → machine_start ns u n ≡ plan_start (plan_by ns) u n

@@ -12,7 +12,6 @@ ghost use Rattle.meaning.specs.Machine.{machine_start, machine_run, machine_post
 
 use ends::refuse;
 use examiner::examine;
-use meaning::answers::{NOT_A_PLAN, Refusal};
 use meaning::{Called, State};
 use plan_rows::counts;
 use queue_calls::answers::refused;
@@ -25,9 +24,8 @@ pub fn start(plan: &[i32], state: State, trace: &mut [i32]) -> Called
     ensures { (result ≡ called (machine_start plan.now state (length trace.old))) × (trace.new
         ≡ lent (length trace.old) (machine_start plan.now state (length trace.old))) }
 {
-    let verdict = examine(plan);
-    if verdict.number != 0 {
-        return refuse(Refusal::NotAPlan, state, trace);
+    if let Err(refusal) = examine(plan) {
+        return refuse(refusal, state, trace);
     }
     start_examined(plan, counts(plan), state, trace)
 }
@@ -37,9 +35,8 @@ pub fn run(plan: &[i32], state: State, trace: &mut [i32]) -> Called
     ensures { (result ≡ called (machine_run plan.now state (length trace.old))) × (trace.new
         ≡ lent (length trace.old) (machine_run plan.now state (length trace.old))) }
 {
-    let verdict = examine(plan);
-    if verdict.number != 0 {
-        return refuse(Refusal::NotAPlan, state, trace);
+    if let Err(refusal) = examine(plan) {
+        return refuse(refusal, state, trace);
     }
     run_examined(plan, counts(plan), state, trace)
 }
@@ -48,9 +45,8 @@ pub fn run(plan: &[i32], state: State, trace: &mut [i32]) -> Called
 pub fn post(plan: &[i32], state: State, event: i32, arg: i32) -> Called
     ensures { result ≡ called (machine_post plan.now state event arg) }
 {
-    let verdict = examine(plan);
-    if verdict.number != 0 {
-        return refused(NOT_A_PLAN, 0, state);
+    if let Err(refusal) = examine(plan) {
+        return refused(refusal.number(), refusal.place(), state);
     }
     post_examined(plan, counts(plan), state, event, arg)
 }
@@ -59,9 +55,8 @@ pub fn post(plan: &[i32], state: State, event: i32, arg: i32) -> Called
 pub fn discard(plan: &[i32], state: State) -> Called
     ensures { result ≡ called (machine_discard plan.now state) }
 {
-    let verdict = examine(plan);
-    if verdict.number != 0 {
-        return refused(NOT_A_PLAN, 0, state);
+    if let Err(refusal) = examine(plan) {
+        return refused(refusal.number(), refusal.place(), state);
     }
     discard_examined(plan, counts(plan), state)
 }

@@ -2,6 +2,8 @@
 -- result. Assumes nothing.
 use mathlib.Core.Path.{refl}
 use contract.Lifetimes.{Lfts}
+use Rattle.meaning.specs.Answers.{answer_by}
+use Rattle.meaning.proofs.Refusals.{same_answer}
 use Rattle.promises.specs.Promises.{Compiles, Examined}
 use Rattle.promises.proofs.Settles.{Settles, nothing, one}
 use Rattle.plan_engine.proofs.plans.compile.Reads as compile-reads
@@ -16,9 +18,9 @@ compile_settles κs = record {
 }
 
 pub examine_settles : (κs : Lfts 1) → Settles nothing (examine-reads.Asked κs) (examine-reads.Learnt κs)
-    (λ a r x. Examined a.0.now r) (λ x. tt {0})
+    (λ a r x. Examined a.0.now (answer_by r)) (λ x. tt {0})
 examine_settles κs = record {
   asks = λ a g. tt;
   promised = λ a r x p. p;
-  unique = λ a r s x y p q. (one p.result q.result, refl);
+  unique = λ a r s x y p q. (same_answer r s (one p.result q.result), refl);
 }

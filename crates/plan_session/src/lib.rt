@@ -244,9 +244,8 @@ fn run_widget(rt: &(impl Input + Print + Eprint), plan: &[i32], shown: bool) -> 
 
 // The plan is examined once.
 fn run_plan(rt: &(impl Input + Print + Eprint), plan: &[i32], shown: bool) -> io::Result<()> {
-    let verdict = engine::plans::examine(plan);
-    if verdict.number != 0 {
-        return end_early(rt, shown, verdict.number);
+    if let Err(refusal) = engine::plans::examine(plan) {
+        return end_early(rt, shown, refusal.number());
     }
     run_widget(rt, plan, shown)
 }

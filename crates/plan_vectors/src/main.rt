@@ -13,6 +13,7 @@ ghost use Rattle.std.specs.Prelude.{◌≤◌};
 use charts::run_chart;
 use engine::plans::examine;
 use files::{ARGUMENT, BUFFER, argument, file_bytes};
+use meaning::answers::Answer;
 use number_lines::read_numbers;
 use std::env::Env;
 use std::io;
@@ -36,7 +37,7 @@ pub fn print(rt: &impl Print, word: &[u8]) -> io::Result<()> {
 fn report(rt: &impl Print, text: &[u8]) -> io::Result<()> {
     let mut plan = [0i32; ROOM];
     let n = read_numbers(text, &mut plan);
-    let number = examine(&plan[..n]).number;
+    let number = Answer::from(examine(&plan[..n])).number;
     print!(rt; "\t{number}\n")
 }
 

@@ -140,8 +140,7 @@ pub fn replay(plan: &[i32], state: State, events: &[i32], trace: &mut [i32]) -> 
     if events.len() < EVENT {
         return stopped(0, state, trace);
     }
-    let verdict = examine(plan);
-    if verdict.number != 0 {
+    if let Err(_) = examine(plan) {
         return stopped(NOT_A_PLAN, state, trace);
     }
     replay_planned(plan, state, events, trace)

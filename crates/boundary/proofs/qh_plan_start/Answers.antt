@@ -1,4 +1,5 @@
 -- `qh_plan_start` starts the widget over its plan, where there is room to store it. Assumes nothing.
+use mathlib.Core.Path.{◌∙◌}
 use Rattle.numbers.proofs.Laws.{back32}
 use lib.ListN.{length}
 use Rattle.meaning.specs.WellFormed.{well_formed}
@@ -11,7 +12,7 @@ pub returns-then-widget-lt-STATE_NUMBERS : goal.returns-then-widget-lt-STATE_NUM
 returns-then-widget-lt-STATE_NUMBERS c =
     start_short (λ u. machine_start c.args.plan.now u (length c.args.trace.now))
     c.if-widget-lt-STATE_NUMBERS.true
-    c.examine-verdict.ensures.result c.too_few-answer.ensures
+    (c.from-verdict.ensures ∙ c.examine.ensures.result) c.too_few-answer.ensures
     c.clear.ensures (back32 _ c.tell.type_inv) c.tell.ensures
 
 pub returns : goal.returns

@@ -4,6 +4,7 @@ use native.Mathlib.Omega.{arith}
 use lib.ListN.{length}
 use borrow.Author.Rules.{rules}
 use Rattle.invariants.specs.Good.{Sized}
+use Rattle.meaning.proofs.Refusals.{not_done}
 use Rattle.machine.proofs.Gates.{failed, passed}
 use Rattle.replaying.proofs.Events.{replay_5, replay_none}
 use Rattle.replaying.proofs.Telling.{told_as}
@@ -20,13 +21,13 @@ returns-then-events-lt-EVENT c =
     told_as (replay_none a.plan.now a.state (length a.trace.now) a.events.now c.if-events-lt-EVENT.true) refl
     c.stopped.ensures
 
-pub returns-then-verdict-ne0 : goal.returns-then-verdict-ne0
-returns-then-verdict-ne0 c =
+pub returns-in-Err : goal.returns-in-Err
+returns-in-Err c =
     let a = c.args in
-    told_as (replay_5 a.plan.now a.state (length a.trace.now) (sized_of (goal.at.returns-then-verdict-ne0 c).Start)
+    told_as (replay_5 a.plan.now a.state (length a.trace.now) (sized_of (goal.at.returns-in-Err c).Start)
     a.events.now (omega (arith, c.if-events-lt-EVENT.false))
-    (failed a.plan.now c.examine-verdict.ensures c.if-verdict-ne0.true)) refl c.stopped-then-verdict-ne0.ensures
+    (failed a.plan.now c.in-Err.ensures (not_done _))) refl c.stopped-in-Err.ensures
 
 pub replay_planned-requires : goal.replay_planned-requires
 replay_planned-requires c =
-    passed c.args.plan.now c.examine-verdict.ensures c.if-verdict-ne0.false
+    passed c.args.plan.now c.in_default.ensures refl
