@@ -13,7 +13,7 @@ ghost use Rattle.std.specs.Prelude.{◌≤◌};
 use charts::run_chart;
 use engine::plans::examine;
 use files::{ARGUMENT, BUFFER, argument, file_bytes};
-use meaning::answers::Answer;
+use meaning::Answer;
 use number_lines::read_numbers;
 use std::env::Env;
 use std::io;
