@@ -111,3 +111,8 @@ pub all_loaded : (ns : List ℤ) (s : Bool) (active : List Bool) (slots vars : L
     → ◌≡◌ {A = State} (record { started = s; active = active; slots = slots; vars = vars; queue = q }) (widget_of ns)
 unfolding widget_of stated is_set
 all_loaded ns s active slots vars q h a b c d e = rw (h, a, b, c, d, e)
+
+-- a part that was copied into an array of its size
+pub copied_part : (d ns now : List ℤ) (at n : ℕ) → length d ≡ n → now ≡ paste d 0 (drop at ns) n → now ≡ part at n ns
+unfolding part
+copied_part d ns now at n l e = e ∙ paste_whole d (drop at ns) n l

@@ -48,6 +48,17 @@ pub fn clear(lent: &mut [i32])
     lent.fill(0);
 }
 
+// Copies some numbers from a place of one slice to a place of another, one by one: `copy_from_slice` compares the addresses of the two, and
+// web/build takes no module in which a pointer becomes a number.
+fn copy(from: &[i32], at: usize, to: &mut [i32], place: usize, count: usize)
+    requires { (at + count ≤ length from.now) × (place + count ≤ length to.old) }
+    ensures { to.new ≡ paste to.old place (drop at from.now) count }
+{
+    for i in 0..count {
+        to[place + i] = from[at + i];
+    }
+}
+
 // ---- numbers to a state
 
 // Whether the started mark and every active mark is 0 or 1. Each is looked at, with no way out before the last: so the compiler tests many
@@ -99,7 +110,7 @@ fn load_queue(numbers: &[i32]) -> Queue
     ensures { result ≡ queue_by (part length_at queue_numbers numbers.now) }
 {
     let mut waiting = [0; QUEUE_NUMBERS];
-    waiting.copy_from_slice(&numbers[LENGTH_AT..STATE_NUMBERS]);
+    copy(numbers, LENGTH_AT, &mut waiting, 0, QUEUE_NUMBERS);
     held(&waiting)
 }
 
@@ -111,9 +122,9 @@ pub fn load(numbers: &[i32]) -> State
         return no_widget(!numbers.is_empty() && numbers[0] != 0);
     }
     let mut slots = [0; STATES];
-    slots.copy_from_slice(&numbers[SLOTS_AT..VARS_AT]);
+    copy(numbers, SLOTS_AT, &mut slots, 0, STATES);
     let mut vars = [0; VARIABLES];
-    vars.copy_from_slice(&numbers[VARS_AT..LENGTH_AT]);
+    copy(numbers, VARS_AT, &mut vars, 0, VARIABLES);
     State {
         started: numbers[0] == 1,
         active: load_active(numbers),
@@ -141,7 +152,7 @@ fn store_queue(queue: Queue, numbers: &mut [i32])
 {
     let len = small(queue.len);
     let waiting = lend(queue);
-    numbers[LENGTH_AT..STATE_NUMBERS].copy_from_slice(&waiting);
+    copy(&waiting, 0, numbers, LENGTH_AT, QUEUE_NUMBERS);
     numbers[LENGTH_AT] = len;
 }
 
@@ -161,8 +172,8 @@ pub fn store(state: State, numbers: &mut [i32])
     } = state;
     numbers[0] = mark(started);
     store_active(active, numbers);
-    numbers[SLOTS_AT..VARS_AT].copy_from_slice(&slots);
-    numbers[VARS_AT..LENGTH_AT].copy_from_slice(&vars);
+    copy(&slots, 0, numbers, SLOTS_AT, STATES);
+    copy(&vars, 0, numbers, VARS_AT, VARIABLES);
     store_queue(queue, numbers);
 }
 

@@ -1,10 +1,7 @@
 -- `store` writes the parts one after the other. Assumes nothing.
-use mathlib.Core.Path.{refl, sym, ◌∙◌}
-use Rattle.std.proofs.lemmas.Slice.{put_mid-paste}
-use Rattle.sizes.specs.Sizes.{STATES, VARIABLES}
+use mathlib.Core.Path.{◌∙◌}
 use Rattle.numbers.proofs.Laws.{back32}
 use Rattle.invariants.specs.Good.{Sized}
-use Rattle.promises.specs.Saved.{SLOTS_AT, VARS_AT}
 use Rattle.saved.proofs.Storing.{none_written, first_written, all_written}
 use Rattle.saved.proofs.store.Goals.{Start}
 use Rattle.saved.proofs.store.Goals as goal
@@ -29,6 +26,6 @@ returns c =
     all_written c.args.state z c.args.numbers.now c.if-numbers-lt-STATE_NUMBERS.false _ _ _ _ _
     (first_written c.args.state z c.args.numbers.now c.if-numbers-lt-STATE_NUMBERS.false _ (back32 _ c.mark.type_inv ∙ c.mark.ensures))
     c.store_active.ensures
-    (put_mid-paste SLOTS_AT STATES _ _ c.args.state.slots STATES c.copy_from_slice.ensures.after refl (sym z.slots))
-    (put_mid-paste VARS_AT VARIABLES _ _ c.args.state.vars VARIABLES c.copy_from_slice-2.ensures.after refl (sym z.vars))
+    c.copy.ensures
+    c.copy-2.ensures
     c.store_queue.ensures
