@@ -15,7 +15,13 @@ pub use meaning::bytes::{LF, TAB};
 pub fn stop(s: &[u8], sep: u8) -> Option<usize>
     ensures { result ≡ position (λ b. b == sep) s.now }
 {
-    s.iter().position(|b| *b == sep)
+    // By place: `position` on an iterator takes nearly twice the time a byte, and every byte of a text is looked at here.
+    for i in 0..s.len() {
+        if s[i] == sep {
+            return Some(i);
+        }
+    }
+    None
 }
 
 // What stands before the first separator, and what stands behind it, if there is one.
