@@ -10,7 +10,9 @@ use Rattle.rules.proofs.Tests.{both, fails}
 use Rattle.rules.proofs.records.action_fits.Goals.{After-owner_fits}
 use Rattle.rules.proofs.records.action_fits.Goals as goal
 
-owner : (c : After-owner_fits) → c.owner_fits.result ≡ owner_fits (chart_of c.args.chart.now) (get_or (chart_of c.args.chart.now).actions c.args.i no_action).owner
+owner : (c : After-owner_fits)
+    → c.owner_fits.result
+    ≡ owner_fits (chart_of c.args.chart.now) (get_or (chart_of c.args.chart.now).actions c.args.i no_action).owner
 owner c =
     let m = c.number_at in
     let n = c.number_at-2 in
