@@ -6,30 +6,35 @@ pub mod records;
 pub mod states;
 pub mod value;
 
-ghost use Rattle.std.specs.Prelude.{◌≡◌};
+ghost use Rattle.std.specs.Prelude.{◌≡◌, ◌∷◌, []};
 ghost use Rattle.meaning.specs.Answers.{answer_by};
-ghost use Rattle.meaning.specs.Rules.{failing_rule, failing_rule_of, verdict};
+ghost use Rattle.meaning.specs.Rules.{first_failing, failing_rule, failing_rule_of, verdict};
 ghost use Rattle.meaning.specs.Value.{chart_of};
 
 use meaning::answers::Refusal;
 
-// R1 to R7, for a chart that was read from a text.
+// A rule that does not hold is refused by its number.
+fn passed(rule: usize, holds: bool) -> Result<(), Refusal>
+    ensures { answer_by result ≡ verdict (first_failing rule (holds ∷ [])) }
+{
+    if holds {
+        Ok(())
+    } else {
+        Err(Refusal::RuleFails(rule))
+    }
+}
+
+// R1 to R7, for a chart that was read from a text. Each is tried only where those before it hold.
 pub fn check_rows(chart: &[i32]) -> Result<(), Refusal>
     ensures { answer_by result ≡ verdict (failing_rule (chart_of chart.now)) }
 {
-    let kept = [
-        states::rule_1(chart),
-        states::rule_2(chart),
-        states::rule_3(chart),
-        states::rule_4(chart),
-        records::rule_5(chart),
-        records::rule_6(chart),
-        records::rule_7(chart),
-    ];
-    match kept.iter().position(|kept| !*kept) {
-        Some(i) => Err(Refusal::RuleFails(i + 1)),
-        None => Ok(()),
-    }
+    passed(1, states::rule_1(chart))?;
+    passed(2, states::rule_2(chart))?;
+    passed(3, states::rule_3(chart))?;
+    passed(4, states::rule_4(chart))?;
+    passed(5, records::rule_5(chart))?;
+    passed(6, records::rule_6(chart))?;
+    passed(7, records::rule_7(chart))
 }
 
 // R0 to R7, for a chart handed over as a value.

@@ -1,17 +1,21 @@
 // R5 to R7 (01, "Chart rules, in order"): the variables, the transitions and the actions. Each function equals the
 // definition of the same name in the crate meaning, on every input.
-ghost use Rattle.std.specs.Prelude.{◌≡◌};
+ghost use Rattle.std.specs.Prelude.{◌≡◌, ◌<◌, length, get_or};
+ghost use Rattle.meaning.specs.Chart.{no_action};
+ghost use Rattle.meaning.specs.Tree.{trans_row};
 ghost use Rattle.meaning.specs.Rules.{is_var, row_fits, guard_fits, target_fits, transition_fits, owner_fits, within_row};
 ghost use Rattle.meaning.specs.Rules.{act_fits, action_fits};
 ghost use Rattle.meaning.specs.Rules.{rule_5, rule_6, rule_7};
 ghost use Rattle.meaning.specs.Value.{chart_of};
 
 use super::states::is_state;
+use chart_rows::decode::{act_by, guard_by, owner_by, target_by};
+use chart_rows::layout::{ACT_ROW, ACTIONS_AT, TRANS_ROW, TRANSITIONS_AT};
 use chart_rows::{
-    action_count, action_row, event_count, kind_of, trans_row, transition_count, var_count, var_row,
+    action_count, event_count, kind_of, number_at, transition_count, var_count, var_row,
 };
-use meaning::chart::{Act, ActRow, Guard, Owner, Target, TransRow, VarRow};
-use numbers::between;
+use meaning::chart::{Act, Guard, Owner, Target, VarRow};
+use numbers::{between, reference};
 use tree::kin::is_o;
 
 // Does the chart have the variable v?
@@ -56,19 +60,34 @@ fn target_fits(chart: &[i32], s: usize, target: Target) -> bool
     }
 }
 
-// R6 of one transition; the tests are nested as in the definition.
-fn transition_fits(chart: &[i32], row: TransRow) -> bool
-    ensures { result ≡ transition_fits (chart_of chart.now) row }
+// R6 of one transition, whose numbers are read where they stand; the tests are nested as in the definition.
+#[tactic(auto, using(chart_rows::proofs::Rows::transitions_most))]
+fn transition_fits(chart: &[i32], i: usize) -> bool
+    requires { i < length (chart_of chart.now).transitions }
+    ensures { result ≡ transition_fits (chart_of chart.now) (trans_row (chart_of chart.now) i) }
 {
-    is_state(chart, row.source)
-        && (row.trigger <= event_count(chart)
-            && (guard_fits(chart, row.guard) && target_fits(chart, row.source, row.target)))
+    let at = TRANSITIONS_AT + i * TRANS_ROW;
+    let source = reference(number_at(chart, at));
+    is_state(chart, source)
+        && (reference(number_at(chart, at + 1)) <= event_count(chart)
+            && (guard_fits(
+                chart,
+                guard_by(
+                    number_at(chart, at + 2),
+                    number_at(chart, at + 3),
+                    number_at(chart, at + 4),
+                ),
+            ) && target_fits(
+                chart,
+                source,
+                target_by(number_at(chart, at + 5), number_at(chart, at + 6)),
+            )))
 }
 
 pub fn rule_6(chart: &[i32]) -> bool
     ensures { result ≡ rule_6 (chart_of chart.now) }
 {
-    (0..transition_count(chart)).all(|i| transition_fits(chart, trans_row(chart, i)))
+    (0..transition_count(chart)).all(|i| transition_fits(chart, i))
 }
 
 // R7: the owner exists; a d owner is an o state.
@@ -101,15 +120,28 @@ fn act_fits(chart: &[i32], act: Act) -> bool
     }
 }
 
-// R7 of one action.
-fn action_fits(chart: &[i32], row: ActRow) -> bool
-    ensures { result ≡ action_fits (chart_of chart.now) row }
+// R7 of one action, whose numbers are read where they stand.
+#[tactic(auto, using(chart_rows::proofs::Rows::actions_most))]
+fn action_fits(chart: &[i32], i: usize) -> bool
+    requires { i < length (chart_of chart.now).actions }
+    ensures { result ≡ action_fits (chart_of chart.now) (get_or (chart_of chart.now).actions i no_action) }
 {
-    owner_fits(chart, row.owner) && act_fits(chart, row.act)
+    let at = ACTIONS_AT + i * ACT_ROW;
+    owner_fits(
+        chart,
+        owner_by(number_at(chart, at), number_at(chart, at + 1)),
+    ) && act_fits(
+        chart,
+        act_by(
+            number_at(chart, at + 2),
+            number_at(chart, at + 3),
+            number_at(chart, at + 4),
+        ),
+    )
 }
 
 pub fn rule_7(chart: &[i32]) -> bool
     ensures { result ≡ rule_7 (chart_of chart.now) }
 {
-    (0..action_count(chart)).all(|i| action_fits(chart, action_row(chart, i)))
+    (0..action_count(chart)).all(|i| action_fits(chart, i))
 }
