@@ -1,10 +1,7 @@
 -- Laws of where a part of a text ends: what the place of its first separator says of its parts. Assumes nothing.
 use Rattle.std.proofs.Common.{◌≡◌, refl, sym, ap, ◌∙◌, Bool, true, false, cond, not, List, [], ◌∷◌, ℕ, zero, suc, ◌+◌, ◌-◌, ◌≤◌, ◌<◌}
-use Rattle.std.proofs.Common.{Option, None, Some, arith, add-one, eqb, ltb, length, take, drop, get_or, length-drop, inl, inr, ◌≢◌}
-use Rattle.std.proofs.lemmas.Bool.{cases_lt}
-use Rattle.std.proofs.lemmas.Bool.Decides.{nat_tests}
+use Rattle.std.proofs.Common.{Option, None, Some, arith, add-one, eqb, ltb, length, take, drop, length-drop}
 use Rattle.std.proofs.lemmas.List.{take_all}
-use Rattle.std.proofs.lemmas.List.Sums.{position_or_len_is}
 use Rattle.std.specs.Prelude.{position}
 use Rattle.std.specs.Borrow.{Bor}
 use Rattle.std.specs.List.{position_or_len}
@@ -41,26 +38,6 @@ stop_first sep (b ∷ bs) = go (eqb b sep) (position_or_len (λ x. eqb x sep) bs
 
 pub stop_is : (sep : ℕ) (s : List ℕ) (r : Option ℕ) → r ≡ position (λ b. eqb b sep) s → Stop sep s r
 stop_is sep s r e = rw e (stop_first sep s)
-
--- ---- where the first separator is, by its place
-pub first_is : (sep : ℕ) (s : List ℕ) (i : ℕ) → i < length s → ((k : ℕ) → k < i → eqb (get_or s k 0) sep ≡ false) → get_or s i 0 ≡ sep
-    → Some i ≡ position (λ b. eqb b sep) s
-first_is sep s i lt before here =
-    let n = position_or_len_is (λ b. eqb b sep) s i 0 (omega arith) before (λ h. grind (arith, nat_tests)) in
-    rw (n, lt-ltb i (length s) lt) refl
-
-pub none_is : (sep : ℕ) (s : List ℕ) (i : ℕ) → length s ≤ i → ((k : ℕ) → k < i → eqb (get_or s k 0) sep ≡ false)
-    → None ≡ position (λ b. eqb b sep) s
-none_is sep s i le before =
-    let n = position_or_len_is (λ b. eqb b sep) s (length s) 0 (omega arith) (λ k lt. before k (omega arith)) (λ h. absurd (omega arith)) in
-    rw (n, le-ltb (length s) (length s) (omega arith)) refl
-
-pub none_before : (sep : ℕ) (s : List ℕ) (i : ℕ) → ((k : ℕ) → k < i → eqb (get_or s k 0) sep ≡ false) → (get_or s i 0 ≢ sep)
-    → (k : ℕ) → k < i + 1 → eqb (get_or s k 0) sep ≡ false
-none_before sep s i before here k lt = elim (cases_lt k i) [
-  | inl less ↦ before k less
-  | inr more ↦ let e : k ≡ i = omega arith in rw e (grind (arith, nat_tests))
-]
 
 -- ---- a part cut at its separator
 pub cut_some : (sep : ℕ) (s : List ℕ) (e : ℕ) → Some e ≡ position (λ b. eqb b sep) s
