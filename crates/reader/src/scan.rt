@@ -6,8 +6,7 @@ ghost use Rattle.meaning.specs.Line.{faulty as fault_of};
 ghost use Rattle.reader.specs.Onward.{Walking, Onward, begun};
 
 use crate::next_line;
-use crate::order::{Turns, line, put_counts};
-use chart_rows::kinds::Record;
+use crate::order::{Turns, counted, line, put_counts};
 use fields::letter_at;
 use meaning::answers::{OUTSIDE_SIZE, WRONG_LINE};
 use meaning::{Answer, Fault};
@@ -75,15 +74,13 @@ pub fn line_at(
         return over(0, 0);
     };
     let s = &text[at..e];
-    let Some(kind) = Record::of(letter_at(s, 0)) else {
-        return over(WRONG_LINE, n);
-    };
-    match line(s, kind, turns, chart) {
+    let letter = letter_at(s, 0);
+    match line(s, letter, turns, chart) {
         Err(fault) => faulty(fault, n),
         Ok(()) => ControlFlow::Continue(Progress {
             at: e + 1,
             line: n + 1,
-            turns: turns.more(kind),
+            turns: counted(letter, turns),
         }),
     }
 }

@@ -1,10 +1,10 @@
 -- `reader::scan::line_at` meets its contract: each way out is a law of the walk over a text's lines. Assumes nothing.
 use native.Mathlib.Omega.{arith}
-use mathlib.Core.Path.{◌≡◌, refl, ap, ◌∙◌}
+use mathlib.Core.Path.{◌≡◌, refl, ap}
 use Prim.Native.Nat.{◌+◌, ◌-◌}
 use Rattle.meaning.specs.Grammar.{record_by}
 use Rattle.reader.proofs.HeardLaws.{line_heard, last_heard}
-use Rattle.reader.proofs.ScanLaws.{scan_cut, scan_missing, scan_done, scan_unnamed, scan_faulty}
+use Rattle.reader.proofs.ScanLaws.{scan_cut, scan_missing, scan_done, scan_faulty}
 use Rattle.reader.proofs.ScanLaws.{scan_next, onward_over}
 use Rattle.reader.proofs.scan.line_at.Goals.{then-at-text-via-then-at-text, then-at-text-via-else-at-text+then-turns-lt1}
 use Rattle.reader.proofs.scan.line_at.Goals as goal
@@ -24,23 +24,17 @@ returns-in_default c =
     (scan_done _ _ _ _ _ _ c.requires (last_heard _ _ _ refl c.in_default.ensures c.requires.inside) _ c.put_counts.ensures
     c.if-at-text.false c.if-turns-lt1.false)
 
-pub returns-in_default-of : goal.returns-in_default-of
-returns-in_default-of c =
-    let q = line_heard _ _ _ _ refl c.in-Some.ensures in
-    onward_over _ _ _ _ _ _ c.over-in_default-of.ensures
-    (scan_unnamed _ _ _ _ _ _ c.requires _ q (c.in_default-of.ensures ∙ ap record_by c.letter_at.ensures))
-
 pub returns-in-Err : goal.returns-in-Err
 returns-in-Err c =
     let q = line_heard _ _ _ _ refl c.in-Some.ensures in
     onward_over _ _ _ _ _ _ c.faulty.ensures
-    (scan_faulty _ _ _ _ _ _ c.requires _ q _ (c.in-Some-of.ensures ∙ ap record_by c.letter_at.ensures) _ _ c.in-Err.ensures)
+    (scan_faulty _ _ _ _ _ _ c.requires _ q _ (ap record_by c.letter_at-letter.ensures) _ _ c.in-Err.ensures)
 
 pub returns-in-Ok : goal.returns-in-Ok
 returns-in-Ok c =
     let q = line_heard _ _ _ _ refl c.in-Some.ensures in
     let lo = c.in-Some.ensures.stop.low in
     let z : c.args.at + (c.in-Some.e - c.args.at) + 1 ≡ c.in-Some.e + 1 = omega arith in
-    let w = scan_next _ _ _ _ _ _ c.requires _ q _ (c.in-Some-of.ensures ∙ ap record_by c.letter_at.ensures) _ _ c.in-Ok.ensures
-    _ c.more.ensures refl in
+    let w = scan_next _ _ _ _ _ _ c.requires _ q _ (ap record_by c.letter_at-letter.ensures) _ _ c.in-Ok.ensures
+    _ c.counted.ensures refl in
     (rw z at w, omega arith)
