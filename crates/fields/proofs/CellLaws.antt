@@ -6,9 +6,10 @@ use Rattle.std.specs.List.{list_any}
 use lib.IntN.{ℤ, pos}
 use borrow.Author.Tests.{eq-eqb, ne_eqb, eqb-true}
 use mathlib.Core.Bool.{true≢false}
-use Rattle.meaning.specs.Grammar.{Field, letter, target_history}
+use Rattle.meaning.specs.Grammar.{Field, turn, number, count, letter, dash, target_state, target_history, target_none}
+use Rattle.meaning.specs.Value.{ABSENT}
 use Rattle.meaning.specs.Lists.{has}
-use Rattle.meaning.specs.Line.{Line, wrong, number_line, read_field}
+use Rattle.meaning.specs.Line.{Line, wrong, letter_of, is_turn, number_line, count_line, right_if, read_field}
 use Rattle.meaning.specs.Number.{number_of}
 use Rattle.meaning.specs.declared.Fault.{Fault}
 

@@ -1,14 +1,14 @@
 -- Laws of where a part of a text ends: what the place of its first separator says of its parts. Assumes nothing.
-use Rattle.std.proofs.Common.{◌≡◌, refl, Bool, true, false, cond, not, List, [], ◌∷◌, ℕ, zero, suc, ◌+◌, ◌-◌, ◌≤◌}
+use Rattle.std.proofs.Common.{◌≡◌, refl, sym, ap, ◌∙◌, Bool, true, false, cond, not, List, [], ◌∷◌, ℕ, zero, suc, ◌+◌, ◌-◌, ◌≤◌, ◌<◌}
 use Rattle.std.proofs.Common.{Option, None, Some, arith, add-one, eqb, ltb, length, take, drop, length-drop}
 use Rattle.std.proofs.lemmas.List.{take_all}
 use Rattle.std.specs.Prelude.{position}
 use Rattle.std.specs.Borrow.{Bor}
 use Rattle.std.specs.List.{position_or_len}
-use borrow.Author.Tests.{ltb-true, ltb-false, lt-ltb}
-use Rattle.meaning.specs.Split.{parts, all, split, fields}
+use borrow.Author.Tests.{ltb-true, ltb-false, lt-ltb, le-ltb}
+use Rattle.meaning.specs.Split.{Parts, parts, all, onto, cut, split, fields}
 use Rattle.meaning.specs.Line.{field}
-use Rattle.fields.specs.Parts.{Stop, cut_of}
+use Rattle.fields.specs.Parts.{Stop, Inside, split_at, cut_of}
 
 -- where the place n of the first separator is one of the part's, and where it is not
 abbrev at : ℕ → Bool → Option ℕ
