@@ -91,6 +91,26 @@ impl Record {
     }
 }
 
+// The part of the kind that a letter names; of no kind there are none.
+pub fn kind(letter: u8) -> Area
+    ensures { AreaOf (record_by letter) result }
+{
+    match Record::of(letter) {
+        Some(named) => named.area(),
+        None => Area::of(0, VALUE, VALUE, 1),
+    }
+}
+
+// How many rows of it a value has.
+pub fn how_many(chart: &[i32], letter: u8) -> usize
+    ensures { (result ≡ how_many chart.now (record_by letter)) × (result ≤ most (record_by letter)) }
+{
+    match Record::of(letter) {
+        Some(named) => named.how_many(chart),
+        None => 0,
+    }
+}
+
 // Of a kind: how many there may be, where the count and where the rows stand, and how many numbers a row has.
 #[derive(Clone, Copy)]
 pub struct Area {

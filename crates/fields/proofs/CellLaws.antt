@@ -6,7 +6,7 @@ use Rattle.std.specs.List.{list_any}
 use lib.IntN.{ℤ, pos}
 use borrow.Author.Tests.{eq-eqb, ne_eqb, eqb-true}
 use mathlib.Core.Bool.{true≢false}
-use Rattle.meaning.specs.Grammar.{turn, number, count, letter, dash, target_state, target_history, target_none}
+use Rattle.meaning.specs.Grammar.{Field, turn, number, count, letter, dash, target_state, target_history, target_none}
 use Rattle.meaning.specs.Value.{ABSENT}
 use Rattle.meaning.specs.Lists.{has}
 use Rattle.meaning.specs.Line.{Line, wrong, letter_of, is_turn, number_line, count_line, right_if, read_field}
@@ -44,6 +44,11 @@ history_is [] h e v l n g = absurd (omega arith)
 history_is (b ∷ bs) h e v l n g =
     let k : suc (length bs) - 1 ≡ length bs = omega arith in
     rw (e, g, n, k, take-length bs)
+
+-- ---- the letter of none
+pub letter_none : (x : Field) (n : ℕ) (s : List ℕ) → letter [] ≡ x → wrong ≡ read_field x n s
+unfolding read_field has
+letter_none x n s e = rw (← e)
 
 -- what the function cites of these
 pub ruleset of_history = (history_empty, history_is, history_not)

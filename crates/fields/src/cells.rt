@@ -3,7 +3,7 @@ ghost use Rattle.std.specs.Prelude.{◌≡◌, [], ◌∷◌, ◌≤◌, length,
 ghost use Rattle.meaning.specs.Grammar.{target_history};
 ghost use Rattle.meaning.specs.Lists.{has};
 ghost use Rattle.meaning.specs.Line.{is_turn, number_line, count_line, right_if, read_field};
-ghost use Rattle.forms.specs.Table.{field_of};
+ghost use Rattle.forms.specs.Table.{field_of, field_by};
 ghost use Rattle.fields.specs.Said.{said, row_of};
 
 use crate::whole;
@@ -118,5 +118,15 @@ pub fn read_field(s: &[u8], field: Field, n: usize) -> Result<Said, Fault>
         Field::TargetState => target_said(0, number(s)),
         Field::TargetHistory => history_said(s),
         Field::InPlace => right_if(whole(s) == b'-', Said::Two(ABSENT, ABSENT)),
+    }
+}
+
+// A field by its code; a code of none names no field that a line has.
+pub fn read_by_code(s: &[u8], code: u8, n: usize) -> Result<Said, Fault>
+    ensures { said result ≡ read_field (field_by code) n s.now }
+{
+    match Field::of(code) {
+        Some(field) => read_field(s, field, n),
+        None => Err(Fault::Wrong),
     }
 }

@@ -6,15 +6,15 @@ use mathlib.Core.Bool.{Bool, true, false, ◌&&◌, ◌||◌, false≢true}
 use mathlib.Core.List.{List, [], ◌∷◌}
 use lib.ListN.{length, get_or, get_or-eq_default}
 use lib.Dec.{eqb, leb, ltb}
-use borrow.Author.Tests.{eqb-true, leb-true, ltb-true}
+use borrow.Author.Tests.{eqb-true, ne_eqb, leb-true, ltb-true}
 use Rattle.meaning.specs.Lists.{has}
-use Rattle.meaning.specs.Grammar.{Form, last, ◌tab◌, ◌or◌, s_record, v_record, e_record, t_record, a_record, form}
+use Rattle.meaning.specs.Grammar.{letter, Form, last, ◌tab◌, ◌or◌, s_record, v_record, e_record, t_record, a_record, form}
 use Rattle.forms.specs.declared.Letters.{Letters}
 use Rattle.forms.specs.declared.Letters.TheVariants.{O, AOrB, Sign, Owner, Saq, Ko}
 use Rattle.forms.specs.declared.Field.{Field as Cell}
 use Rattle.forms.specs.declared.Entry.{Entry}
 use Rattle.forms.specs.declared.Entry.TheVariants.{Last, More, Or}
-use Rattle.forms.specs.Table.{ENTRIES, letters_of, field_of, entries_of, no_form, no_entry, at_entry, entry_form, forms, form_at}
+use Rattle.forms.specs.Table.{ENTRIES, letters_of, field_of, field_by, entries_of, no_form, no_entry, at_entry, entry_form, forms, form_at}
 
 -- ---- the form at an entry
 
@@ -152,3 +152,24 @@ transition_form n = refl
 pub action_form : (n : ℕ) → form_at 39 ≡ form a_record n
 unfolding form_at forms entries_of
 action_form n = refl
+
+-- ---- the code of no field
+pub field_none : (x : ℕ) → (x ≡ 110 → ⊥) → (x ≡ 35 → ⊥) → (x ≡ 45 → ⊥) → (x ≡ 115 → ⊥) → (x ≡ 104 → ⊥) → (x ≡ 95 → ⊥) → (x ≡ 99 → ⊥)
+    → (x ≡ 111 → ⊥) → (x ≡ 98 → ⊥) → (x ≡ 61 → ⊥) → (x ≡ 119 → ⊥) → (x ≡ 113 → ⊥) → (x ≡ 107 → ⊥) → field_by x ≡ letter []
+unfolding field_by
+field_none x n g d s h p c o b e w q k =
+    rw (
+      ne_eqb x 110 n,
+      ne_eqb x 35 g,
+      ne_eqb x 45 d,
+      ne_eqb x 115 s,
+      ne_eqb x 104 h,
+      ne_eqb x 95 p,
+      ne_eqb x 99 c,
+      ne_eqb x 111 o,
+      ne_eqb x 98 b,
+      ne_eqb x 61 e,
+      ne_eqb x 119 w,
+      ne_eqb x 113 q,
+      ne_eqb x 107 k,
+    )

@@ -1,5 +1,6 @@
 -- The table of the grammar's forms, and the form that stands at each entry. Assumes nothing.
-use Rattle.std.specs.Prelude.{ℕ, List, [], ◌∷◌, get_or}
+use Rattle.std.specs.Prelude.{ℕ, cond, List, [], ◌∷◌, eqb, get_or, Option, None, Some}
+use Prim.Native.Char.{code}
 use Rattle.sizes.specs.Sizes.{EVENTS}
 use Rattle.meaning.specs.Grammar.{Field, turn, number, count, letter, dash, target_state, target_history, target_none, Form, last, ◌tab◌}
 use Rattle.meaning.specs.Grammar.{◌or◌, bytes}
@@ -33,6 +34,27 @@ field_of (Letter l) = letter (letters_of l)
 field_of TargetState = target_state
 field_of TargetHistory = target_history
 field_of InPlace = target_none
+
+-- the field of a code
+abbrev pub codes : List (ℕ × Field)
+codes =
+    (code "n", turn) ∷ (code "#", number) ∷ (code "-", dash)
+    ∷ (code "s", target_state) ∷ (code "h", target_history) ∷ (code "_", target_none) ∷ (code "c", count 0 EVENTS)
+    ∷ (code "o", letter (bytes "o")) ∷ (code "b", letter (bytes "ab")) ∷ (code "=", letter (bytes "=<>"))
+    ∷ (code "w", letter (bytes "exdt"))
+    ∷ (code "q", letter (bytes "saq")) ∷ (code "k", letter (bytes "ko")) ∷ []
+
+abbrev pub field_in : List (ℕ × Field) → ℕ → Field
+field_in [] k = letter []
+field_in (c ∷ cs) k = cond (eqb k c.0) c.1 (field_in cs k)
+
+unfoldable pub field_by : ℕ → Field
+field_by k = field_in codes k
+
+-- a field that a code names, if it names one; else a letter of none
+abbrev pub coded : Option Cell → Field
+coded None = letter []
+coded (Some f) = field_of f
 
 unfoldable pub entries_of : List Entry
 entries_of = TABLE

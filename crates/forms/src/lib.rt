@@ -4,7 +4,7 @@
 ghost use Rattle.std.specs.Prelude.{◌≡◌, ◌<◌, ◌≤◌, get_or};
 ghost use Rattle.meaning.specs.Grammar.{width, form};
 ghost use Rattle.chart_rows.specs.Kinds.{as_record};
-ghost use Rattle.forms.specs.Table.{ENTRIES as entries, letters_of, field_of, entries_of, no_entry, form_at};
+ghost use Rattle.forms.specs.Table.{ENTRIES as entries, letters_of, field_of, field_by, coded, entries_of, no_entry, form_at};
 
 use Entry::{Last, More, Or};
 use Field::{Dash, EventCount, InPlace, Letter, Number, TargetHistory, TargetState, Turn};
@@ -51,6 +51,28 @@ pub enum Field {
 }
 
 impl Field {
+    // The field of a code, as the table had it in bytes.
+    pub fn of(code: u8) -> Option<Field>
+        ensures { coded result ≡ field_by code }
+    {
+        match code {
+            b'n' => Some(Turn),
+            b'#' => Some(Number),
+            b'-' => Some(Dash),
+            b's' => Some(TargetState),
+            b'h' => Some(TargetHistory),
+            b'_' => Some(InPlace),
+            b'c' => Some(EventCount),
+            b'o' => Some(Letter(O)),
+            b'b' => Some(Letter(AOrB)),
+            b'=' => Some(Letter(Sign)),
+            b'w' => Some(Letter(Owner)),
+            b'q' => Some(Letter(Saq)),
+            b'k' => Some(Letter(Ko)),
+            _ => None,
+        }
+    }
+
     // How many numbers of its row it takes.
     pub fn width(self) -> usize
         ensures { (result ≡ width (field_of self)) × (result ≤ 2) }
@@ -76,17 +98,17 @@ pub enum Entry {
 pub const ENTRIES: usize = 48;
 
 // Where the form of each record begins: of state 0 and of the others, V, E, T and A.
-const ROOT: usize = 0;
+pub const ROOT: usize = 0;
 
-const OTHER_STATE: usize = 7;
+pub const OTHER_STATE: usize = 7;
 
-const VARIABLE: usize = 14;
+pub const VARIABLE: usize = 14;
 
-const EVENTS: usize = 18;
+pub const EVENTS: usize = 18;
 
-const TRANSITION: usize = 19;
+pub const TRANSITION: usize = 19;
 
-const ACTION: usize = 39;
+pub const ACTION: usize = 39;
 
 static TABLE: [Entry; ENTRIES] = [
     // S of state 0

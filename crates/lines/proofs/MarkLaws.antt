@@ -8,6 +8,28 @@ use Rattle.meaning.specs.Line.{worse, room, faulty}
 use Rattle.meaning.specs.declared.Fault.{Fault}
 use Rattle.meaning.specs.declared.Fault.TheVariants.{Wrong, Beyond}
 
+-- 0 only for both; and 1 is one of the two
+module _ (a b : ℕ) where
+  pub worse_zero : worse a b ≡ 0 → b ≡ 0
+  unfolding worse
+  worse_zero e = go (eqb a 1) (eqb b 1) (eqb a 2) e
+    where
+      go : (p q r : Bool) → ◌≡◌ {A = ℕ} (cond p 1 (cond q 1 (cond r 2 b))) 0 → b ≡ 0
+      go true q r e = absurd (omega arith)
+      go false true r e = absurd (omega arith)
+      go false false true e = absurd (omega arith)
+      go false false false e = e
+
+  pub worse_one : (a ≡ 1 → ⊥) → worse a b ≡ 1 → b ≡ 1
+  unfolding worse
+  worse_one h e = go (eqb a 1) (eqb b 1) (eqb a 2) refl refl e
+    where
+      go : (p q r : Bool) → eqb a 1 ≡ p → eqb b 1 ≡ q → ◌≡◌ {A = ℕ} (cond p 1 (cond q 1 (cond r 2 b))) 1 → b ≡ 1
+      go true q r f g e = absurd (h (eqb-true a 1 f))
+      go false true r f g e = eqb-true b 1 g
+      go false false true f g e = absurd (omega arith)
+      go false false false f g e = e
+
 -- a wrong form behind anything is 1
 pub worse_last : (a b : ℕ) → b ≡ 1 → worse a b ≡ 1
 unfolding worse

@@ -3,6 +3,7 @@ pub mod LayLaws
 pub mod RowLaws
 pub mod HeldLaws
 pub mod ScanLaws
+pub mod HeardLaws
 pub mod Again
 pub mod ReadLaws
 pub mod RuledLaws

@@ -2,7 +2,7 @@
 -- says, any other is wrong; what is counted after it. Assumes nothing.
 use mathlib.Core.Path.{◌≡◌, refl, sym, ◌∙◌}
 use mathlib.Core.Bool.{Bool, true, false, true≢false, ◌&&◌}
-use mathlib.Core.List.{List, []}
+use mathlib.Core.List.{List, [], ◌∷◌}
 use Prim.Native.Nat.{ℕ, ◌+◌, ◌*◌, ◌≤◌, ◌<◌}
 use native.Mathlib.Omega.{arith}
 use native.Mathlib.Nat.{mul-le-mul_right}
@@ -16,10 +16,12 @@ use Rattle.numbers.specs.Reference.{NOWHERE}
 use Rattle.numbers.proofs.Laws.{back32}
 use borrow.Author.Tests.{eqb-true, eq-eqb, ne_eqb}
 use Rattle.laws.proofs.Lists.{and_left, and_right, and_both}
-use Rattle.meaning.specs.Lists.{every, exists}
+use Rattle.meaning.specs.Lists.{every, exists, has}
 use Rattle.meaning.specs.Value.{counted, place, VALUE}
 use Rattle.meaning.specs.Grammar.{Record, s_record, v_record, e_record, t_record, a_record, no_record, form, most, row_size}
-use Rattle.meaning.specs.Line.{line, beside, room, rest_of, read_by, in_order, line_by, line_of}
+use Rattle.meaning.specs.Grammar.{last, letter}
+use Rattle.meaning.specs.Line.{line, beside, room, rest_of, read_field, read_by, in_order, line_by, line_in_order, line_of}
+use Rattle.lines.proofs.MarkLaws.{worse_last}
 use Rattle.forms.specs.Table.{form_at}
 use Rattle.lines.specs.Took.{Took}
 use Rattle.reader.specs.Order.{turn_of, place_of, Within, with_counts}
@@ -118,6 +120,25 @@ module _ (q : Record) (t : Turns) (fs : List (List ℕ)) (xs : List ℤ) where
       → Took (line_of q (turn_of t) fs) (place_of q t) xs m ys
   unfolding line_of line_by place_of
   read_in_place i n m k ys h e d f w = rw (h, ← e) (rw (f, d.most, d.place, d.size) at w)
+
+-- ---- a line whose letter names no kind
+
+pub no_line : (turns : Record → ℕ) (fs : List (List ℕ)) → (line_of no_record turns fs).mark ≡ 1
+unfolding line_of line_by read_by read_field has
+no_line turns fs = go (in_order turns no_record) (turns no_record) (rest_of fs)
+  where
+    form_none : (n : ℕ) (gs : List (List ℕ)) → (read_by (last (letter [])) n gs).mark ≡ 1
+    form_none n [] = refl
+    form_none n (f ∷ []) = refl
+    form_none n (f ∷ g ∷ gs) = refl
+
+    go : (b : Bool) (n : ℕ) (gs : List (List ℕ)) → (line_in_order b no_record n fs).mark ≡ 1
+    go true n gs = worse_last (room n 0) (read_by (last (letter [])) n (rest_of fs)).mark (form_none n (rest_of fs))
+    go false n gs = refl
+
+pub line_unnamed : (q : Record) (t : Turns) (fs : List (List ℕ)) (xs : List ℤ) → no_record ≡ q
+    → Took (line_of q (turn_of t) fs) (place_of q t) xs 1 xs
+line_unnamed q t fs xs e = rw (← e) (record { mark = sym (no_line (turn_of t) fs); row = λ z. absurd (omega arith); size = refl })
 
 -- ---- counted
 

@@ -11,18 +11,16 @@ use lib.Seq.{drop-cons, drop-drop, sets}
 use borrow.Author.Tests.{le-leb, lt-leb}
 use Rattle.meaning.specs.Value.{Rows, laid, place, VALUE}
 use Rattle.meaning.specs.Split.{fields, lines}
-use Rattle.meaning.specs.Grammar.{Record, e_record, no_record, row_size, last, letter}
-use Rattle.meaning.specs.Line.{Line, line_of, line_by, line_in_order, in_order, read_by, read_field, rest_of, room, faulty}
+use Rattle.meaning.specs.Grammar.{Record, e_record, no_record, row_size}
+use Rattle.meaning.specs.Line.{Line, line_of, faulty}
 use Rattle.meaning.specs.Text.{Result, done, refused, answer, answer_of, turns_of, no_rows, with_row, further, line_taken}
 use Rattle.meaning.specs.Text.{record_of, walk, value_of}
 use Rattle.meaning.specs.declared.Answer.{Answer}
 use Rattle.fields.specs.Parts.{Stop}
 use Rattle.fields.proofs.SplitLaws.{stop_is}
-use Rattle.lines.proofs.MarkLaws.{worse_last}
 use Rattle.std.proofs.Common.{Option, None, Some, ControlFlow, Break}
 use Rattle.std.specs.Prelude.{position}
 use Rattle.std.proofs.lemmas.List.{take_all}
-use Rattle.meaning.specs.Lists.{has}
 use Rattle.meaning.specs.declared.Fault.{Fault}
 use Rattle.meaning.specs.declared.Fault.TheVariants.{Wrong, Beyond}
 use Rattle.lines.specs.Took.{Took}
@@ -32,6 +30,7 @@ use Rattle.reader.specs.Scanned.{zeros, Scanned}
 use Rattle.reader.specs.Onward.{laid_out, Walking, Onward, no_turns}
 use Rattle.reader.specs.declared.order.Turns.{Turns}
 use Rattle.reader.specs.declared.scan.Progress.{Progress}
+use Rattle.reader.proofs.OrderLaws.{no_line}
 use Rattle.reader.proofs.LayLaws.{laid_none, length_zeros, next_numbers, counted_numbers}
 use Rattle.reader.proofs.RowLaws.{row_fits}
 use Rattle.reader.proofs.HeldLaws.{counts_are, next_turns, next_fit, fit_start, within_fit}
@@ -71,23 +70,10 @@ stop_left s at r e =
 pub line_inside : (s : List ℕ) (at k : ℕ) → Stop 10 (drop at s) (Some k) → at + k < length s
 line_inside s at k q = omega (arith, q.inside, length-drop at s)
 
--- ---- a line that names no kind, or is wrong
+-- ---- a line that is wrong
 never : {A : Type 0} (g : Fault) → (faulty g).mark ≡ 0 → A
 never Wrong e = absurd (omega arith)
 never Beyond e = absurd (omega arith)
-
-no_line : (turns : Record → ℕ) (fs : List (List ℕ)) → (line_of no_record turns fs).mark ≡ 1
-unfolding line_of line_by read_by read_field has
-no_line turns fs = go (in_order turns no_record) (turns no_record) (rest_of fs)
-  where
-    form_none : (n : ℕ) (gs : List (List ℕ)) → (read_by (last (letter [])) n gs).mark ≡ 1
-    form_none n [] = refl
-    form_none n (f ∷ []) = refl
-    form_none n (f ∷ g ∷ gs) = refl
-
-    go : (b : Bool) (n : ℕ) (gs : List (List ℕ)) → (line_in_order b no_record n fs).mark ≡ 1
-    go true n gs = worse_last (room n 0) (read_by (last (letter [])) n (rest_of fs)).mark (form_none n (rest_of fs))
-    go false n gs = refl
 
 -- ---- what the loop keeps
 pub walking_start : (s : List ℕ) (n0 : ℕ) (l : List ℤ) → l ≡ zeros n0 → Walking s n0 l 0 1 no_turns

@@ -9,8 +9,10 @@ pub mod scan;
 ghost use Rattle.std.specs.Prelude.{◌≡◌, length};
 ghost use Rattle.meaning.specs.Split.{lines};
 ghost use Rattle.meaning.specs.Text.{walk as walk_of, no_rows};
+ghost use Rattle.reader.specs.Heard.{Heard};
 ghost use Rattle.reader.specs.Scanned.{zeros, Scanned};
 
+use fields::{LF, stop};
 use meaning::Answer;
 use scan::{begin, line_at};
 use std::ops::ControlFlow;
@@ -19,6 +21,18 @@ use std::ops::ControlFlow;
 pub struct Reader<'a> {
     pub text: &'a [u8],
     pub at: usize,
+}
+
+// Where the line ends that starts at a position, if what is left has an LF.
+#[tactic(auto, using(crate::proofs::HeardLaws::heard_none))]
+pub fn next_line(s: &[u8], at: usize) -> Option<usize>
+    ensures { Heard s.now at result }
+{
+    if s.len() < at {
+        return None;
+    }
+    let k = stop(&s[at..], LF)?;
+    Some(at + k)
 }
 
 // At the start of the text.

@@ -3,6 +3,7 @@
 ghost use Rattle.std.specs.Prelude.{◌≡◌, ◌<◌, set, pos};
 ghost use Rattle.numbers.specs.Reference.{NOWHERE};
 ghost use Rattle.meaning.specs.Split.{fields};
+ghost use Rattle.meaning.specs.Grammar.{record_by};
 ghost use Rattle.meaning.specs.Line.{line_of, in_order, mark_of};
 ghost use Rattle.chart_rows.specs.Kinds.{as_record};
 ghost use Rattle.lines.specs.Took.{Took};
@@ -70,7 +71,7 @@ fn placed(kind: Record, t: Turns) -> bool
 }
 
 // A line whose first field names a kind.
-pub fn line(s: &[u8], kind: Record, t: Turns, chart: &mut [i32]) -> Result<(), Fault>
+pub fn line_of_kind(s: &[u8], kind: Record, t: Turns, chart: &mut [i32]) -> Result<(), Fault>
     requires { Within t }
     ensures { Took (line_of (as_record kind) (turn_of t) (fields s.now)) (place_of (as_record kind) t)
         chart.old (mark_of result) chart.new }
@@ -82,6 +83,29 @@ pub fn line(s: &[u8], kind: Record, t: Turns, chart: &mut [i32]) -> Result<(), F
     let area = kind.area();
     let at = area.place + n * area.size;
     lines::line(s, begins(kind, n), n, area.most, chart, at)
+}
+
+// A line whose first field is a letter; one that names no kind is wrong.
+pub fn line(s: &[u8], letter: u8, t: Turns, chart: &mut [i32]) -> Result<(), Fault>
+    requires { Within t }
+    ensures { Took (line_of (record_by letter) (turn_of t) (fields s.now)) (place_of (record_by letter) t)
+        chart.old (mark_of result) chart.new }
+{
+    let Some(kind) = Record::of(letter) else {
+        return Err(Fault::Wrong);
+    };
+    line_of_kind(s, kind, t, chart)
+}
+
+// What was read with a line of the letter.
+pub fn counted(letter: u8, t: Turns) -> Turns
+    requires { Within t }
+    ensures { result ≡ turns_after (record_by letter) t }
+{
+    match Record::of(letter) {
+        Some(kind) => t.more(kind),
+        None => t,
+    }
 }
 
 // One count, at its place.

@@ -5,9 +5,9 @@ ghost use Rattle.std.specs.declared.ops.ControlFlow.TheVariants.{Break};
 ghost use Rattle.meaning.specs.Line.{faulty as fault_of};
 ghost use Rattle.reader.specs.Onward.{Walking, Onward, begun};
 
-use crate::order::{Turns, line, put_counts};
-use chart_rows::kinds::Record;
-use fields::{LF, letter_at, stop};
+use crate::next_line;
+use crate::order::{Turns, counted, line, put_counts};
+use fields::letter_at;
 use meaning::answers::{OUTSIDE_SIZE, WRONG_LINE};
 use meaning::{Answer, Fault};
 use std::ops::ControlFlow;
@@ -66,23 +66,21 @@ pub fn line_at(
 {
     let n = p.line;
     let turns = p.turns;
-    let Some(k) = stop(&text[at..], LF) else {
+    let Some(e) = next_line(text, at) else {
         if at < text.len() || turns.events < 1 {
             return over(WRONG_LINE, n);
         }
         put_counts(chart, turns);
         return over(0, 0);
     };
-    let s = &text[at..at + k];
-    let Some(kind) = Record::of(letter_at(s, 0)) else {
-        return over(WRONG_LINE, n);
-    };
-    match line(s, kind, turns, chart) {
+    let s = &text[at..e];
+    let letter = letter_at(s, 0);
+    match line(s, letter, turns, chart) {
         Err(fault) => faulty(fault, n),
         Ok(()) => ControlFlow::Continue(Progress {
-            at: at + k + 1,
+            at: e + 1,
             line: n + 1,
-            turns: turns.more(kind),
+            turns: counted(letter, turns),
         }),
     }
 }

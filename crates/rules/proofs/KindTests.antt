@@ -7,7 +7,8 @@ use native.Mathlib.Omega.{arith}
 use lib.IntN.{ℤ}
 use lib.ListN.{length, get_or, drop}
 use Rattle.sizes.specs.Sizes.{EVENTS}
-use Rattle.meaning.specs.Grammar.{Record, s_record, v_record, e_record, t_record, a_record, no_record, ORDER, row_size}
+use Rattle.numbers.specs.Reference.{NOWHERE}
+use Rattle.meaning.specs.Grammar.{Record, s_record, v_record, e_record, t_record, a_record, no_record, ORDER, most, row_size}
 use Rattle.meaning.specs.Lists.{every, every_from}
 use Rattle.meaning.specs.Value.{counted, laid, PARTS, place, num, how_many, rows_of, count_fits, statable, part_fits}
 use Rattle.chart_rows.proofs.Rows.{length_chunks, num_first}
@@ -43,6 +44,16 @@ module _ (v : List ℤ) (r : Record) (n i : ℕ) (e : n ≡ how_many v r) where
     pub row_goes : {b : Bool} → not t ≡ false → every_from (statable r) i (drop i (rows_of v r)) ≡ b
         → every_from (statable r) (i + 1) (drop (i + 1) (rows_of v r)) ≡ b
     row_goes z g = placed_next (statable r) (rows_of v r) [] i (rw long h) (held here z) g
+
+-- ---- the count of a kind
+
+pub few : (r : Record) → most r < NOWHERE
+few s_record = omega arith
+few v_record = omega arith
+few e_record = omega arith
+few t_record = omega arith
+few a_record = omega arith
+few no_record = omega arith
 
 -- ---- the loop over the kinds
 

@@ -1,24 +1,6 @@
--- `reader::order::line`: a line in its place is read as its kind says, any other is wrong. Assumes nothing.
-use mathlib.Core.Path.{sym, ◌∙◌}
-use native.Mathlib.Omega.{arith}
-use Rattle.reader.proofs.OrderLaws.{misplaced, read_in_place, place_within}
+-- `reader::order::line`: a line is read as the kind that its letter names, and is wrong where it names none. Assumes nothing.
+use Rattle.reader.proofs.OrderLaws.{line_unnamed}
 use Rattle.reader.proofs.order.line.Goals as goal
 
-pub overflow_mul-at : goal.overflow_mul-at
-overflow_mul-at c =
-    let w = place_within _ _ _ _ c.requires c.of-n.ensures c.area-area.ensures in let h = w.1 in record { fits = omega arith }
-
-pub overflow_add-at : goal.overflow_add-at
-overflow_add-at c =
-    let w = place_within _ _ _ _ c.requires c.of-n.ensures c.area-area.ensures in let h = w.2 in record { fits = omega arith }
-
-pub line-requires : goal.line-requires
-line-requires c = let w = place_within _ _ _ _ c.requires c.of-n.ensures c.area-area.ensures in let h = w.2 in omega arith
-
-pub returns-then-not-placed : goal.returns-then-not-placed
-returns-then-not-placed c = misplaced _ _ _ _ (sym c.placed.ensures ∙ c.if-not-placed.true)
-
-pub returns : goal.returns
-returns c =
-    read_in_place _ _ _ _ _ _ _ _ _ (sym c.placed.ensures ∙ c.if-not-placed.false) c.of-n.ensures
-    c.area-area.ensures c.begins.ensures.0 c.line.ensures
+pub returns-in_default : goal.returns-in_default
+returns-in_default c = line_unnamed _ _ _ _ c.in_default.ensures
