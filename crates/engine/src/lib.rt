@@ -7,6 +7,7 @@
 
 pub use chart_engine::{check, checked, discard, post, read, run, start, unstarted, write};
 pub use chart_rows::layout::VALUE;
+pub use meaning::answers::Refusal;
 pub use meaning::plan::Compiled;
 pub use meaning::{Answer, Called, State, Written};
 pub use plan_engine::{examined, planned, plans};

@@ -36,5 +36,7 @@ pub fn done(state: State) -> Called
 pub fn with_queue(state: State, queue: Queue) -> State
     ensures { result ≡ set_queue queue state }
 {
-    State { queue, ..state }
+    let mut after = state;
+    after.queue = queue;
+    after
 }

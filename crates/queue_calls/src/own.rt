@@ -231,12 +231,15 @@ fn slots_fit(chart: &[i32], slots: &[i32; STATES]) -> bool
     fit_below(chart, slots, STATES)
 }
 
-// Whether a started state is the chart's own; else answer 6.
+// Whether a started state is the chart's own; else answer 6. The two arrays that are lent are copied first: a field of the state lent
+// where it stands has the whole state copied for it.
 pub fn own(chart: &[i32], state: State) -> bool
     ensures { result ≡ owns (chart_of chart.now) state }
 {
-    legal(chart, &state.active)
-        && (marks_fit(state_count(chart), state.active)
+    let active = state.active;
+    let slots = state.slots;
+    legal(chart, &active)
+        && (marks_fit(state_count(chart), active)
             && (values_fit(chart, state.vars)
-                && (slots_fit(chart, &state.slots) && queue_fits(event_count(chart), state.queue))))
+                && (slots_fit(chart, &slots) && queue_fits(event_count(chart), state.queue))))
 }

@@ -9,9 +9,19 @@ use lib.IntN.{ℤ}
 use Rattle.meaning.specs.Steps.{◌then◌, each}
 use Rattle.meaning.specs.Chart.{Chart}
 use Rattle.meaning.specs.Reaction.{fire}
+use Rattle.meaning.specs.Rules.{Ruled}
+use Rattle.meaning.specs.Tree.{trans_row}
+use Rattle.meaning.specs.Value.{chart_of}
+use Rattle.meaning.specs.declared.chart.Target.{Target}
+use Rattle.meaning.specs.declared.chart.Target.TheVariants.{To as to, History as history, InPlace as in_place}
+use Rattle.laws.specs.Facts.{TargetFacts}
 use Rattle.laws.proofs.Lists.{each_at}
+use Rattle.laws.proofs.Scope.{scope_facts}
 use Rattle.laws.proofs.Sound.{SoundChart}
-use Rattle.tree.specs.Aims.{Found}
+use Rattle.sizes.specs.Sizes.{STATES}
+use Rattle.tree.specs.Aims.{aim_by, top_of, Found}
+use Rattle.tree.proofs.On.{end_within}
+use Rattle.tree.proofs.Passing.{sound}
 use Rattle.meaning.specs.declared.State.{State}
 use Rattle.meaning.specs.declared.answers.Refusal.{Refusal}
 use Rattle.widget.specs.View.{ctx, Did, Owes}
@@ -24,7 +34,7 @@ use lib.Seq.{get_or-take}
 use Rattle.std.proofs.lemmas.List.{length-take}
 use Rattle.reaction.specs.Ready.{Ready, Fires}
 use Rattle.laws.proofs.Value.{SizedChart}
-use Rattle.reaction.proofs.Going.{ready_next}
+use Rattle.reaction.proofs.Going.{sized, ready_next}
 
 -- how many fire, and which is the j-th
 module _ (c : Chart) (count : ℕ) (picks : List Pick) (f : Fires c count picks) where
@@ -44,6 +54,23 @@ module _ (c : Chart) (count : ℕ) (picks : List Pick) (f : Fires c count picks)
     fires_carried p q =
         let k : j < count = omega (arith, length-take count picks) in
         rw (e, p, q) (subst (λ x. Found c x.transition x.top x.end) (sym (get_or-take count picks j free k)) (f.carried j k))
+
+-- what is carried beside a transition names states of the chart
+top_inside : (c : Chart) → SoundChart c → (s : ℕ) → s < length c.states → (g : Target) → TargetFacts c s g
+    → top_of c s (aim_by g) < length c.states
+top_inside c h s l (to d) f = (scope_facts c h s d f.2 f.1).inside
+top_inside c h s l (history b) f = (scope_facts c h s b f.3 f.1).inside
+top_inside c h s l in_place f = l
+
+pub carried_inside : (v : List ℤ) → Ruled v → (t : ℕ) → t < length (chart_of v).transitions → {top end : ℕ} → Found (chart_of v) t top end
+    → (top < STATES) × (end ≤ STATES)
+carried_inside v r t l {top} h =
+    let f = (sound v r).transitions t l in
+    let row = trans_row (chart_of v) t in
+    let i : top < length (chart_of v).states =
+    omega (arith, h.is, top_inside (chart_of v) (sound v r) row.source f.source row.target f.target) in
+    let m = (sized v r).states in
+    (omega arith, omega (arith, h.ends, end_within (chart_of v) (sound v r).ordered top i))
 
 pub record Firing (c : Chart) (arg : ℤ) (ps : List ℕ) (u : State) (t : List ℤ) (at j : ℕ) (u₁ : State) (t₁ : List ℤ) (at₁ : ℕ)
     : Type 0 where
