@@ -80,7 +80,7 @@ returns-in_err-mark_left-in-Out c =
     let n = (goal.at.returns-in_err-mark_left-in-Out c).After-named in
     let r = c.read in
     let q : c.from_residual-in_err-mark_left-in-Out.result ≡ Err c.in_err-mark_left-in-Out.field-0.0 = search rules in
-    leaves q 
+    leaves q
     (is_out (its-row n) c.known-in-Out.ensures (says n c.in-Out.ensures)
     (said_of place_of r.type_inv r.ensures c.place_of-p.ensures)) c.in_err-mark_left-in-Out.ensures
 
@@ -88,7 +88,7 @@ pub returns-in_ok-mark_left-in-Out : goal.returns-in_ok-mark_left-in-Out
 returns-in_ok-mark_left-in-Out c =
     let n = (goal.at.returns-in_ok-mark_left-in-Out c).After-named in
     let r = c.read in
-    leaves (ap Ok c.onward-in-Out.ensures) 
+    leaves (ap Ok c.onward-in-Out.ensures)
     (is_out (its-row n) c.known-in-Out.ensures (says n c.in-Out.ensures)
     (said_of place_of r.type_inv r.ensures c.place_of-p.ensures)) c.in_ok-mark_left-in-Out.ensures
 
