@@ -19,7 +19,8 @@ use meaning::answers::Refusal;
 use meaning::chart::{Act, VarRow};
 use meaning::{Entry, State};
 use numbers::{add_held, hold, number};
-use sizes::ENTRY;
+use queue::Item;
+use sizes::{ENTRY, QUEUE};
 
 // 01, "Trace": an entry's three numbers; "an unused third is 0".
 fn numbers_of(entry: Entry) -> [i32; ENTRY]
@@ -99,7 +100,7 @@ pub fn store(
     Ok(next)
 }
 
-// 01, "Trace": 5, event sent and its argument; at a send 11 before 9.
+// 01, "Trace": 5, event sent and its argument; at a send 11 before 9. Appended where the queue stands, which is not copied for it.
 pub fn send(
     e: usize,
     x: i32,
@@ -111,10 +112,15 @@ pub fn send(
     ensures { Did (sending e x) widget.old trace.old at result widget.new trace.new }
 {
     let next = write(Entry::Sent(e, x), trace, at)?;
-    let Ok(queue) = widget.queue.append(number(e), x) else {
+    let last = widget.queue.len;
+    if QUEUE <= last {
         return Err(Refusal::QueueFull);
+    }
+    widget.queue.items[last] = Item {
+        event: number(e),
+        arg: x,
     };
-    widget.queue = queue;
+    widget.queue.len = last + 1;
     Ok(next)
 }
 
