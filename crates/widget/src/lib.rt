@@ -19,7 +19,8 @@ use meaning::answers::Refusal;
 use meaning::chart::{Act, VarRow};
 use meaning::{Entry, State};
 use numbers::{add_held, hold, number};
-use sizes::ENTRY;
+use queue::Item;
+use sizes::{ENTRY, QUEUE};
 
 // 01, "Trace": an entry's three numbers; "an unused third is 0".
 fn numbers_of(entry: Entry) -> [i32; ENTRY]
@@ -36,19 +37,27 @@ fn numbers_of(entry: Entry) -> [i32; ENTRY]
     }
 }
 
-// 01, "Trace": three numbers an entry; 11, no room for the next trace entry.
-pub fn emit(entry: Entry, trace: &mut [i32], at: usize) -> Result<usize, Refusal>
-    requires { Small entry × (at ≤ length trace.old) }
-    ensures { Noted (numbers entry) trace.old at result trace.new }
+// 01, "Trace": three numbers an entry, whatever they are; 11, no room for the next trace entry.
+pub fn emit(three: [i32; ENTRY], trace: &mut [i32], at: usize) -> Result<usize, Refusal>
+    requires { at ≤ length trace.old }
+    ensures { Noted three trace.old at result trace.new }
 {
     if trace.len() - at < ENTRY {
         return Err(Refusal::NoRoom);
     }
-    let [what, first, second] = numbers_of(entry);
+    let [what, first, second] = three;
     trace[at] = what;
     trace[at + 1] = first;
     trace[at + 2] = second;
     Ok(at + ENTRY)
+}
+
+// The numbers of an entry into the trace.
+fn write(entry: Entry, trace: &mut [i32], at: usize) -> Result<usize, Refusal>
+    requires { Small entry × (at ≤ length trace.old) }
+    ensures { Noted (numbers entry) trace.old at result trace.new }
+{
+    emit(numbers_of(entry), trace, at)
 }
 
 // 01, "Trace": the lent slice past the last entry is 0.
@@ -64,7 +73,7 @@ pub fn mark_taken(t: usize, trace: &mut [i32], at: usize) -> Result<usize, Refus
     requires { (t < NOWHERE) × (at ≤ length trace.old) }
     ensures { (u : Widget) → Did (emits (taken t)) u trace.old at result u trace.new }
 {
-    emit(Entry::Taken(t), trace, at)
+    write(Entry::Taken(t), trace, at)
 }
 
 // 01, "Trace": 6, number told.
@@ -72,7 +81,7 @@ pub fn tell(x: i32, trace: &mut [i32], at: usize) -> Result<usize, Refusal>
     requires { at ≤ length trace.old }
     ensures { (u : Widget) → Did (emits (told x)) u trace.old at result u trace.new }
 {
-    emit(Entry::Told(x), trace, at)
+    write(Entry::Told(x), trace, at)
 }
 
 // 01, "Trace": 4, variable and its new value, written before the effect goes on.
@@ -86,12 +95,12 @@ pub fn store(
     requires { (v < variables) × (at ≤ length trace.old) }
     ensures { Did (stored v value) widget.old trace.old at result widget.new trace.new }
 {
-    let next = emit(Entry::Changed(v, value), trace, at)?;
+    let next = write(Entry::Changed(v, value), trace, at)?;
     widget.vars[v] = value;
     Ok(next)
 }
 
-// 01, "Trace": 5, event sent and its argument; at a send 11 before 9.
+// 01, "Trace": 5, event sent and its argument; at a send 11 before 9. Appended where the queue stands, which is not copied for it.
 pub fn send(
     e: usize,
     x: i32,
@@ -102,11 +111,16 @@ pub fn send(
     requires { (e < NOWHERE) × (at ≤ length trace.old) }
     ensures { Did (sending e x) widget.old trace.old at result widget.new trace.new }
 {
-    let next = emit(Entry::Sent(e, x), trace, at)?;
-    let Ok(queue) = widget.queue.append(number(e), x) else {
+    let next = write(Entry::Sent(e, x), trace, at)?;
+    let last = widget.queue.len;
+    if QUEUE <= last {
         return Err(Refusal::QueueFull);
+    }
+    widget.queue.items[last] = Item {
+        event: number(e),
+        arg: x,
     };
-    widget.queue = queue;
+    widget.queue.len = last + 1;
     Ok(next)
 }
 
@@ -174,7 +188,7 @@ pub fn mark_left(
     requires { Below states p × (s < states) × (at ≤ length trace.old) }
     ensures { Did (mark_left p s) widget.old trace.old at result widget.new trace.new }
 {
-    let next = emit(Entry::Left(s), trace, at)?;
+    let next = write(Entry::Left(s), trace, at)?;
     widget.active[s] = false;
     if let Some(parent) = p {
         widget.slots[parent] = number(s);
@@ -192,7 +206,7 @@ pub fn mark_entered(
     requires { (s < states) × (at ≤ length trace.old) }
     ensures { Did (mark_entered s) widget.old trace.old at result widget.new trace.new }
 {
-    let next = emit(Entry::Entered(s), trace, at)?;
+    let next = write(Entry::Entered(s), trace, at)?;
     widget.active[s] = true;
     Ok(next)
 }

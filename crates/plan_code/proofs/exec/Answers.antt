@@ -1,8 +1,9 @@
 -- `exec` goes by the code of an instruction. Assumes nothing.
-use mathlib.Core.Path.{◌≡◌, refl, sym, ◌∙◌, subst}
+use mathlib.Core.Path.{◌≡◌, refl, sym, ap, ◌∙◌, subst}
 use Prim.Native.Nat.{ℕ, ◌+◌, ◌<◌}
 use native.Mathlib.Omega.{arith}
 use borrow.Author.Rules.{rules}
+use Rattle.std.specs.Prelude.{Ok, Err}
 use mir.Syntax.{w32}
 use mir.Val.{SFits}
 use lib.IntN.{pos}
@@ -63,18 +64,33 @@ mark_left-requires c =
       c.requires.1,
     )
 
-pub returns-in-In : goal.returns-in-In
-returns-in-In c =
-    let n = (goal.at.returns-in-In c).After-named in
-    enters c.onward.ensures (is_in (its-row n) c.known.ensures (says n c.in-In.ensures)) c.mark_entered.ensures
+pub returns-in_err-mark_entered-in-In : goal.returns-in_err-mark_entered-in-In
+returns-in_err-mark_entered-in-In c =
+    let n = (goal.at.returns-in_err-mark_entered-in-In c).After-named in
+    let q : c.from_residual.result ≡ Err c.in_err-mark_entered-in-In.field-0.0 = search rules in
+    enters q (is_in (its-row n) c.known.ensures (says n c.in-In.ensures)) c.in_err-mark_entered-in-In.ensures
 
-pub returns-in-Out : goal.returns-in-Out
-returns-in-Out c =
-    let n = (goal.at.returns-in-Out c).After-named in
+pub returns-in_ok-mark_entered-in-In : goal.returns-in_ok-mark_entered-in-In
+returns-in_ok-mark_entered-in-In c =
+    let n = (goal.at.returns-in_ok-mark_entered-in-In c).After-named in
+    enters (ap Ok c.onward.ensures) (is_in (its-row n) c.known.ensures (says n c.in-In.ensures)) c.in_ok-mark_entered-in-In.ensures
+
+pub returns-in_err-mark_left-in-Out : goal.returns-in_err-mark_left-in-Out
+returns-in_err-mark_left-in-Out c =
+    let n = (goal.at.returns-in_err-mark_left-in-Out c).After-named in
     let r = c.read in
-    leaves c.onward-in-Out.ensures
+    let q : c.from_residual-in_err-mark_left-in-Out.result ≡ Err c.in_err-mark_left-in-Out.field-0.0 = search rules in
+    leaves q
     (is_out (its-row n) c.known-in-Out.ensures (says n c.in-Out.ensures)
-    (said_of place_of r.type_inv r.ensures c.place_of-p.ensures)) c.mark_left.ensures
+    (said_of place_of r.type_inv r.ensures c.place_of-p.ensures)) c.in_err-mark_left-in-Out.ensures
+
+pub returns-in_ok-mark_left-in-Out : goal.returns-in_ok-mark_left-in-Out
+returns-in_ok-mark_left-in-Out c =
+    let n = (goal.at.returns-in_ok-mark_left-in-Out c).After-named in
+    let r = c.read in
+    leaves (ap Ok c.onward-in-Out.ensures)
+    (is_out (its-row n) c.known-in-Out.ensures (says n c.in-Out.ensures)
+    (said_of place_of r.type_inv r.ensures c.place_of-p.ensures)) c.in_ok-mark_left-in-Out.ensures
 
 -- ---- SKIPOUT, SKIPEMPTY, SKIPFULL, SKIPNOT
 pub known-requires-in-SkipOut : goal.known-requires-in-SkipOut
@@ -246,39 +262,81 @@ send-requires c =
     let n = (goal.at.send-requires c).After-named in
     (rw c.known-in-Send.ensures (send_names (its-row n) (says n c.in-Send.ensures)), c.requires.1)
 
-pub returns-in-Set : goal.returns-in-Set
-returns-in-Set c =
-    let n = (goal.at.returns-in-Set c).After-named in
-    sets c.onward-in-Set.ensures c.known-in-Set.result c.read-in-Set.result
+pub returns-in_err-set-in-Set : goal.returns-in_err-set-in-Set
+returns-in_err-set-in-Set c =
+    let n = (goal.at.returns-in_err-set-in-Set c).After-named in
+    let q : c.from_residual-in_err-set-in-Set.result ≡ Err c.in_err-set-in-Set.field-0.0 = search rules in
+    sets q c.known-in-Set.result c.read-in-Set.result
     (is_set (its-row n) c.known-in-Set.ensures (says n c.in-Set.ensures) c.read-in-Set.ensures)
-    (rw (back32 c.read-in-Set.result c.read-in-Set.type_inv) at c.set.ensures)
+    (rw (back32 c.read-in-Set.result c.read-in-Set.type_inv) at c.in_err-set-in-Set.ensures)
 
-pub returns-in-Add : goal.returns-in-Add
-returns-in-Add c =
-    let n = (goal.at.returns-in-Add c).After-named in
-    adds c.onward-in-Add.ensures c.known-in-Add.result c.read-in-Add.result
+pub returns-in_ok-set-in-Set : goal.returns-in_ok-set-in-Set
+returns-in_ok-set-in-Set c =
+    let n = (goal.at.returns-in_ok-set-in-Set c).After-named in
+    sets (ap Ok c.onward-in-Set.ensures) c.known-in-Set.result c.read-in-Set.result
+    (is_set (its-row n) c.known-in-Set.ensures (says n c.in-Set.ensures) c.read-in-Set.ensures)
+    (rw (back32 c.read-in-Set.result c.read-in-Set.type_inv) at c.in_ok-set-in-Set.ensures)
+
+pub returns-in_err-add_to-in-Add : goal.returns-in_err-add_to-in-Add
+returns-in_err-add_to-in-Add c =
+    let n = (goal.at.returns-in_err-add_to-in-Add c).After-named in
+    let q : c.from_residual-in_err-add_to-in-Add.result ≡ Err c.in_err-add_to-in-Add.field-0.0 = search rules in
+    adds q c.known-in-Add.result c.read-in-Add.result
     (is_add (its-row n) c.known-in-Add.ensures (says n c.in-Add.ensures) c.read-in-Add.ensures)
-    (rw (back32 c.read-in-Add.result c.read-in-Add.type_inv) at c.add_to.ensures)
+    (rw (back32 c.read-in-Add.result c.read-in-Add.type_inv) at c.in_err-add_to-in-Add.ensures)
 
-pub returns-in-Send : goal.returns-in-Send
-returns-in-Send c =
-    let n = (goal.at.returns-in-Send c).After-named in
-    sends c.onward-in-Send.ensures c.known-in-Send.result c.read-in-Send.result
+pub returns-in_ok-add_to-in-Add : goal.returns-in_ok-add_to-in-Add
+returns-in_ok-add_to-in-Add c =
+    let n = (goal.at.returns-in_ok-add_to-in-Add c).After-named in
+    adds (ap Ok c.onward-in-Add.ensures) c.known-in-Add.result c.read-in-Add.result
+    (is_add (its-row n) c.known-in-Add.ensures (says n c.in-Add.ensures) c.read-in-Add.ensures)
+    (rw (back32 c.read-in-Add.result c.read-in-Add.type_inv) at c.in_ok-add_to-in-Add.ensures)
+
+pub returns-in_err-send-in-Send : goal.returns-in_err-send-in-Send
+returns-in_err-send-in-Send c =
+    let n = (goal.at.returns-in_err-send-in-Send c).After-named in
+    let q : c.from_residual-in_err-send-in-Send.result ≡ Err c.in_err-send-in-Send.field-0.0 = search rules in
+    sends q c.known-in-Send.result c.read-in-Send.result
     (is_send (its-row n) c.known-in-Send.ensures (says n c.in-Send.ensures) c.read-in-Send.ensures)
-    (rw (back32 c.read-in-Send.result c.read-in-Send.type_inv) at c.send.ensures)
+    (rw (back32 c.read-in-Send.result c.read-in-Send.type_inv) at c.in_err-send-in-Send.ensures)
 
-pub returns-in-Take : goal.returns-in-Take
-returns-in-Take c =
-    let n = (goal.at.returns-in-Take c).After-named in
-    takes c.onward-in-Take.ensures c.known-in-Take.result
-    (is_take (its-row n) c.known-in-Take.ensures (says n c.in-Take.ensures)) (rw (to_z-of_z c.ranges.arg) at c.set-in-Take.ensures)
+pub returns-in_ok-send-in-Send : goal.returns-in_ok-send-in-Send
+returns-in_ok-send-in-Send c =
+    let n = (goal.at.returns-in_ok-send-in-Send c).After-named in
+    sends (ap Ok c.onward-in-Send.ensures) c.known-in-Send.result c.read-in-Send.result
+    (is_send (its-row n) c.known-in-Send.ensures (says n c.in-Send.ensures) c.read-in-Send.ensures)
+    (rw (back32 c.read-in-Send.result c.read-in-Send.type_inv) at c.in_ok-send-in-Send.ensures)
 
-pub returns-in-Tell : goal.returns-in-Tell
-returns-in-Tell c =
-    let n = (goal.at.returns-in-Tell c).After-named in
+pub returns-in_err-set-in-Take : goal.returns-in_err-set-in-Take
+returns-in_err-set-in-Take c =
+    let n = (goal.at.returns-in_err-set-in-Take c).After-named in
+    let q : c.from_residual-in_err-set-in-Take.result ≡ Err c.in_err-set-in-Take.field-0.0 = search rules in
+    takes q c.known-in-Take.result
+    (is_take (its-row n) c.known-in-Take.ensures (says n c.in-Take.ensures)) (rw (to_z-of_z c.ranges.arg) at c.in_err-set-in-Take.ensures)
+
+pub returns-in_ok-set-in-Take : goal.returns-in_ok-set-in-Take
+returns-in_ok-set-in-Take c =
+    let n = (goal.at.returns-in_ok-set-in-Take c).After-named in
+    takes (ap Ok c.onward-in-Take.ensures) c.known-in-Take.result
+    (is_take (its-row n) c.known-in-Take.ensures (says n c.in-Take.ensures)) (rw (to_z-of_z c.ranges.arg) at c.in_ok-set-in-Take.ensures)
+
+pub returns-in_err-tell-in-Tell : goal.returns-in_err-tell-in-Tell
+returns-in_err-tell-in-Tell c =
+    let n = (goal.at.returns-in_err-tell-in-Tell c).After-named in
     let w = c.in-Tell.ensures in
     let e = n.named.ensures in
-    tells c.onward-in-Tell.ensures c.read-in-Tell.result
+    let q : c.from_residual-in_err-tell-in-Tell.result ≡ Err c.in_err-tell-in-Tell.field-0.0 = search rules in
+    tells q c.read-in-Tell.result
     (is_tell (its-row n) (λ z. w.0 (e ∙ z)) (λ z. w.1 (e ∙ z)) (λ z. w.2 (e ∙ z)) (λ z. w.3 (e ∙ z)) (λ z. w.4 (e ∙ z))
     (λ z. w.5 (e ∙ z)) (λ z. w.6 (e ∙ z)) (λ z. w.7 (e ∙ z)) (λ z. w.8 (e ∙ z)) (λ z. w.9 (e ∙ z)) c.read-in-Tell.ensures)
-    (rw (back32 c.read-in-Tell.result c.read-in-Tell.type_inv) at (c.tell.ensures c.args.widget.now))
+    (rw (back32 c.read-in-Tell.result c.read-in-Tell.type_inv) at (c.in_err-tell-in-Tell.ensures c.args.widget.now))
+
+pub returns-in_ok-tell-in-Tell : goal.returns-in_ok-tell-in-Tell
+returns-in_ok-tell-in-Tell c =
+    let n = (goal.at.returns-in_ok-tell-in-Tell c).After-named in
+    let w = c.in-Tell.ensures in
+    let e = n.named.ensures in
+    tells (ap Ok c.onward-in-Tell.ensures) c.read-in-Tell.result
+    (is_tell (its-row n) (λ z. w.0 (e ∙ z)) (λ z. w.1 (e ∙ z)) (λ z. w.2 (e ∙ z)) (λ z. w.3 (e ∙ z)) (λ z. w.4 (e ∙ z))
+    (λ z. w.5 (e ∙ z)) (λ z. w.6 (e ∙ z)) (λ z. w.7 (e ∙ z)) (λ z. w.8 (e ∙ z)) (λ z. w.9 (e ∙ z)) c.read-in-Tell.ensures)
+    (rw (back32 c.read-in-Tell.result c.read-in-Tell.type_inv) at (c.in_ok-tell-in-Tell.ensures c.args.widget.now))

@@ -3,4 +3,4 @@ use Rattle.widget.proofs.Effects.{notes}
 use Rattle.widget.proofs.mark_taken.Goals as goal
 
 pub returns : goal.returns
-returns c = λ u. notes _ c.emit.ensures
+returns c = λ u. notes _ c.write.ensures

@@ -4,4 +4,4 @@ use Rattle.widget.proofs.Effects.{notes}
 use Rattle.widget.proofs.tell.Goals as goal
 
 pub returns : goal.returns
-returns c = λ u. notes _ (rw (to_z-of_z c.ranges.x) at c.emit.ensures)
+returns c = λ u. notes _ (rw (to_z-of_z c.ranges.x) at c.write.ensures)
