@@ -45,7 +45,7 @@ fn owner_at(chart: &[i32], i: usize) -> Owner
 
 // From the last row up: the row's next one is its owner's first so far, and it becomes the first.
 #[tactic(auto, using(chart_rows::proofs::Rows::actions_most))]
-fn index_of(chart: &[i32]) -> [u16; INDEX]
+pub fn index_of(chart: &[i32]) -> [u16; INDEX]
     requires { Ruled chart.now }
     ensures { Indexed (chart_of chart.now) result }
 {
