@@ -7,23 +7,23 @@ use Prim.Native.Nat.{ℕ, zero, suc, ◌+◌, ◌*◌, ◌≤◌, ◌<◌}
 use native.Mathlib.Omega.{arith}
 use mathlib.Core.Bool.{Bool, true, false, cond, not, false≢true}
 use mathlib.Core.List.{List, [], ◌∷◌}
-use lib.ListN.{length, get_or, replicate, length-replicate, length-set}
-use lib.Dec.{eqb, leb}
+use lib.ListN.{length, get_or}
+use lib.Dec.{eqb}
 use lib.IntN.{ℤ, pos, negsuc}
-use Rattle.sizes.specs.Sizes.{INSTRUCTIONS, STATES, VARIABLES}
+use Rattle.sizes.specs.Sizes.{INSTRUCTIONS, VARIABLES}
 use Rattle.numbers.specs.Place.{place_of}
 use Rattle.meaning.specs.declared.chart.VarRow.{VarRow}
 use Rattle.meaning.specs.declared.chart.Act.TheVariants.{SetTo as set_to, AddTo as add_to, TakeTo as take_to, Send as send, Tell as tell}
 use Rattle.meaning.specs.declared.plan.Instr.{Instr}
 use Rattle.meaning.specs.declared.plan.Instr.TheVariants.{In as go_in, Out as go_out, SkipOut as skip_out, SkipEmpty as skip_empty}
 use Rattle.meaning.specs.declared.plan.Instr.TheVariants.{SkipFull as skip_full, SkipNot as skip_not, Does as does}
-use Rattle.meaning.specs.Steps.{Res, ok, refuse, Step, bind, ◌then◌, require}
+use Rattle.meaning.specs.Steps.{ok, Step}
 use Rattle.meaning.specs.Chart.{no_var}
 use Rattle.meaning.specs.Tree.{var_row}
-use Rattle.meaning.specs.Effects.{mark_left, mark_entered, assign, act_on, act_var, perform, store_in}
-use Rattle.meaning.specs.Widget.{Ctx, ENTRY, is_active, slot, is_empty, is_filled}
-use Rattle.meaning.specs.Widget.{set_active, set_slot, change, add_numbers, emit, numbers}
-use Rattle.meaning.specs.declared.Entry.TheVariants.{Left as left, Told as told}
+use Rattle.meaning.specs.Effects.{mark_left, mark_entered, assign, act_on, act_var, perform}
+use Rattle.meaning.specs.Widget.{Ctx, is_active, slot, is_empty, is_filled}
+use Rattle.meaning.specs.Widget.{emit}
+use Rattle.meaning.specs.declared.Entry.TheVariants.{Told as told}
 use Rattle.meaning.specs.Machine.{passing, go_on, on_if, holds_it, exec_now}
 use Rattle.meaning.specs.Value.{VAR_ROW, var_by}
 use Rattle.meaning.specs.WellFormed.{SIX, counts_of, plan_by}
